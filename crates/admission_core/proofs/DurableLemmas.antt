@@ -1,0 +1,175 @@
+-- What a stop leaves, and the account that begins from it.
+use Rattle.std.proofs.Common.{◌≡◌, ◌≢◌, ℕ, ◌≤◌, ◌⊎◌, inl, inr, true, false, cond, List, [], ◌∷◌, map, Option, Some, None, refl, sym, ap, subst, ◌∙◌, arith}
+use Rattle.std.proofs.lemmas.Bool.{cases_eq, cases_Bool, cond-true, cond-false}
+use Rattle.merge_core.specs.declared.cell.Cell.{Cell}
+use Rattle.merge_core.specs.declared.cell.Cell.TheVariants.{Out, Taken, Ann, Fin}
+use Rattle.merge_core.specs.Layout.{shape_of}
+use Rattle.merge_core.specs.Rows.{grant}
+use Rattle.admission_core.specs.declared.ask.Phase.{Phase}
+use Rattle.admission_core.specs.Account.{Account, Key, begin, sites_of, seats_in, is_key, key_of, stored_phase, with_phase, present, occurs, arrivals, phase_of, sessions_of, session_total, own, weight, writers}
+use Rattle.admission_core.specs.Knowledge.{is_kept, told, known, durable_part, resumed, restarted}
+use Rattle.admission_core.specs.Sound.{IsBalanced, IsSound}
+use Rattle.admission_core.specs.Laws.{IsResumed, KeepsDurable}
+use Rattle.admission_core.proofs.SumLemmas.{total_others_same}
+use Rattle.admission_core.proofs.KeyLemmas.{is_key-true}
+use Rattle.admission_core.proofs.CounterLemmas.{known_own, known_other, gained_own, spent_own}
+use Rattle.admission_core.proofs.RowLemmas.{FitsRow-along}
+use Rattle.admission_core.proofs.HeardLemmas.{known_fits, kept_yes, kept_no, kept_row, kept_column, FitsRow-kept}
+
+-- the phase of a holder depends on its numbers alone
+same_phase : (phase : ℕ → ℕ → Option Phase) (r h : ℕ) (k : Key) → is_key r h k.r k.h ≡ true → phase r h ≡ phase k.r k.h
+same_phase phase r h k e =
+    let same = is_key-true r h k.r k.h e in
+    ap (λ x. phase x h) same.0 ∙ ap (λ x. phase k.r x) same.1
+
+stored_none : (phase : ℕ → ℕ → Option Phase) (r h : ℕ) (ks : List Key) → phase r h ≡ None → stored_phase (present phase ks) r h ≡ None
+stored_none phase r h [] none = refl
+stored_none phase r h (k ∷ ks) none = at (phase k.r k.h) refl (stored_none phase r h ks none)
+  where
+    at : (o : Option Phase) → phase k.r k.h ≡ o → stored_phase (present phase ks) r h ≡ None → stored_phase (with_phase k o (present phase ks)) r h ≡ None
+    at None e earlier = earlier
+    at (Some p) e earlier = here (cases_Bool (is_key r h k.r k.h))
+      where
+        here : (is_key r h k.r k.h ≡ true) ⊎ (is_key r h k.r k.h ≡ false) → cond (is_key r h k.r k.h) (Some p) (stored_phase (present phase ks) r h) ≡ None
+        here (inl t) =
+            let clash : ◌≡◌ {A = Option Phase} None (Some p) = sym none ∙ (same_phase phase r h k t ∙ e) in cc
+        here (inr f) = cond-false (is_key r h k.r k.h) (Some p) (stored_phase (present phase ks) r h) f ∙ earlier
+
+stored_some : (phase : ℕ → ℕ → Option Phase) (r h : ℕ) (p : Phase) (ks : List Key) → phase r h ≡ Some p → 1 ≤ occurs r h ks → stored_phase (present phase ks) r h ≡ Some p
+stored_some phase r h p [] some listed = absurd (omega arith)
+stored_some phase r h p (k ∷ ks) some listed = at (phase k.r k.h) refl (cases_Bool (is_key r h k.r k.h)) (stored_some phase r h p ks some)
+  where
+    at : (o : Option Phase) → phase k.r k.h ≡ o → (is_key r h k.r k.h ≡ true) ⊎ (is_key r h k.r k.h ≡ false) → (1 ≤ occurs r h ks → stored_phase (present phase ks) r h ≡ Some p) → stored_phase (with_phase k o (present phase ks)) r h ≡ Some p
+    at None e (inl t) earlier =
+        let clash : ◌≡◌ {A = Option Phase} None (Some p) = sym e ∙ (sym (same_phase phase r h k t) ∙ some) in cc
+    at None e (inr f) earlier = earlier (omega (arith, cond-false {A = ℕ} (is_key r h k.r k.h) 1 0 f))
+    at (Some q) e (inl t) earlier =
+        cond-true (is_key r h k.r k.h) (Some q) (stored_phase (present phase ks) r h) t ∙ (sym e ∙ (sym (same_phase phase r h k t) ∙ some))
+    at (Some q) e (inr f) earlier =
+        cond-false (is_key r h k.r k.h) (Some q) (stored_phase (present phase ks) r h) f ∙ earlier (omega (arith, cond-false {A = ℕ} (is_key r h k.r k.h) 1 0 f))
+
+listed_again : (phase : ℕ → ℕ → Option Phase) (r h : ℕ) (p : Phase) (ks : List Key) → phase r h ≡ Some p → occurs r h (map key_of (present phase ks)) ≡ occurs r h ks
+listed_again phase r h p [] some = refl
+listed_again phase r h p (k ∷ ks) some = at (phase k.r k.h) refl (cases_Bool (is_key r h k.r k.h)) (listed_again phase r h p ks some)
+  where
+    at : (o : Option Phase) → phase k.r k.h ≡ o → (is_key r h k.r k.h ≡ true) ⊎ (is_key r h k.r k.h ≡ false) → occurs r h (map key_of (present phase ks)) ≡ occurs r h ks → occurs r h (map key_of (with_phase k o (present phase ks))) ≡ occurs r h (k ∷ ks)
+    at None e (inl t) earlier =
+        let clash : ◌≡◌ {A = Option Phase} None (Some p) = sym e ∙ (sym (same_phase phase r h k t) ∙ some) in cc
+    at None e (inr f) earlier = omega (arith, cond-false {A = ℕ} (is_key r h k.r k.h) 1 0 f)
+    at (Some q) e other earlier = omega arith
+
+present_again : (phase : ℕ → ℕ → Option Phase) (ks : List Key) → present phase (map key_of (present phase ks)) ≡ present phase ks
+present_again phase [] = refl
+present_again phase (k ∷ ks) = at (phase k.r k.h) refl (present_again phase ks)
+  where
+    at : (o : Option Phase) → phase k.r k.h ≡ o → present phase (map key_of (present phase ks)) ≡ present phase ks → present phase (map key_of (with_phase k o (present phase ks))) ≡ with_phase k o (present phase ks)
+    at None e earlier = earlier
+    at (Some q) e earlier =
+        ap (λ x. with_phase k x (present phase (map key_of (present phase ks)))) e
+        ∙ ap (λ rest. record { r = k.r; h = k.h; phase = q } ∷ rest) earlier
+
+resumed_phase : (a : Account) → IsSound a → (r h : ℕ) → phase_of (begin (resumed a)) r h ≡ phase_of a r h
+resumed_phase a sound r h = at (phase_of a r h) refl
+  where
+    at : (o : Option Phase) → phase_of a r h ≡ o → stored_phase (sessions_of a) r h ≡ phase_of a r h
+    at None e = stored_none (phase_of a) r h (arrivals a.origin a.done) e ∙ sym e
+    at (Some p) e = stored_some (phase_of a) r h p (arrivals a.origin a.done) e (omega (arith, sound.listed_once r h p e)) ∙ sym e
+
+resumed_sessions : (a : Account) → IsSound a → sessions_of (begin (resumed a)) ≡ sessions_of a
+resumed_sessions a sound =
+    let same : phase_of (begin (resumed a)) ≡ phase_of a = λ i r h. resumed_phase a sound r h i in
+    ap (λ phase. present phase (map key_of (sessions_of a))) same ∙ present_again (phase_of a) (arrivals a.origin a.done)
+
+resumed_own : (a : Account) (r : ℕ) (cell : Cell) → own (begin (resumed a)) r cell ≡ own a r cell
+resumed_own a r cell = kept_yes a.origin (known a) r a.origin.site cell (kept_row a.origin.site cell) ∙ known_own a r cell
+
+-- what is stored of another site's row is what the restarted site was told
+resumed_told : (a : Account) (r s : ℕ) (cell : Cell) → s ≢ a.origin.site → told (begin (resumed a)) r s cell ≡ told (restarted a) r s cell
+resumed_told a r s cell apart = at (cases_Bool (is_kept a.origin.site s cell))
+  where
+    at : (is_kept a.origin.site s cell ≡ true) ⊎ (is_kept a.origin.site s cell ≡ false) → told (begin (resumed a)) r s cell ≡ told (restarted a) r s cell
+    at (inl e) =
+        kept_yes (resumed a) (durable_part a).counters r s cell e
+        ∙ (kept_yes a.origin (known a) r s cell e
+        ∙ (known_other a r s cell apart ∙ sym (kept_yes a.origin (told a) r s cell e)))
+    at (inr e) = kept_no (resumed a) (durable_part a).counters r s cell e ∙ sym (kept_no a.origin (told a) r s cell e)
+
+resumed_known : (a : Account) (r s : ℕ) (cell : Cell) → known (begin (resumed a)) r s cell ≡ known (restarted a) r s cell
+resumed_known a r s cell = at (cases_eq s a.origin.site)
+  where
+    at : (s ≡ a.origin.site) ⊎ (s ≡ a.origin.site → ⊥) → known (begin (resumed a)) r s cell ≡ known (restarted a) r s cell
+    at (inl e) =
+        subst (λ (x : ℕ). known (begin (resumed a)) r x cell ≡ known (restarted a) r x cell) (sym e)
+        (known_own (begin (resumed a)) r cell ∙ (resumed_own a r cell ∙ sym (known_own (restarted a) r cell)))
+    at (inr ne) = known_other (begin (resumed a)) r s cell ne ∙ (resumed_told a r s cell ne ∙ sym (known_other (restarted a) r s cell ne))
+
+pub is_resumed : (a : Account) → IsSound a → IsResumed a
+is_resumed a sound = record {
+  phases = resumed_phase a sound;
+  sessions = resumed_sessions a sound;
+  owns = resumed_own a;
+  counters = resumed_known a;
+}
+
+pub keeps_durable : (a : Account) → KeepsDurable a
+keeps_durable a = record { counters = λ r s cell. at r s cell (cases_Bool (is_kept a.origin.site s cell)); sessions = refl }
+  where
+    same : (r s : ℕ) (cell : Cell) → is_kept a.origin.site s cell ≡ true → (s ≡ a.origin.site) ⊎ (s ≡ a.origin.site → ⊥) → known (restarted a) r s cell ≡ known a r s cell
+    same r s cell e (inl here) =
+        subst (λ (x : ℕ). known (restarted a) r x cell ≡ known a r x cell) (sym here) (known_own (restarted a) r cell ∙ sym (known_own a r cell))
+    same r s cell e (inr apart) =
+        known_other (restarted a) r s cell apart ∙ (kept_yes a.origin (told a) r s cell e ∙ sym (known_other a r s cell apart))
+
+    at : (r s : ℕ) (cell : Cell) → (is_kept a.origin.site s cell ≡ true) ⊎ (is_kept a.origin.site s cell ≡ false) → (durable_part (restarted a)).counters r s cell ≡ (durable_part a).counters r s cell
+    at r s cell (inl e) =
+        kept_yes a.origin (known (restarted a)) r s cell e ∙ (same r s cell e (cases_eq s a.origin.site) ∙ sym (kept_yes a.origin (known a) r s cell e))
+    at r s cell (inr e) = kept_no a.origin (known (restarted a)) r s cell e ∙ sym (kept_no a.origin (known a) r s cell e)
+
+resumed_balanced : (a : Account) → IsSound a → (r : ℕ) → IsBalanced (begin (resumed a)) r
+resumed_balanced a sound r =
+    let b = begin (resumed a) in
+    let n = sites_of a.origin in
+    let i = a.origin.site in
+    record {
+      affordable = omega (
+        arith,
+        (sound.balanced r).affordable,
+        spent_own b r,
+        spent_own a r,
+        gained_own b r sound.site_there,
+        gained_own a r sound.site_there,
+        resumed_own a r Taken,
+        resumed_own a r (Out i),
+        total_others_same n i (λ j. own b r (Out j)) (λ j. own a r (Out j)) (λ j below apart. resumed_own a r (Out j)),
+        total_others_same n i (λ j. told b r j (Out i)) (λ j. told a r j (Out i))
+            (λ j below apart. resumed_told a r j (Out i) apart ∙ kept_yes a.origin (told a) r j (Out i) (kept_column i j)),
+      );
+      seats = omega (
+        arith,
+        (sound.balanced r).seats,
+        resumed_own a r Taken,
+        resumed_own a r (Out i),
+        ap (session_total (weight (seats_in a.origin.layout r)) r) (resumed_sessions a sound),
+      );
+      writers = omega (
+        arith,
+        (sound.balanced r).writers,
+        resumed_own a r Ann,
+        resumed_own a r Fin,
+        ap (session_total writers r) (resumed_sessions a sound),
+      );
+      fits = FitsRow-along (grant (shape_of a.origin.layout) r i) i (own a r) (own b r) (resumed_own a r) (sound.balanced r).fits;
+    }
+
+-- a site may begin again from what a stop leaves of it
+pub sound_resumed : (a : Account) → IsSound a → IsSound (begin (resumed a))
+sound_resumed a sound = record {
+  site_there = sound.site_there;
+  listed_once = λ r h p there.
+      let before = sym (resumed_phase a sound r h) ∙ there in
+      listed_again (phase_of a) r h p (arrivals a.origin a.done) before ∙ sound.listed_once r h p before;
+  record_there = λ r h p there. sound.record_there r h p (sym (resumed_phase a sound r h) ∙ there);
+  balanced = resumed_balanced a sound;
+  told_fits = λ r s. FitsRow-kept (resumed a) (durable_part a).counters r s (FitsRow-kept a.origin (known a) r s (known_fits a sound r s));
+  told_after_done = λ r cell. omega (arith, kept_yes (resumed a) (durable_part a).counters r a.origin.site cell (kept_row a.origin.site cell));
+}

@@ -1,0 +1,108 @@
+-- A snapshot shows what the site knows.
+use Rattle.std.proofs.Common.{◌≡◌, ℕ, zero, suc, ◌+◌, ◌<◌, ◌≤◌, ◌⊎◌, inl, inr, Bool, true, false, not, ◌&&◌, cond, eqb, List, [], ◌∷◌, ◌++◌, length, refl, sym, ap, subst, ◌∙◌, arith}
+use Rattle.std.specs.List.{AllByRecursion}
+use Rattle.std.proofs.lemmas.Bool.{cases_eq, cases_Bool, eq-eqb, eqb-true, ltb-false, and_parts, and_from, not-false, cond-true, cond-false}
+use Rattle.merge_core.specs.declared.cell.Cell.{Cell}
+use Rattle.merge_core.specs.declared.cell.Cell.TheVariants.{Out, Taken, Ann, Fin}
+use Rattle.merge_core.specs.declared.delta.Row.{Row}
+use Rattle.merge_core.specs.Layout.{Shape, shape_of}
+use Rattle.merge_core.specs.Rows.{start_counter, counter_in, counters_of}
+use Rattle.merge_core.specs.Naming.{shown_by}
+use Rattle.admission_core.specs.Sums.{number_of_cells}
+use Rattle.admission_core.specs.View.{View}
+use Rattle.admission_core.specs.Merging.{row_of, row_if, has_moved, moved_rows, all_moved_rows, snapshot_of}
+use Rattle.admission_core.specs.Laws.{IsCellOf}
+use Rattle.admission_core.proofs.RowLemmas.{number_of_cells-zero}
+use Rattle.admission_core.proofs.MessageLemmas.{row_of-at, all_told}
+
+-- how many rows stand for a record and a site
+matches : ℕ → ℕ → List Row → ℕ
+matches r s [] = 0
+matches r s (p ∷ ps) = cond (eqb p.r r && eqb p.s s) 1 0 + matches r s ps
+
+-- each row of a record and a site has this counter
+abbrev Agrees : ℕ → ℕ → Cell → ℕ → Row → Type 0
+Agrees r s cell n p = (eqb p.r r && eqb p.s s) ≡ true → counter_in (counters_of p) cell ≡ n
+
+shown_agreed : (shape : Shape) (rows : List Row) (r s : ℕ) (cell : Cell) (n : ℕ) → AllByRecursion (Agrees r s cell n) rows → (start_counter shape r s cell ≡ n) ⊎ (1 ≤ matches r s rows) → shown_by shape rows r s cell ≡ n
+unfolding matches
+shown_agreed shape [] r s cell n all (inl start) = start
+shown_agreed shape [] r s cell n all (inr some) = absurd (omega arith)
+shown_agreed shape (p ∷ ps) r s cell n all found = at (cases_Bool (eqb p.r r && eqb p.s s)) found (λ f. shown_agreed shape ps r s cell n all.1 f)
+  where
+    at : ((eqb p.r r && eqb p.s s) ≡ true) ⊎ ((eqb p.r r && eqb p.s s) ≡ false) → (start_counter shape r s cell ≡ n) ⊎ (1 ≤ cond (eqb p.r r && eqb p.s s) 1 0 + matches r s ps) → ((start_counter shape r s cell ≡ n) ⊎ (1 ≤ matches r s ps) → shown_by shape ps r s cell ≡ n) → shown_by shape (p ∷ ps) r s cell ≡ n
+    at (inl e) f later = cond-true (eqb p.r r && eqb p.s s) (counter_in (counters_of p) cell) (shown_by shape ps r s cell) e ∙ all.0 e
+    at (inr e) (inl start) later = cond-false (eqb p.r r && eqb p.s s) (counter_in (counters_of p) cell) (shown_by shape ps r s cell) e ∙ later (inl start)
+    at (inr e) (inr some) later =
+        cond-false (eqb p.r r && eqb p.s s) (counter_in (counters_of p) cell) (shown_by shape ps r s cell) e
+        ∙ later (inr (omega (arith, cond-false {A = ℕ} (eqb p.r r && eqb p.s s) 1 0 e)))
+
+matches-append : (r s : ℕ) (xs ys : List Row) → matches r s (xs ++ ys) ≡ matches r s xs + matches r s ys
+unfolding matches
+matches-append r s [] ys = omega arith
+matches-append r s (x ∷ xs) ys = omega (arith, matches-append r s xs ys)
+
+one_match : (v : View) (r s : ℕ) (b : Bool) → b ≡ true → 1 ≤ matches r s (row_if b (row_of v r s))
+unfolding matches
+one_match v r s true e = omega (arith, cond-true {A = ℕ} (eqb r r && eqb s s) 1 0 (and_from (eqb r r) (eqb s s) (eq-eqb r r refl) (eq-eqb s s refl)))
+one_match v r s false e = cc
+
+matches_moved : (v : View) (r s m : ℕ) → s < m → has_moved v r s ≡ true → 1 ≤ matches r s (moved_rows v r m)
+matches_moved v r s zero below moved = absurd (omega arith)
+matches_moved v r s (suc m) below moved = at (cases_eq s m) (λ lower. matches_moved v r s m lower moved)
+  where
+    at : (s ≡ m) ⊎ (s ≡ m → ⊥) → (s < m → 1 ≤ matches r s (moved_rows v r m)) → 1 ≤ matches r s (moved_rows v r (suc m))
+    at (inl e) earlier =
+        let here = subst (λ (x : ℕ). 1 ≤ matches r s (row_if (has_moved v r x) (row_of v r x))) e (one_match v r s (has_moved v r s) moved) in
+        omega (arith, here, matches-append r s (moved_rows v r m) (row_if (has_moved v r m) (row_of v r m)))
+    at (inr ne) earlier =
+        omega (arith, earlier (omega arith), matches-append r s (moved_rows v r m) (row_if (has_moved v r m) (row_of v r m)))
+
+matches_all : (v : View) (r s n : ℕ) → r < n → s < v.sites → has_moved v r s ≡ true → 1 ≤ matches r s (all_moved_rows v n)
+matches_all v r s zero below there moved = absurd (omega arith)
+matches_all v r s (suc n) below there moved = at (cases_eq r n) (λ lower. matches_all v r s n lower there moved)
+  where
+    at : (r ≡ n) ⊎ (r ≡ n → ⊥) → (r < n → 1 ≤ matches r s (all_moved_rows v n)) → 1 ≤ matches r s (all_moved_rows v (suc n))
+    at (inl e) earlier =
+        let here = subst (λ (x : ℕ). 1 ≤ matches r s (moved_rows v x v.sites)) e (matches_moved v r s v.sites there moved) in
+        omega (arith, here, matches-append r s (all_moved_rows v n) (moved_rows v n v.sites))
+    at (inr ne) earlier =
+        omega (arith, earlier (omega arith), matches-append r s (all_moved_rows v n) (moved_rows v n v.sites))
+
+told_cell : (v : View) (r s : ℕ) (cell : Cell) → IsCellOf v.sites cell → counter_in (counters_of (row_of v r s)) cell ≡ v.counter r s cell
+told_cell v r s (Out j) below = row_of-at v r s j below
+told_cell v r s Taken below = refl
+told_cell v r s Ann below = refl
+told_cell v r s Fin below = refl
+
+at_start : (n m : ℕ) → not (eqb n m) ≡ false → n ≡ m
+at_start n m e = eqb-true n m (not-false (eqb n m) e)
+
+unmoved : (v : View) (r s : ℕ) (cell : Cell) → IsCellOf v.sites cell → has_moved v r s ≡ false → v.counter r s cell ≡ start_counter (shape_of v.layout) r s cell
+unmoved v r s cell below still = at cell below
+  where
+    none : number_of_cells v.sites (λ c. not (eqb (v.counter r s c) (start_counter (shape_of v.layout) r s c))) ≡ 0
+    none = omega (arith, ltb-false 0 (number_of_cells v.sites (λ c. not (eqb (v.counter r s c) (start_counter (shape_of v.layout) r s c)))) still)
+
+    at : (c : Cell) → IsCellOf v.sites c → v.counter r s c ≡ start_counter (shape_of v.layout) r s c
+    at (Out j) lower = at_start (v.counter r s (Out j)) (start_counter (shape_of v.layout) r s (Out j)) ((number_of_cells-zero v.sites (λ c. not (eqb (v.counter r s c) (start_counter (shape_of v.layout) r s c))) none).0 j lower)
+    at Taken lower = at_start (v.counter r s Taken) 0 (number_of_cells-zero v.sites (λ c. not (eqb (v.counter r s c) (start_counter (shape_of v.layout) r s c))) none).1.0
+    at Ann lower = at_start (v.counter r s Ann) 0 (number_of_cells-zero v.sites (λ c. not (eqb (v.counter r s c) (start_counter (shape_of v.layout) r s c))) none).1.1.0
+    at Fin lower = at_start (v.counter r s Fin) 0 (number_of_cells-zero v.sites (λ c. not (eqb (v.counter r s c) (start_counter (shape_of v.layout) r s c))) none).1.1.1
+
+pub snapshot_shows : (v : View) (r s : ℕ) (cell : Cell) → r < length v.layout.records → s < v.sites → IsCellOf v.sites cell → shown_by (shape_of v.layout) (snapshot_of v).rows r s cell ≡ v.counter r s cell
+snapshot_shows v r s cell below there in_row =
+    shown_agreed (shape_of v.layout) (all_moved_rows v (length v.layout.records)) r s cell (v.counter r s cell)
+    (all_told (Agrees r s cell (v.counter r s cell)) v (length v.layout.records) agree)
+    (at (cases_Bool (has_moved v r s)))
+  where
+    agree : (r2 s2 : ℕ) → r2 < length v.layout.records → s2 < v.sites → Agrees r s cell (v.counter r s cell) (row_of v r2 s2)
+    agree r2 s2 low_r low_s e =
+        let same = and_parts (eqb r2 r) (eqb s2 s) e in
+        let same_r : r2 ≡ r = eqb-true r2 r same.0 in
+        let same_s : s2 ≡ s = eqb-true s2 s same.1 in
+        told_cell v r2 s2 cell in_row ∙ (ap (λ x. v.counter x s2 cell) same_r ∙ ap (λ x. v.counter r x cell) same_s)
+
+    at : (has_moved v r s ≡ true) ⊎ (has_moved v r s ≡ false) → (start_counter (shape_of v.layout) r s cell ≡ v.counter r s cell) ⊎ (1 ≤ matches r s (all_moved_rows v (length v.layout.records)))
+    at (inl e) = inr (matches_all v r s (length v.layout.records) below there e)
+    at (inr e) = inl (sym (unmoved v r s cell in_row e))

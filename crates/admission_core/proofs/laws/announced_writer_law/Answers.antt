@@ -1,0 +1,9 @@
+use Rattle.admission_core.proofs.ReaderLemmas.{reader_held}
+use Rattle.admission_core.proofs.ReaderLemmas.{reader_not_held}
+use Rattle.admission_core.proofs.laws.announced_writer_law.Goals as goal
+
+pub returns-clause-held : goal.returns-clause-held
+returns-clause-held c = reader_held
+
+pub returns-clause-not_held : goal.returns-clause-not_held
+returns-clause-not_held c = reader_not_held

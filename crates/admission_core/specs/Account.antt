@@ -1,0 +1,193 @@
+-- The account of a site: where it began, what it did, and what it was told. Phases, the order of arrival
+-- and the site's own counters are read off the account; nothing is stored twice.
+use Rattle.std.specs.Prelude.{ℕ, ◌+◌, ◌==◌, Bool, ◌&&◌, List, [], ◌∷◌, ◌++◌, map, if◌then◌else◌, Option, Some, None, slice_index_or}
+use Rattle.merge_core.specs.declared.cell.Cell.{Cell}
+use Rattle.merge_core.specs.declared.cell.Cell.TheVariants.{Out, Taken, Ann, Fin}
+use Rattle.merge_core.specs.declared.delta.Row.{Row}
+use Rattle.merge_core.specs.Layout.{LayoutState, shape_of}
+use Rattle.merge_core.specs.Rows.{start_counter, no_record}
+use Rattle.admission_core.specs.declared.ask.Phase.{Phase}
+use Rattle.admission_core.specs.declared.ask.Phase.TheVariants.{Reader, Waiting, Writer}
+
+-- a holder at a record, and what it does there
+pub record Session : Type 0 where
+  pub r : ℕ
+  pub h : ℕ
+  pub phase : Phase
+
+-- what a stop leaves of a site: counters by record, site and cell, and the sessions in order of arrival
+pub record DurablePart : Type 0 where
+  pub counters : ℕ → ℕ → Cell → ℕ
+  pub sessions : List Session
+
+-- an operation that a site carried out
+pub data Operation : Type 0 where
+  EnteredRead : (r h : ℕ) → Operation
+  AnnouncedWriter : (r h : ℕ) → Operation
+  EnteredWrite : (r h : ℕ) → Operation
+  LeftRecord : (r h : ℕ) → Operation
+  GaveSeats : (r to seats : ℕ) → Operation
+
+-- what changed the site's picture of the others: a delta's rows, or a restart
+pub data Heard : Type 0 where
+  Merged : (rows : List Row) → Heard
+  Restarted : Heard
+
+-- where an account begins: the layout that the site knows, its number, and its durable part
+pub record Origin : Type 0 where
+  pub layout : LayoutState
+  pub site : ℕ
+  pub base : DurablePart
+
+-- an account; both lists stand newest first
+pub record Account : Type 0 where
+  pub origin : Origin
+  pub done : List Operation
+  pub heard : List Heard
+
+-- how many sites the account knows; everything below asks for it here
+abbrev pub sites_of : Origin → ℕ
+sites_of o = o.layout.sites
+
+-- the seats of a record; one that is not there has none
+abbrev pub seats_in : LayoutState → ℕ → ℕ
+seats_in layout r = (slice_index_or (shape_of layout).records r no_record).seats
+
+-- the start: the grants, and nobody inside
+abbrev pub start_origin : LayoutState → ℕ → Origin
+start_origin layout i =
+    record { layout = layout; site = i; base = record { counters = start_counter (shape_of layout); sessions = [] } }
+
+-- the account that begins there
+abbrev pub begin : Origin → Account
+begin o = record { origin = o; done = []; heard = [] }
+
+-- Seats taken at a record (the weights of readers and writers are the project's own: the value that the
+-- bounded counter of Balegas et al., 2015, keeps from falling below 0 is the number of free seats)
+abbrev pub weight : ℕ → Phase → ℕ
+weight seats Reader = 1
+weight seats Waiting = 0
+weight seats Writer = seats
+
+-- writers that have announced themselves and not finished (Courtois, Heymans and Parnas, 1971)
+abbrev pub writers : Phase → ℕ
+writers Reader = 0
+writers Waiting = 1
+writers Writer = 1
+
+-- what a phase counts for; no session counts for nothing
+abbrev pub on_phase : (Phase → ℕ) → Option Phase → ℕ
+on_phase value None = 0
+on_phase value (Some p) = value p
+
+-- the same record and holder
+abbrev pub is_key : ℕ → ℕ → ℕ → ℕ → Bool
+is_key r h r2 h2 = (r == r2) && (h == h2)
+
+-- the phase of a holder at a record, as stored
+abbrev pub stored_phase : List Session → ℕ → ℕ → Option Phase
+stored_phase [] r h = None
+stored_phase (s ∷ ss) r h = if is_key r h s.r s.h then Some s.phase else stored_phase ss r h
+
+-- the phase of a holder at a record: the last operation that names both decides it
+abbrev pub phase_after : Origin → List Operation → ℕ → ℕ → Option Phase
+phase_after o [] r h = stored_phase o.base.sessions r h
+phase_after o (EnteredRead r2 h2 ∷ done) r h = if is_key r2 h2 r h then Some Reader else phase_after o done r h
+phase_after o (AnnouncedWriter r2 h2 ∷ done) r h = if is_key r2 h2 r h then Some Waiting else phase_after o done r h
+phase_after o (EnteredWrite r2 h2 ∷ done) r h = if is_key r2 h2 r h then Some Writer else phase_after o done r h
+phase_after o (LeftRecord r2 h2 ∷ done) r h = if is_key r2 h2 r h then None else phase_after o done r h
+phase_after o (GaveSeats r2 to seats ∷ done) r h = phase_after o done r h
+
+-- a holder at a record
+pub record Key : Type 0 where
+  pub r : ℕ
+  pub h : ℕ
+
+-- who a session is of
+abbrev pub key_of : Session → Key
+key_of s = record { r = s.r; h = s.h }
+
+-- a list without one holder at one record
+abbrev pub without : ℕ → ℕ → List Key → List Key
+without r h [] = []
+without r h (k ∷ ks) = if is_key r h k.r k.h then without r h ks else (k ∷ without r h ks)
+
+-- how often a holder stands at a record in a list
+abbrev pub occurs : ℕ → ℕ → List Key → ℕ
+occurs r h [] = 0
+occurs r h (k ∷ ks) = (if is_key r h k.r k.h then 1 else 0) + occurs r h ks
+
+-- everyone who ever arrived, by their last arrival
+abbrev pub arrivals : Origin → List Operation → List Key
+arrivals o [] = map key_of o.base.sessions
+arrivals o (EnteredRead r h ∷ done) = without r h (arrivals o done) ++ record { r = r; h = h } ∷ []
+arrivals o (AnnouncedWriter r h ∷ done) = without r h (arrivals o done) ++ record { r = r; h = h } ∷ []
+arrivals o (EnteredWrite r h ∷ done) = arrivals o done
+arrivals o (LeftRecord r h ∷ done) = arrivals o done
+arrivals o (GaveSeats r to seats ∷ done) = arrivals o done
+
+-- a holder with a phase has a session
+abbrev pub with_phase : Key → Option Phase → List Session → List Session
+with_phase k None rest = rest
+with_phase k (Some p) rest = record { r = k.r; h = k.h; phase = p } ∷ rest
+
+-- the sessions of those in a list who have a phase
+abbrev pub present : (ℕ → ℕ → Option Phase) → List Key → List Session
+present phase [] = []
+present phase (k ∷ ks) = with_phase k (phase k.r k.h) (present phase ks)
+
+-- the sessions of a site, in order of arrival
+abbrev pub sessions_after : Origin → List Operation → List Session
+sessions_after o done = present (phase_after o done) (arrivals o done)
+
+-- a sum over the sessions at a record
+abbrev pub session_total : (Phase → ℕ) → ℕ → List Session → ℕ
+session_total value r [] = 0
+session_total value r (s ∷ ss) = (if s.r == r then value s.phase else 0) + session_total value r ss
+
+-- the record of an operation
+abbrev pub record_of : Operation → ℕ
+record_of (EnteredRead r h) = r
+record_of (AnnouncedWriter r h) = r
+record_of (EnteredWrite r h) = r
+record_of (LeftRecord r h) = r
+record_of (GaveSeats r to seats) = r
+
+-- By how much an operation raises a counter of the site's own row at its record, given the phases before
+-- it: entering takes seats, leaving gives them back on the diagonal, a hand-over counts for its receiver (the
+-- bounded counter's decrement, increment and transfer, Balegas et al., 2015); a writer is counted when it
+-- announces itself and when it leaves.
+abbrev pub rise_of : Origin → (ℕ → ℕ → Option Phase) → Operation → Cell → ℕ
+rise_of o phase (EnteredRead r h) Taken = weight (seats_in o.layout r) Reader
+rise_of o phase (EnteredWrite r h) Taken = weight (seats_in o.layout r) Writer
+rise_of o phase (LeftRecord r h) (Out j) = if j == o.site then on_phase (weight (seats_in o.layout r)) (phase r h) else 0
+rise_of o phase (LeftRecord r h) Fin = on_phase writers (phase r h)
+rise_of o phase (AnnouncedWriter r h) Ann = 1
+rise_of o phase (GaveSeats r to seats) (Out j) = if j == to then seats else 0
+rise_of o phase operation cell = 0
+
+-- the counters of the site's own row: those that it began with, and what its operations added
+abbrev pub own_after : Origin → List Operation → ℕ → Cell → ℕ
+own_after o [] r cell = o.base.counters r o.site cell
+own_after o (operation ∷ done) r cell =
+    own_after o done r cell + (if record_of operation == r then rise_of o (phase_after o done) operation cell else 0)
+
+-- the phase of a holder at a record, of an account
+abbrev pub phase_of : Account → ℕ → ℕ → Option Phase
+phase_of a r h = phase_after a.origin a.done r h
+
+-- its sessions, in order of arrival
+abbrev pub sessions_of : Account → List Session
+sessions_of a = sessions_after a.origin a.done
+
+-- its own counters
+abbrev pub own : Account → ℕ → Cell → ℕ
+own a r cell = own_after a.origin a.done r cell
+
+-- the seats that readers and writers of a record take at the site
+abbrev pub inside : Account → ℕ → ℕ
+inside a r = session_total (weight (seats_in a.origin.layout r)) r (sessions_of a)
+
+-- the writers of a record that wait or write at the site
+abbrev pub writers_here : Account → ℕ → ℕ
+writers_here a r = session_total writers r (sessions_of a)

@@ -1,0 +1,77 @@
+-- What a site knows: the units that the grants, its beginning, its own operations or a delta named. As
+-- numbers, by the greatest unit known of each counter; as sets, by who names a unit (Shapiro et al., 2011:
+-- a join semilattice of sets of operations, of which the counters are the representation).
+use Rattle.std.specs.Prelude.{◌≡◌, ℕ, ◌==◌, ◌⊎◌, max, Bool, false, ◌||◌, IsTrue, List, [], ◌∷◌, if◌then◌else◌}
+use Rattle.merge_core.specs.declared.cell.Cell.{Cell}
+use Rattle.merge_core.specs.declared.cell.Cell.TheVariants.{Out, Taken, Ann, Fin}
+use Rattle.merge_core.specs.declared.delta.Row.{Row}
+use Rattle.merge_core.specs.Layout.{shape_of}
+use Rattle.merge_core.specs.Rows.{start_counter}
+use Rattle.merge_core.specs.Naming.{shown_by, ReachesUnit, RowsName}
+use Rattle.admission_core.specs.Account.{Origin, Account, Heard, Merged, Restarted, DurablePart, own, sessions_of}
+
+-- the counter of rights moved to site i
+abbrev pub is_out_to : ℕ → Cell → Bool
+is_out_to i (Out j) = j == i
+is_out_to i Taken = false
+is_out_to i Ann = false
+is_out_to i Fin = false
+
+-- what a restart keeps at site i: the site's own row, and the seats that others sent it
+abbrev pub is_kept : ℕ → ℕ → Cell → Bool
+is_kept i s cell = (s == i) || is_out_to i cell
+
+-- a counter that a restart keeps, or else its start
+abbrev pub kept_or_start : Origin → (ℕ → ℕ → Cell → ℕ) → ℕ → ℕ → Cell → ℕ
+kept_or_start o counters r s cell =
+    if is_kept o.site s cell then counters r s cell else start_counter (shape_of o.layout) r s cell
+
+-- the counters that a site was told of: by its beginning, then raised by each delta and cut by each restart
+abbrev pub told_after : Origin → List Heard → ℕ → ℕ → Cell → ℕ
+told_after o [] r s cell = kept_or_start o o.base.counters r s cell
+told_after o (Merged rows ∷ heard) r s cell = max (told_after o heard r s cell) (shown_by (shape_of o.layout) rows r s cell)
+told_after o (Restarted ∷ heard) r s cell = kept_or_start o (told_after o heard) r s cell
+
+-- the counters that an account was told of
+abbrev pub told : Account → ℕ → ℕ → Cell → ℕ
+told a r s cell = told_after a.origin a.heard r s cell
+
+-- the known counters: the site's own row is what it did, any other row what it was told
+abbrev pub known : Account → ℕ → ℕ → Cell → ℕ
+known a r s cell = if s == a.origin.site then own a r cell else told a r s cell
+
+-- a delta that was heard, and not forgotten by a later restart, names the unit
+abbrev pub HeardUnit : Origin → List Heard → ℕ → ℕ → Cell → ℕ → Type 0
+HeardUnit o [] r s cell k = ⊥
+HeardUnit o (Merged rows ∷ heard) r s cell k = RowsName (shape_of o.layout) rows r s cell k ⊎ HeardUnit o heard r s cell k
+HeardUnit o (Restarted ∷ heard) r s cell k = IsTrue (is_kept o.site s cell) × HeardUnit o heard r s cell k
+
+-- the site knows the k-th unit of a counter where a source names it: the grants, the beginning, the site's
+-- own operations, or a delta
+abbrev pub KnowsUnit : Account → ℕ → ℕ → Cell → ℕ → Type 0
+KnowsUnit a r s cell k =
+    ReachesUnit (start_counter (shape_of a.origin.layout) r s cell) k
+    ⊎ ((IsTrue (is_kept a.origin.site s cell) × ReachesUnit (a.origin.base.counters r s cell) k)
+    ⊎ (((s ≡ a.origin.site) × ReachesUnit (own a r cell) k)
+    ⊎ HeardUnit a.origin a.heard r s cell k))
+
+-- the site has heard a delta's rows
+abbrev pub hears : Account → List Row → Account
+hears a rows = record a { heard = Merged rows ∷ a.heard }
+
+-- the site has heard these deltas, the last of the list first
+abbrev pub hears_all : Account → List (List Row) → Account
+hears_all a [] = a
+hears_all a (rows ∷ deltas) = hears (hears_all a deltas) rows
+
+-- the site was started again: sessions and own operations stay, other knowledge is cut to what is kept
+abbrev pub restarted : Account → Account
+restarted a = record a { heard = Restarted ∷ a.heard }
+
+-- what a stop leaves of the site: what a restart keeps, and the sessions in order
+abbrev pub durable_part : Account → DurablePart
+durable_part a = record { counters = kept_or_start a.origin (known a); sessions = sessions_of a }
+
+-- where the site begins again from what a stop left
+abbrev pub resumed : Account → Origin
+resumed a = record { layout = a.origin.layout; site = a.origin.site; base = durable_part a }

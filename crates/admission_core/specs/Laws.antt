@@ -1,0 +1,87 @@
+-- The statements of one site's laws.
+use Rattle.std.specs.Prelude.{◌≡◌, ◌↔◌, ℕ, ◌+◌, ◌-◌, ◌<◌, ◌≤◌, ◌⊎◌, List, [], ◌∷◌, length, None}
+use Rattle.merge_core.specs.declared.cell.Cell.{Cell}
+use Rattle.merge_core.specs.declared.cell.Cell.TheVariants.{Out, Taken, Ann, Fin}
+use Rattle.merge_core.specs.declared.delta.Row.{Row}
+use Rattle.merge_core.specs.Layout.{Shape, shape_of}
+use Rattle.grow_counters.specs.Counts.{counter_limit}
+use Rattle.merge_core.specs.Rows.{grant}
+use Rattle.merge_core.specs.Naming.{ReachesUnit, RowsName}
+use Rattle.admission_core.specs.Sums.{total_others}
+use Rattle.admission_core.specs.Account.{Account, begin, sites_of, own, inside, writers_here, phase_of, sessions_of}
+use Rattle.admission_core.specs.Knowledge.{known, KnowsUnit, durable_part, resumed, restarted}
+use Rattle.admission_core.specs.View.{View, view_of, rights_of}
+use Rattle.admission_core.specs.Replies.{holder_limit}
+
+-- the counter is the greatest unit known
+abbrev pub CountsUnits : Account → Type 0
+CountsUnits a = (r s : ℕ) (cell : Cell) (k : ℕ) → ReachesUnit (known a r s cell) k ↔ KnowsUnit a r s cell k
+
+-- seats that the site knows it was sent, and seats that it gave away
+abbrev pub received : Account → ℕ → ℕ
+received a r = total_others (sites_of a.origin) a.origin.site (λ j. known a r j (Out a.origin.site))
+
+abbrev pub given : Account → ℕ → ℕ
+given a r = total_others (sites_of a.origin) a.origin.site (λ j. own a r (Out j))
+
+-- The rights counted by sessions are the bounded counter's formula over the known counters; the seats
+-- inside are those taken and not left; announced and not finished are the writers that wait or write.
+pub record CountsSessions (a : Account) (r : ℕ) : Type 0 where
+  pub affordable : given a r + inside a r ≤ grant (shape_of a.origin.layout) r a.origin.site + received a r
+  pub rights : rights_of (view_of a) r ≡ (grant (shape_of a.origin.layout) r a.origin.site + received a r) - (given a r + inside a r)
+  pub inside : own a r Taken - (own a r (Out a.origin.site) - grant (shape_of a.origin.layout) r a.origin.site) ≡ inside a r
+  pub writers : own a r Ann - own a r Fin ≡ writers_here a r
+
+-- two sites know the same units
+abbrev pub KnowTheSame : Account → Account → Type 0
+KnowTheSame a b = (r s : ℕ) (cell : Cell) (k : ℕ) → KnowsUnit a r s cell k ↔ KnowsUnit b r s cell k
+
+-- some delta of a list names the unit
+abbrev pub NamedBySome : Shape → List (List Row) → ℕ → ℕ → Cell → ℕ → Type 0
+NamedBySome shape [] r s cell k = ⊥
+NamedBySome shape (rows ∷ deltas) r s cell k = RowsName shape rows r s cell k ⊎ NamedBySome shape deltas r s cell k
+
+-- two lists of deltas name the same units: as any order, grouping or repetition of the same deltas does
+abbrev pub NameTheSame : Shape → List (List Row) → List (List Row) → Type 0
+NameTheSame shape first second = (r s : ℕ) (cell : Cell) (k : ℕ) → NamedBySome shape first r s cell k ↔ NamedBySome shape second r s cell k
+
+-- a counter that a row at n sites has
+abbrev pub IsCellOf : ℕ → Cell → Type 0
+IsCellOf n (Out j) = j < n
+IsCellOf n Taken = Unit {0}
+IsCellOf n Ann = Unit {0}
+IsCellOf n Fin = Unit {0}
+
+-- s is the least site that shows an unfinished writer
+pub record IsFirstUnfinished (v : View) (r s : ℕ) : Type 0 where
+  pub there : s < v.sites
+  pub unfinished : v.counter r s Fin < v.counter r s Ann
+  pub least : (t : ℕ) → t < s → v.counter r t Ann ≤ v.counter r t Fin
+
+-- nothing that a reader is told before notices are read refuses it
+pub record MayAsk (v : View) (r h : ℕ) : Type 0 where
+  pub record_there : r < length v.layout.records
+  pub holder : h ≤ holder_limit
+  pub not_here : v.phase r h ≡ None
+  pub room : v.counter r v.site Taken + 1 ≤ counter_limit
+
+-- two views that differ in notices alone
+pub record DifferInNotices (v w : View) : Type 0 where
+  pub layout : w.layout ≡ v.layout
+  pub sites : w.sites ≡ v.sites
+  pub site : w.site ≡ v.site
+  pub phase : (r h : ℕ) → w.phase r h ≡ v.phase r h
+  pub outs : (r s j : ℕ) → w.counter r s (Out j) ≡ v.counter r s (Out j)
+  pub takens : (r s : ℕ) → w.counter r s Taken ≡ v.counter r s Taken
+
+-- the account that begins from what a stop left is the restarted one
+pub record IsResumed (a : Account) : Type 0 where
+  pub phases : (r h : ℕ) → phase_of (begin (resumed a)) r h ≡ phase_of (restarted a) r h
+  pub sessions : sessions_of (begin (resumed a)) ≡ sessions_of (restarted a)
+  pub owns : (r : ℕ) (cell : Cell) → own (begin (resumed a)) r cell ≡ own (restarted a) r cell
+  pub counters : (r s : ℕ) (cell : Cell) → known (begin (resumed a)) r s cell ≡ known (restarted a) r s cell
+
+-- a restart changes nothing of what a stop leaves
+pub record KeepsDurable (a : Account) : Type 0 where
+  pub counters : (r s : ℕ) (cell : Cell) → (durable_part (restarted a)).counters r s cell ≡ (durable_part a).counters r s cell
+  pub sessions : (durable_part (restarted a)).sessions ≡ (durable_part a).sessions

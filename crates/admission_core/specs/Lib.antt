@@ -1,0 +1,9 @@
+pub mod Sums
+pub mod Account
+pub mod Knowledge
+pub mod View
+pub mod Merging
+pub mod Replies
+pub mod Sound
+pub mod Serving
+pub mod Laws

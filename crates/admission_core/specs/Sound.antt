@@ -1,0 +1,42 @@
+-- An account whose counters and sessions agree: what the start is, what every step keeps, and what a
+-- durable part has to be for a site to begin from it.
+use Rattle.std.specs.Prelude.{◌≡◌, ◌≢◌, ℕ, ◌+◌, ◌<◌, ◌≤◌, length, Some}
+use Rattle.merge_core.specs.declared.cell.Cell.{Cell}
+use Rattle.merge_core.specs.declared.cell.Cell.TheVariants.{Out, Taken, Ann, Fin}
+use Rattle.merge_core.specs.Layout.{shape_of}
+use Rattle.grow_counters.specs.Counts.{counter_limit}
+use Rattle.merge_core.specs.Rows.{grant}
+use Rattle.admission_core.specs.declared.ask.Phase.{Phase}
+use Rattle.admission_core.specs.Account.{Origin, Account, sites_of, begin, arrivals, occurs, phase_of, own, inside, writers_here}
+use Rattle.admission_core.specs.Knowledge.{told}
+use Rattle.admission_core.specs.View.{view_of, gained, spent}
+
+-- the counters of one row are such that its site, s, can have them, where its grant is so many seats
+pub record FitsRow (granted : ℕ) (s : ℕ) (counters : Cell → ℕ) : Type 0 where
+  pub grant_kept : granted ≤ counters (Out s)
+  pub returned_after_taken : counters (Out s) ≤ granted + counters Taken
+  pub few_taken : counters Taken ≤ counter_limit
+  pub few_moved : (j : ℕ) → j ≢ s → counters (Out j) ≤ counter_limit
+  pub finished_after_announced : counters Fin ≤ counters Ann
+  pub few_announced : counters Ann ≤ counter_limit
+
+-- the counters of a record agree with its sessions
+pub record IsBalanced (a : Account) (r : ℕ) : Type 0 where
+  pub affordable : spent (view_of a) r ≤ gained (view_of a) r
+  pub seats : own a r Taken + grant (shape_of a.origin.layout) r a.origin.site ≡ own a r (Out a.origin.site) + inside a r
+  pub writers : own a r Ann ≡ own a r Fin + writers_here a r
+  pub fits : FitsRow (grant (shape_of a.origin.layout) r a.origin.site) a.origin.site (own a r)
+
+-- every session is listed once and at a record that there is, each record is balanced, what was told of any
+-- row fits, and nothing was told of the site's own row that it has not done
+pub record IsSound (a : Account) : Type 0 where
+  pub site_there : a.origin.site < sites_of a.origin
+  pub listed_once : (r h : ℕ) (p : Phase) → phase_of a r h ≡ Some p → occurs r h (arrivals a.origin a.done) ≡ 1
+  pub record_there : (r h : ℕ) (p : Phase) → phase_of a r h ≡ Some p → r < length a.origin.layout.records
+  pub balanced : (r : ℕ) → IsBalanced a r
+  pub told_fits : (r s : ℕ) → FitsRow (grant (shape_of a.origin.layout) r s) s (told a r s)
+  pub told_after_done : (r : ℕ) (cell : Cell) → told a r a.origin.site cell ≤ own a r cell
+
+-- an account may begin here: at the start, and wherever a stop leaves a site
+abbrev pub IsOrigin : Origin → Type 0
+IsOrigin o = IsSound (begin o)

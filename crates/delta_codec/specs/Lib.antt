@@ -1,0 +1,6 @@
+pub mod Decodes
+pub mod DeltaData
+pub mod DeltaReaders
+pub mod DeltaText
+pub mod Lists
+pub mod Readers

@@ -1,0 +1,23 @@
+//! The JSON text of a delta, written and read exactly: a text is read where it is some delta's, and else
+//! refused by its first fault.
+#![tactic(auto)]
+
+pub use fault::DecodeError;
+pub use reading::decode;
+pub use unread::Unread;
+pub use writing::encode;
+
+/// The most bytes of a text that is read. Every delta's text has fewer.
+pub const TEXT_LIMIT: usize = 2_097_152;
+
+mod fault;
+pub mod laws;
+pub mod lists;
+pub mod literals;
+pub mod numbers;
+mod reading;
+mod rows;
+#[cfg(test)]
+mod tests;
+mod unread;
+mod writing;

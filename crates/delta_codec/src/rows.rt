@@ -1,0 +1,82 @@
+// Rows of a delta's text.
+ghost use Rattle.std.specs.Prelude.{◌≡◌};
+ghost use Rattle.delta_codec.specs.Readers.{Gives, joined_at};
+ghost use Rattle.delta_codec.specs.DeltaReaders.{number_behind, short_behind, numbers_behind, row_at, rows_at};
+
+use crate::lists::{Element, joined_at};
+use crate::literals::after;
+use crate::numbers::{number_at, short_at};
+use crate::unread::Unread;
+use grow_counters::Counts;
+use merge_core::Row;
+use std::alloc::Global;
+
+#[tactic(auto, unfolding(crate::specs::DeltaReaders::number_behind))]
+fn number_behind<'a>(literal: &[u8], bytes: &'a [u8]) -> Result<(u64, &'a [u8]), Unread>
+    ensures { Gives (λ x. (x.0, x.1.now)) result (number_behind literal.now bytes.now) }
+{
+    number_at(after(literal, bytes)?)
+}
+
+#[tactic(auto, unfolding(crate::specs::DeltaReaders::short_behind))]
+pub fn short_behind<'a>(literal: &[u8], bytes: &'a [u8]) -> Result<(u16, &'a [u8]), Unread>
+    ensures { Gives (λ x. (x.0, x.1.now)) result (short_behind literal.now bytes.now) }
+{
+    short_at(after(literal, bytes)?)
+}
+
+#[tactic(auto, unfolding(crate::specs::DeltaReaders::numbers_behind))]
+fn numbers_behind<'a>(
+    alloc: Global,
+    literal: &[u8],
+    bytes: &'a [u8],
+) -> Result<(Vec<u64>, &'a [u8]), Unread>
+    ensures { Gives (λ x. (x.0.items, x.1.now)) result (numbers_behind literal.now bytes.now) }
+{
+    joined_at(alloc, 15, after(literal, bytes)?)
+}
+
+#[tactic(auto, unfolding(crate::specs::DeltaReaders::row_at))]
+fn row_at(alloc: Global, bytes: &[u8]) -> Result<(Row, &[u8]), Unread>
+    ensures { Gives (λ x. (x.0, x.1.now)) result (row_at bytes.now) }
+{
+    let (ann, rest) = number_behind(b"{\"ann\":", bytes)?;
+    let (fin, rest) = number_behind(b",\"fin\":", rest)?;
+    let (out, rest) = numbers_behind(alloc, b",\"out\":[", rest)?;
+    let (r, rest) = short_behind(b"],\"r\":", rest)?;
+    let (s, rest) = short_behind(b",\"s\":", rest)?;
+    let (taken, rest) = number_behind(b",\"taken\":", rest)?;
+    let rest = after(b"}", rest)?;
+    let out = Counts::from_vec(out);
+    let row = Row {
+        r,
+        s,
+        out,
+        taken,
+        ann,
+        fin,
+    };
+    Ok((row, rest))
+}
+
+impl Element for Row {
+    ghost use Rattle.delta_codec.specs.DeltaReaders.{row_at};
+
+    ghost at = { row_at };
+
+    fn read_front(alloc: Global, bytes: &[u8]) -> Result<(Row, &[u8]), Unread> {
+        row_at(alloc, bytes)
+    }
+}
+
+/// The rows up to the closing bracket, and the bytes from there on.
+#[tactic(auto, unfolding(crate::specs::DeltaReaders::rows_at))]
+pub fn rows_at(alloc: Global, bytes: &[u8]) -> Result<(Vec<Row>, &[u8]), Unread>
+    ensures { Gives (λ x. (x.0.items, x.1.now)) result (rows_at bytes.now) }
+{
+    match bytes {
+        [] => Err(Unread::Refused),
+        [b']', ..] => Ok((Vec::new(alloc), bytes)),
+        [_, ..] => joined_at(alloc, 4095, bytes),
+    }
+}

@@ -1,0 +1,34 @@
+use super::*;
+use std::test::Fail;
+
+// A fresh list, raised, merged and lowered, with ample memory.
+#[test]
+fn counts_grow_and_merge(rt: HostRuntime) -> Result<(), Fail> {
+    let mut a = Counts::new(rt.alloc(), 2)?;
+    assert_eq!(rt; a.len(), 2);
+    assert_eq!(rt; a.raise(0, 3, 10), Ok(()));
+    assert_eq!(rt; a.raise(0, 8, 10), Err(CounterError::CounterFull));
+    let b = Counts::from_vec(vec![in rt.alloc(); 1, 5]?);
+    assert_eq!(rt; b.len(), 2);
+    assert!(rt; !b.within(&a));
+    assert_eq!(rt; a.join(&b), 1);
+    assert_eq!(rt; a.as_slice(), [3, 5].as_slice());
+    assert!(rt; b.within(&a));
+    assert_eq!(rt; a.len(), 2);
+    if a.get(1) >= 4 {
+        a.reset(1, 4);
+    }
+    assert_eq!(rt; a.into_vec().as_slice(), [3, 4].as_slice());
+    Ok(())
+}
+
+// A counter at the greatest number that it can hold.
+#[test]
+fn a_full_counter_is_refused(rt: HostRuntime) -> Result<(), Fail> {
+    let mut a = Counts::new(rt.alloc(), 1)?;
+    assert_eq!(rt; a.len(), 1);
+    assert_eq!(rt; a.raise(0, u64::MAX, u64::MAX), Ok(()));
+    assert_eq!(rt; a.len(), 1);
+    assert_eq!(rt; a.raise(0, 1, u64::MAX), Err(CounterError::CounterFull));
+    Ok(())
+}

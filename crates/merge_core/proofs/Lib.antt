@@ -1,0 +1,14 @@
+pub mod RowLemmas
+pub mod UnitLemmas
+pub mod ShownLemmas
+pub mod BookLemmas
+pub mod OperationLemmas
+pub mod StartLemmas
+pub mod KeepLemmas
+pub mod RiseLemmas
+pub mod JoinLemmas
+pub mod MergeLemmas
+pub mod KnownLemmas
+pub mod SameLemmas
+pub mod LawLemmas
+pub mod SnapshotLemmas

@@ -1,0 +1,12 @@
+pub mod Layout
+pub mod Delta
+pub mod Rows
+pub mod Naming
+pub mod Book
+pub mod Check
+pub mod Changes
+pub mod Order
+pub mod Snapshot
+pub mod Start
+pub mod Joined
+pub mod Kept

@@ -1,0 +1,171 @@
+-- Sound accounts, one for each site, of which none was told of more than was done: seats are conserved.
+use Rattle.std.proofs.Common.{◌≡◌, ℕ, ◌+◌, ◌<◌, ◌≤◌, ◌⊎◌, inl, inr, eqb, List, [], ◌∷◌, length, Option, Some, None, refl, ap, subst, ◌∙◌, arith}
+use Rattle.std.proofs.lemmas.Bool.{cases_eq, eq-eqb, ne_eqb, and_right, cond-true, cond_both}
+use Rattle.merge_core.specs.declared.cell.Cell.{Cell}
+use Rattle.merge_core.specs.declared.cell.Cell.TheVariants.{Out}
+use Rattle.merge_core.specs.Naming.{shown_by}
+use Rattle.merge_core.specs.Layout.{LayoutState, IsLayout, shape_of}
+use Rattle.merge_core.specs.Rows.{grant, start_counter}
+use Rattle.admission_core.specs.declared.ask.Phase.{Phase}
+use Rattle.admission_core.specs.declared.ask.Phase.TheVariants.{Reader, Waiting, Writer}
+use Rattle.admission_core.specs.Sums.{total, total_others}
+use Rattle.admission_core.specs.Account.{Account, Heard, Merged, Restarted, Origin, begin, start_origin, seats_in, own, phase_of, inside, weight, on_phase, arrivals}
+use Rattle.admission_core.specs.Knowledge.{is_kept, told_after, told, known}
+use Rattle.admission_core.specs.View.{view_of, rights_of}
+use Rattle.admission_core.specs.Sound.{FitsRow, IsSound}
+use Rattle.admission_core.proofs.SumLemmas.{total_same, total_add, total_member, total_two, total_others_same, total_others_add, total_others-swap}
+use Rattle.admission_core.proofs.SessionLemmas.{adds, sessions-keys, keys_member, keys_two}
+use Rattle.admission_core.proofs.CounterLemmas.{known_other}
+use Rattle.admission_core.proofs.RowLemmas.{shown_as, start_below}
+use Rattle.admission_core.specs.Serving.{Step}
+use Rattle.admission_core.proofs.ServingLemmas.{sound_replay, origin_replay}
+use Rattle.admission_core.proofs.HeardLemmas.{site_sum_own}
+use Rattle.admission_core.proofs.StartLemmas.{sound_start, grants_total, some_seats}
+use Rattle.multi_site_world.specs.Laws.{in_flight, all_in_flight, all_rights, all_inside, IsInside, IsWriterAlone, IsSentBefore, HeardNoMore, replayed}
+
+site_sum : (a : Account) (layout : LayoutState) (i r : ℕ) → IsSound a → a.origin.layout ≡ layout → a.origin.site ≡ i → rights_of (view_of a) r + (inside a r + total_others layout.sites i (λ j. own a r (Out j))) ≡ grant (shape_of layout) r i + total_others layout.sites i (λ j. known a r j (Out i))
+site_sum a layout i r sound same_layout same_site =
+    subst (λ (l : LayoutState). rights_of (view_of a) r + (inside a r + total_others l.sites i (λ j. own a r (Out j))) ≡ grant (shape_of l) r i + total_others l.sites i (λ j. known a r j (Out i))) same_layout
+    (subst (λ (k : ℕ). rights_of (view_of a) r + (inside a r + total_others a.origin.layout.sites k (λ j. own a r (Out j))) ≡ grant (shape_of a.origin.layout) r k + total_others a.origin.layout.sites k (λ j. known a r j (Out k))) same_site
+    (site_sum_own a r sound))
+
+-- an account for each site of a layout
+pub record IsFamily (layout : LayoutState) (accounts : ℕ → Account) : Type 0 where
+  pub sound : (i : ℕ) → i < layout.sites → IsSound (accounts i)
+  pub same_layout : (i : ℕ) → i < layout.sites → (accounts i).origin.layout ≡ layout
+  pub same_site : (i : ℕ) → i < layout.sites → (accounts i).origin.site ≡ i
+
+-- given by all is known to all or in flight
+given-known : (layout : LayoutState) (accounts : ℕ → Account) (r : ℕ) → IsSentBefore layout accounts r → total layout.sites (λ i. total_others layout.sites i (λ j. own (accounts i) r (Out j))) ≡ total layout.sites (λ i. total_others layout.sites i (λ j. known (accounts i) r j (Out i))) + all_in_flight accounts layout.sites r
+given-known layout accounts r before =
+    let n = layout.sites in
+    total_others-swap n (λ i j. own (accounts i) r (Out j))
+    ∙ (total_same n (λ i. total_others n i (λ j. own (accounts j) r (Out i)))
+    (λ i. total_others n i (λ j. known (accounts i) r j (Out i)) + total_others n i (λ j. in_flight accounts r j i))
+    (λ i below.
+    total_others_same n i (λ j. own (accounts j) r (Out i)) (λ j. known (accounts i) r j (Out i) + in_flight accounts r j i)
+    (λ j lower apart. omega (arith, before i j below lower apart))
+    ∙ total_others_add n i (λ j. known (accounts i) r j (Out i)) (λ j. in_flight accounts r j i))
+    ∙ total_add n (λ i. total_others n i (λ j. known (accounts i) r j (Out i))) (λ i. total_others n i (λ j. in_flight accounts r j i)))
+
+pub conserved : (layout : LayoutState) (accounts : ℕ → Account) (r : ℕ) → IsLayout layout → IsFamily layout accounts → IsSentBefore layout accounts r → seats_in layout r ≡ all_rights accounts layout.sites r + (all_inside accounts layout.sites r + all_in_flight accounts layout.sites r)
+conserved layout accounts r is family before =
+    let n = layout.sites in
+    let has = λ (i : ℕ). rights_of (view_of (accounts i)) r in
+    let holds = λ (i : ℕ). inside (accounts i) r in
+    let gave = λ (i : ℕ). total_others n i (λ j. own (accounts i) r (Out j)) in
+    let got = λ (i : ℕ). total_others n i (λ j. known (accounts i) r j (Out i)) in
+    let granted = λ (i : ℕ). grant (shape_of layout) r i in
+    omega (
+      arith,
+      total_same n (λ i. has i + (holds i + gave i)) (λ i. granted i + got i)
+          (λ i below. site_sum (accounts i) layout i r (family.sound i below) (family.same_layout i below) (family.same_site i below)),
+      total_add n has (λ i. holds i + gave i),
+      total_add n holds gave,
+      total_add n granted got,
+      grants_total layout is r,
+      given-known layout accounts r before,
+    )
+
+-- the seats inside are at most the seats
+pub inside_most : (layout : LayoutState) (accounts : ℕ → Account) (r : ℕ) → IsLayout layout → IsFamily layout accounts → IsSentBefore layout accounts r → all_inside accounts layout.sites r ≤ seats_in layout r
+inside_most layout accounts r is family before = omega (arith, conserved layout accounts r is family before)
+
+-- a session that is inside takes its weight
+weight_inside : (a : Account) (r h : ℕ) (p : Phase) → IsSound a → phase_of a r h ≡ Some p → weight (seats_in a.origin.layout r) p ≤ inside a r
+weight_inside a r h p sound there =
+    let value = weight (seats_in a.origin.layout r) in
+    let f = adds value r (phase_of a) in
+    let here : f r h ≡ value p = cond-true (eqb r r) (on_phase value (phase_of a r h)) 0 (eq-eqb r r refl) ∙ ap (on_phase value) there in
+    omega (arith, sessions-keys value r (phase_of a) (arrivals a.origin a.done), keys_member r h f (arrivals a.origin a.done) (sound.listed_once r h p there))
+
+two_inside : (a : Account) (r h k : ℕ) (p q : Phase) → IsSound a → phase_of a r h ≡ Some p → phase_of a r k ≡ Some q → (h ≡ k → ⊥) → weight (seats_in a.origin.layout r) p + weight (seats_in a.origin.layout r) q ≤ inside a r
+two_inside a r h k p q sound there here apart =
+    let value = weight (seats_in a.origin.layout r) in
+    let f = adds value r (phase_of a) in
+    let first : f r h ≡ value p = cond-true (eqb r r) (on_phase value (phase_of a r h)) 0 (eq-eqb r r refl) ∙ ap (on_phase value) there in
+    let second : f r k ≡ value q = cond-true (eqb r r) (on_phase value (phase_of a r k)) 0 (eq-eqb r r refl) ∙ ap (on_phase value) here in
+    omega (
+      arith,
+      sessions-keys value r (phase_of a) (arrivals a.origin a.done),
+      keys_two r h r k f (arrivals a.origin a.done) (and_right (eqb r r) (eqb h k) (ne_eqb h k apart)) (sound.listed_once r h p there) (sound.listed_once r k q here),
+    )
+
+alone : (layout : LayoutState) (accounts : ℕ → Account) (r : ℕ) → IsFamily layout accounts → (i j h k : ℕ) → i < layout.sites → j < layout.sites → (q : Phase) → 1 ≤ weight (seats_in layout r) q → 1 ≤ seats_in layout r → all_inside accounts layout.sites r ≤ seats_in layout r → phase_of (accounts i) r h ≡ Some Writer → phase_of (accounts j) r k ≡ Some q → (i ≡ j) × (h ≡ k)
+alone layout accounts r family i j h k below_i below_j q heavy some most writer there = at (cases_eq i j) (cases_eq h k)
+  where
+    seats_at : (m : ℕ) → m < layout.sites → (p : Phase) → weight (seats_in (accounts m).origin.layout r) p ≡ weight (seats_in layout r) p
+    seats_at m below p = ap (λ (l : LayoutState). weight (seats_in l r) p) (family.same_layout m below)
+
+    at : (i ≡ j) ⊎ (i ≡ j → ⊥) → (h ≡ k) ⊎ (h ≡ k → ⊥) → (i ≡ j) × (h ≡ k)
+    at (inl e) (inl d) = (e, d)
+    at (inl e) (inr apart) =
+        let here : phase_of (accounts i) r k ≡ Some q = ap (λ m. phase_of (accounts m) r k) e ∙ there in
+        absurd (omega (
+          arith,
+          two_inside (accounts i) r h k Writer q (family.sound i below_i) writer here apart,
+          seats_at i below_i Writer,
+          seats_at i below_i q,
+          total_member layout.sites i (λ m. inside (accounts m) r) below_i,
+        ))
+    at (inr apart) other =
+        absurd (omega (
+          arith,
+          weight_inside (accounts i) r h Writer (family.sound i below_i) writer,
+          weight_inside (accounts j) r k q (family.sound j below_j) there,
+          seats_at i below_i Writer,
+          seats_at j below_j q,
+          total_two layout.sites i j (λ m. inside (accounts m) r) below_i below_j apart,
+        ))
+
+pub writer_alone : (layout : LayoutState) (accounts : ℕ → Account) (r : ℕ) → IsLayout layout → IsFamily layout accounts → IsSentBefore layout accounts r → IsWriterAlone accounts layout.sites r
+writer_alone layout accounts r is family before i j h k below_i below_j writer within = at (phase_of (accounts j) r k) refl within
+  where
+    some : 1 ≤ seats_in layout r
+    some =
+        let place = (family.sound i below_i).record_there r h Writer writer in
+        some_seats layout is r (subst (λ (l : LayoutState). r < length l.records) (family.same_layout i below_i) place)
+
+    most : all_inside accounts layout.sites r ≤ seats_in layout r
+    most = inside_most layout accounts r is family before
+
+    at : (o : Option Phase) → phase_of (accounts j) r k ≡ o → IsInside o → (i ≡ j) × (h ≡ k)
+    at None e inside_there = elim inside_there [ ]
+    at (Some Reader) e inside_there = alone layout accounts r family i j h k below_i below_j Reader (omega arith) some most writer e
+    at (Some Waiting) e inside_there = elim inside_there [ ]
+    at (Some Writer) e inside_there = alone layout accounts r family i j h k below_i below_j Writer some some most writer e
+
+-- accounts replayed from logs of their own are a family
+pub replayed_family : (layout : LayoutState) (logs : ℕ → List Step) → IsFamily layout (replayed layout logs)
+replayed_family layout logs = record {
+  sound = λ i below. sound_replay (begin (start_origin layout i)) (logs i) (sound_start layout i below);
+  same_layout = λ i below. ap (λ (o : Origin). o.layout) (origin_replay (begin (start_origin layout i)) (logs i));
+  same_site = λ i below. ap (λ (o : Origin). o.site) (origin_replay (begin (start_origin layout i)) (logs i));
+}
+
+-- what an account was told was done, where each delta that it heard tells no more
+told_heard : (layout : LayoutState) (accounts : ℕ → Account) (i j r : ℕ) (cell : Cell) → FitsRow (grant (shape_of layout) r j) j (own (accounts j) r) → (heard : List Heard) → HeardNoMore accounts heard → told_after (start_origin layout i) heard r j cell ≤ own (accounts j) r cell
+told_heard layout accounts i j r cell fits [] no_more =
+    cond_both (is_kept i j cell) (start_counter (shape_of layout) r j cell) (start_counter (shape_of layout) r j cell) (λ x. x ≤ own (accounts j) r cell)
+    (λ e. start_below (shape_of layout) r j (own (accounts j) r) fits cell) (λ e. start_below (shape_of layout) r j (own (accounts j) r) fits cell)
+told_heard layout accounts i j r cell fits (Merged rows ∷ heard) no_more =
+    let shown : shown_by (shape_of layout) rows r j cell ≤ own (accounts j) r cell =
+    shown_as (λ f r2 s2. (c : Cell) → f c ≤ own (accounts s2) r2 c) (shape_of layout)
+    (λ f g r2 s2 same less c. omega (arith, same c, less c)) rows no_more.0 r j
+    (start_below (shape_of layout) r j (own (accounts j) r) fits) cell in
+    omega (arith, told_heard layout accounts i j r cell fits heard no_more.1)
+told_heard layout accounts i j r cell fits (Restarted ∷ heard) no_more =
+    cond_both (is_kept i j cell) (told_after (start_origin layout i) heard r j cell) (start_counter (shape_of layout) r j cell) (λ x. x ≤ own (accounts j) r cell)
+    (λ e. told_heard layout accounts i j r cell fits heard no_more) (λ e. start_below (shape_of layout) r j (own (accounts j) r) fits cell)
+
+pub consistent_cut : (layout : LayoutState) (logs : ℕ → List Step) → ((i : ℕ) → i < layout.sites → HeardNoMore (replayed layout logs) (replayed layout logs i).heard) → (r : ℕ) → IsSentBefore layout (replayed layout logs) r
+consistent_cut layout logs no_more r i j below there apart =
+    let a = replayed layout logs i in
+    let same : a.origin ≡ start_origin layout i = origin_replay (begin (start_origin layout i)) (logs i) in
+    let site : a.origin.site ≡ i = ap (λ (o : Origin). o.site) same in
+    let same_j : (replayed layout logs j).origin ≡ start_origin layout j = origin_replay (begin (start_origin layout j)) (logs j) in
+    let sound_j = sound_replay (begin (start_origin layout j)) (logs j) (sound_start layout j there) in
+    let fits : FitsRow (grant (shape_of layout) r j) j (own (replayed layout logs j) r) =
+    subst (λ (o : Origin). FitsRow (grant (shape_of o.layout) r o.site) o.site (own (replayed layout logs j) r)) same_j (sound_j.balanced r).fits in
+    let told_more : told a r j (Out i) ≡ told_after (start_origin layout i) a.heard r j (Out i) = ap (λ o. told_after o a.heard r j (Out i)) same in
+    omega (arith, known_other a r j (Out i) (λ e. apart (e ∙ site)), told_heard layout (replayed layout logs) i j r (Out i) fits a.heard (no_more i below))

@@ -1,0 +1,7 @@
+pub mod FamilyLemmas
+pub mod WorldLemmas
+pub mod EventLemmas
+pub mod LawLemmas
+pub mod GatherLemmas
+pub mod GatherSteps
+pub mod GatherLaw

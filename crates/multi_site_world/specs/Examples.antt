@@ -1,0 +1,131 @@
+-- Short scripts over two small layouts, with the replies that are wanted.
+use Rattle.std.specs.Prelude.{ℕ, zero, suc, List, [], ◌∷◌, ◌++◌}
+use Rattle.merge_core.specs.Delta.{DeltaState}
+use Rattle.merge_core.specs.Layout.{LayoutState}
+use Rattle.admission_core.specs.declared.ask.Ask.TheVariants.{Read, Announce, Quill, Leave, Give, Help}
+use Rattle.admission_core.specs.declared.ask.Phase.TheVariants.{Reader, Waiting, Writer}
+use Rattle.admission_core.specs.declared.reply.Refusal.TheVariants.{NoRecord, BadHolder, CounterFull, NoSeat, WriterAnnounced, TooManyWriters, NotAnnounced, MissingSeats, NotHere, ToSelf, ZeroSeats, TooFewRights, NoPlan}
+use Rattle.admission_core.specs.declared.reply.Reply.{Reply}
+use Rattle.admission_core.specs.declared.reply.Reply.TheVariants.{Admitted, Announced, Left, Given, Gave, Merged, Refused}
+use Rattle.multi_site_world.specs.declared.event.Event.{Event}
+use Rattle.multi_site_world.specs.declared.event.Event.TheVariants.{Call, Send, Take, Restart}
+use Rattle.multi_site_world.specs.declared.event.WorldReply.{WorldReply}
+use Rattle.multi_site_world.specs.declared.event.WorldReply.TheVariants.{Core, Sent, Restarted, NoSite, NoMessage}
+
+-- one record with its home at site 0
+abbrev pub small_layout : ℕ → ℕ → ℕ → LayoutState
+small_layout sites seats problem = record {
+  sites = sites;
+  records = record { name = 97 ∷ []; seats = seats; home = 0; problem = problem } ∷ [];
+}
+
+abbrev pub answered : List Reply → List WorldReply
+answered [] = []
+answered (reply ∷ rest) = Core reply ∷ answered rest
+
+-- a seat is given away, is not there before the message comes, and then serves a reader
+abbrev pub seat_moves : List Event
+seat_moves =
+    Call 0 (Give 0 1 1) ∷ Call 1 (Read 0 8) ∷ Send 0 ∷ Take 1 0 ∷ Call 1 (Read 0 8) ∷ []
+
+abbrev pub seat_moves_replies : List WorldReply
+seat_moves_replies =
+    Core Given ∷ Core (Refused (NoSeat 0)) ∷ Sent 0 ∷ Core (Merged 1) ∷ Core Admitted ∷ []
+
+-- a writer announces itself at site 1; site 0 admits a reader until it hears of it
+abbrev pub writer_announced : List Event
+writer_announced =
+    Call 1 (Announce 0 5) ∷ Call 0 (Read 0 1) ∷ Send 1 ∷ Take 0 0 ∷ Call 0 (Read 0 2) ∷ []
+
+abbrev pub writer_announced_replies : List WorldReply
+writer_announced_replies =
+    Core (Announced 1) ∷ Core Admitted ∷ Sent 0 ∷ Core (Merged 1) ∷ Core (Refused (WriterAnnounced 1)) ∷ []
+
+-- under problem 1 the notice alone holds no reader
+abbrev pub reader_not_held : List WorldReply
+reader_not_held = Core (Announced 1) ∷ Core Admitted ∷ Sent 0 ∷ Core (Merged 1) ∷ Core Admitted ∷ []
+
+-- .. then site 0 hands its seats over, twice, until the writer has them all
+abbrev pub writer_helped : List Event
+writer_helped =
+    Call 0 (Help 0) ∷ Send 0 ∷ Take 1 1 ∷ Call 1 (Quill 0 5) ∷ Call 0 (Leave 0 1) ∷ Call 0 (Help 0) ∷ Send 0
+    ∷ Take 1 2 ∷ Call 1 (Quill 0 5) ∷ []
+
+abbrev pub writer_helped_replies : List WorldReply
+writer_helped_replies =
+    Core (Gave 1 2) ∷ Sent 1 ∷ Core (Merged 2) ∷ Core (Refused (MissingSeats 2 3)) ∷ Core (Left Reader)
+    ∷ Core (Gave 1 1) ∷ Sent 2 ∷ Core (Merged 2) ∷ Core Admitted ∷ []
+
+-- .. then an old message changes nothing, and after the writer the seats above the fair share go on
+abbrev pub writer_done : List Event
+writer_done = Take 1 1 ∷ Call 1 (Leave 0 5) ∷ Call 1 (Help 0) ∷ []
+
+abbrev pub writer_done_replies : List WorldReply
+writer_done_replies = Core (Merged 0) ∷ Core (Left Writer) ∷ Core (Gave 2 2) ∷ []
+
+-- a restart keeps the seat that was sent, and the reader who has it
+abbrev pub seat_kept : List Event
+seat_kept = Restart 1 ∷ Call 1 (Read 0 9) ∷ Call 1 (Leave 0 8) ∷ Call 1 (Read 0 9) ∷ []
+
+abbrev pub seat_kept_replies : List WorldReply
+seat_kept_replies = Restarted ∷ Core (Refused (NoSeat 0)) ∷ Core (Left Reader) ∷ Core Admitted ∷ []
+
+-- a restart forgets another site's writer
+abbrev pub writer_forgotten : List Event
+writer_forgotten =
+    Call 1 (Announce 0 5) ∷ Call 0 (Read 0 1) ∷ Send 1 ∷ Take 0 0 ∷ Restart 0 ∷ Call 0 (Read 0 2) ∷ []
+
+abbrev pub writer_forgotten_replies : List WorldReply
+writer_forgotten_replies =
+    Core (Announced 1) ∷ Core Admitted ∷ Sent 0 ∷ Core (Merged 1) ∷ Restarted ∷ Core Admitted ∷ []
+
+-- one site alone: a writer waits for a reader's seat, and withdraws
+abbrev pub writer_withdraws : List Event
+writer_withdraws =
+    Call 0 (Read 0 1) ∷ Call 0 (Announce 0 2) ∷ Call 0 (Quill 0 2) ∷ Call 0 (Leave 0 2) ∷ Call 0 (Help 0) ∷ []
+
+abbrev pub writer_withdraws_replies : List WorldReply
+writer_withdraws_replies =
+    answered (Admitted ∷ Announced 1 ∷ Refused (MissingSeats 0 1) ∷ Left Waiting ∷ Refused NoPlan ∷ [])
+
+-- a book that has not heard of a reader shows all seats free, and its site may still not write
+abbrev pub stale_book : List Event
+stale_book = Call 1 (Announce 0 5) ∷ Call 0 (Read 0 1) ∷ Call 1 (Quill 0 5) ∷ []
+
+abbrev pub stale_book_replies : List WorldReply
+stale_book_replies = answered (Announced 1 ∷ Admitted ∷ Refused (MissingSeats 0 3) ∷ [])
+
+-- what is refused, and why
+abbrev pub refusals : List Event
+refusals =
+    Call 0 (Give 0 1 3) ∷ Call 0 (Give 0 1 18446744073709551615) ∷ Call 0 (Give 0 0 1) ∷ Call 0 (Give 0 1 0)
+    ∷ Call 5 (Read 0 7) ∷ Take 0 9 ∷ Call 0 (Read 1 7) ∷ Call 0 (Read 0 1000000000001) ∷ Call 0 (Quill 0 7)
+    ∷ Call 0 (Leave 0 7) ∷ []
+
+abbrev pub refusals_replies : List WorldReply
+refusals_replies =
+    Core (Refused (TooFewRights 2)) ∷ Core (Refused CounterFull) ∷ Core (Refused ToSelf) ∷ Core (Refused ZeroSeats)
+    ∷ NoSite ∷ NoMessage ∷ Core (Refused NoRecord) ∷ Core (Refused BadHolder) ∷ Core (Refused NotAnnounced)
+    ∷ Core (Refused NotHere) ∷ []
+
+-- holders 1 to n announce writers at site 1, and the next one has to wait until one of them has withdrawn
+abbrev pub writers_announced : ℕ → List Event
+writers_announced zero = []
+writers_announced (suc n) = writers_announced n ++ Call 1 (Announce 0 (suc n)) ∷ []
+
+abbrev pub writers_announced_replies : ℕ → List WorldReply
+writers_announced_replies zero = []
+writers_announced_replies (suc n) = writers_announced_replies n ++ Core (Announced (suc n)) ∷ []
+
+abbrev pub writers_limit : List Event
+writers_limit = Call 1 (Announce 0 65) ∷ Call 1 (Leave 0 1) ∷ Call 1 (Announce 0 65) ∷ []
+
+abbrev pub writers_limit_replies : List WorldReply
+writers_limit_replies = answered (Refused TooManyWriters ∷ Left Waiting ∷ Announced 65 ∷ [])
+
+-- the message of the first script, which site 0 does not take at its start
+abbrev pub seat_moves_message : DeltaState
+seat_moves_message = record {
+  from = 0;
+  rows = record { r = 0; s = 0; out = 2 ∷ (1 ∷ []); taken = 0; ann = 0; fin = 0 } ∷ [];
+}

@@ -1,0 +1,7 @@
+pub mod EntryLemmas
+pub mod JoinLemmas
+pub mod KeptLemmas
+pub mod MatrixLemmas
+pub mod RightsLemmas
+pub mod StartLemmas
+pub mod SumLemmas

@@ -1,0 +1,12 @@
+use Rattle.std.proofs.Common.{◌≡◌, ℕ, ◌<◌, ◌≤◌, [], length, slice_index, slice_index_or}
+use Rattle.rights_matrix.specs.Matrix.{matrix_of}
+use Rattle.rights_matrix.specs.Kept.{kept_entry}
+use Rattle.rights_matrix.proofs.rights.keep_rows.Given as goal
+
+abbrev pub invariant-loop-i : goal.invariant-loop-i
+invariant-loop-i l = record {
+  size : length l.rows.items ≡ length l.initial.rows.items;
+  widths : (k : ℕ) → length (slice_index_or l.rows.items k []) ≡ length (slice_index_or l.initial.rows.items k []);
+  done : (k : ℕ) → k < l.i → (j : ℕ) → slice_index (slice_index_or l.rows.items k []) j ≡ kept_entry (matrix_of l.home l.seats l.initial.rows.items) l.site k j;
+  rest : (k : ℕ) → l.i ≤ k → slice_index_or l.rows.items k [] ≡ slice_index_or l.initial.rows.items k [];
+}

@@ -1,0 +1,14 @@
+-- A transfer of rights (Balegas et al., 2015): made only where the giver has at least as many.
+use Rattle.std.specs.Prelude.{ℕ, ◌+◌, ◌==◌, nat_lt, if◌then◌else◌, Option, Some, None}
+use Rattle.rights_matrix.specs.declared.limits.TheConstants.{COUNTER_LIMIT}
+use Rattle.rights_matrix.specs.declared.faults.TransferError.{TransferError}
+use Rattle.rights_matrix.specs.declared.faults.TransferError.TheVariants.{ToSelf, ZeroSeats, CounterFull, TooFewRights}
+use Rattle.rights_matrix.specs.Matrix.{MatrixState, entry, rights_of}
+
+-- why a transfer of n rights from i to j is refused, in the order of the tests; `taken` is what i has taken
+abbrev pub transfer_fault : MatrixState → ℕ → ℕ → ℕ → ℕ → Option TransferError
+transfer_fault m i j n taken =
+    if i == j then Some ToSelf else (
+    if n == 0 then Some ZeroSeats else (
+    if nat_lt COUNTER_LIMIT (entry m i j + n) then Some CounterFull else (
+    if nat_lt (rights_of m i taken) n then Some (TooFewRights (rights_of m i taken)) else None)))

@@ -1,0 +1,12 @@
+//! The rights matrix of a bounded counter: what each site gained and what it sent to the others.
+#![tactic(auto)]
+
+pub use faults::TransferError;
+pub use limits::COUNTER_LIMIT;
+pub use rights::Rights;
+
+mod faults;
+mod limits;
+mod rights;
+#[cfg(test)]
+mod tests;

@@ -1,0 +1,123 @@
+-- Seats, site by site.
+use Rattle.std.proofs.Common.{◌≡◌, ◌≢◌, ℕ, ◌+◌, ◌<◌, ◌≤◌, ◌⊎◌, inl, inr, List, length, get_or, set, max, refl, sym, ◌∙◌, arith}
+use Rattle.std.proofs.lemmas.List.{get_or-set_same, get_or-set_other, length-set}
+use Rattle.std.proofs.lemmas.Bool.{cases_eq}
+use Rattle.grow_counters.specs.Counts.{maxima}
+use Rattle.grow_counters.proofs.CountsLemmas.{length-maxima, get_or-maxima}
+use Rattle.rights_matrix.specs.declared.limits.TheConstants.{COUNTER_LIMIT}
+use Rattle.rights_matrix.specs.Joined.{joined, joined_at}
+use Rattle.rights_matrix.specs.Matrix.{MatrixState, site_count, grant, SameShape}
+use Rattle.rights_matrix.proofs.EntryLemmas.{entry-joined, entry-joined_at, entry-joined_at_other}
+use Rattle.rights_matrix.proofs.JoinLemmas.{IsMatrix-joined, IsMatrix-joined_at, length-joined_rows}
+use Rattle.rights_matrix.proofs.RightsLemmas.{HasRights-joined_at}
+use Rattle.rights_matrix.proofs.StartLemmas.{zero_row, HasRights-start}
+use Rattle.seat_rows.specs.Seats.{SeatState, taken_at, returned_at, HasSeatRights, IsSeatState, IsValidSeatRow, start_seats, after_take, joined_seats, joined_seats_at}
+
+-- two copies of the seats of one record have a join
+pub IsSeatState-joined : (a b : SeatState) → IsSeatState a → IsSeatState b → SameShape a.matrix b.matrix → IsSeatState (joined_seats a b)
+IsSeatState-joined a b in_a in_b same = record {
+  matrix = IsMatrix-joined a.matrix b.matrix in_a.matrix in_b.matrix same;
+  size = length-maxima a.taken b.taken ∙ (in_a.size ∙ sym (length-joined_rows a.matrix.rows b.matrix.rows));
+  returned = λ i below. returned i (omega (arith, below, rows));
+  limit = λ i below. limit i (omega (arith, below, rows));
+}
+  where
+    rows : length (joined a.matrix b.matrix).rows ≡ length a.matrix.rows
+    rows = length-joined_rows a.matrix.rows b.matrix.rows
+
+    taken : (i : ℕ) → get_or (maxima a.taken b.taken) i 0 ≡ max (taken_at a i) (taken_at b i)
+    taken i = get_or-maxima a.taken b.taken i (omega (arith, in_a.size, in_b.size, same.sites))
+
+    grants : (i : ℕ) → grant b.matrix i ≡ grant a.matrix i
+    grants i = rw (same.home, same.seats) refl
+
+    returned : (i : ℕ) → i < site_count a.matrix → returned_at (joined_seats a b) i ≤ taken_at (joined_seats a b) i
+    returned i below =
+        let own = entry-joined a.matrix b.matrix i i in_a.matrix in_b.matrix same in
+        let by_a = in_a.returned i below in
+        let by_b = in_b.returned i (omega (arith, same.sites)) in
+        omega (arith, own, taken i, grants i, by_a, by_b)
+
+    limit : (i : ℕ) → i < site_count a.matrix → taken_at (joined_seats a b) i ≤ COUNTER_LIMIT
+    limit i below =
+        let by_a = in_a.limit i below in
+        let by_b = in_b.limit i (omega (arith, same.sites)) in
+        omega (arith, taken i, by_a, by_b)
+
+-- a valid row of one site may be joined to the seats
+pub IsSeatState-joined_at : (st : SeatState) (s taken : ℕ) (row : List ℕ) → IsSeatState st → s < site_count st.matrix → length row ≤ site_count st.matrix → IsValidSeatRow st.matrix s row taken → IsSeatState (joined_seats_at st s row taken)
+IsSeatState-joined_at st s taken row h inside fits valid = record {
+  matrix = IsMatrix-joined_at st.matrix s row h.matrix inside fits valid.in_matrix;
+  size = length-set st.taken s _ ∙ (h.size ∙ sym (length-set st.matrix.rows s _));
+  returned = λ i below. returned i (omega (arith, below, rows)) (cases_eq i s);
+  limit = λ i below. limit i (omega (arith, below, rows)) (cases_eq i s);
+}
+  where
+    rows : length (joined_at st.matrix s row).rows ≡ length st.matrix.rows
+    rows = length-set st.matrix.rows s _
+
+    here : taken_at (joined_seats_at st s row taken) s ≡ max (taken_at st s) taken
+    here = get_or-set_same st.taken s _ 0 (omega (arith, h.size))
+
+    there : (i : ℕ) → i ≢ s → taken_at (joined_seats_at st s row taken) i ≡ taken_at st i
+    there i other = get_or-set_other st.taken s i _ 0 other
+
+    returned : (i : ℕ) → i < site_count st.matrix → (i ≡ s) ⊎ (i ≢ s) → returned_at (joined_seats_at st s row taken) i ≤ taken_at (joined_seats_at st s row taken) i
+    returned i below (inl same) =
+        let own = entry-joined_at st.matrix s s row h.matrix inside fits in
+        let before = h.returned s inside in
+        let heard = valid.returned in
+        rw same (omega (arith, own, here, before, heard))
+    returned i below (inr other) =
+        let own = entry-joined_at_other st.matrix s i i row other in
+        let before = h.returned i below in
+        omega (arith, own, there i other, before)
+
+    limit : (i : ℕ) → i < site_count st.matrix → (i ≡ s) ⊎ (i ≢ s) → taken_at (joined_seats_at st s row taken) i ≤ COUNTER_LIMIT
+    limit i below (inl same) =
+        let before = h.limit s inside in
+        let heard = valid.limit in
+        rw same (omega (arith, here, before, heard))
+    limit i below (inr other) = let before = h.limit i below in omega (arith, there i other, before)
+
+-- for the fields of seats that were joined
+pub join_keeps : (a0 a b0 b : SeatState) (matrix : MatrixState) (taken : List ℕ) → a0 ≡ a → b0 ≡ b → IsSeatState a0 → IsSeatState b0 → SameShape a.matrix b.matrix → matrix ≡ joined a0.matrix b0.matrix → taken ≡ maxima a0.taken b0.taken → IsSeatState (record { matrix = matrix; taken = taken })
+join_keeps a0 a b0 b matrix taken is_a is_b in_a in_b same is_matrix is_taken =
+    let same' : SameShape a0.matrix b0.matrix = rw (is_a, is_b) same in
+    rw (is_matrix, is_taken) (IsSeatState-joined a0 b0 in_a in_b same')
+
+pub join_row_keeps : (st0 st : SeatState) (s k taken : ℕ) (row : List ℕ) (matrix : MatrixState) (counts : List ℕ) → st0 ≡ st → IsSeatState st0 → s < site_count st.matrix → length row ≤ site_count st.matrix → IsValidSeatRow st.matrix s row taken → k ≡ s → matrix ≡ joined_at st0.matrix s row → counts ≡ set st0.taken k (max (get_or st0.taken k 0) taken) → IsSeatState (record { matrix = matrix; taken = counts })
+join_row_keeps st0 st s k taken row matrix counts is_st h inside fits valid place is_matrix is_counts =
+    rw (is_matrix, is_counts, place) (IsSeatState-joined_at st0 s taken row h (rw is_st inside) (rw is_st fits) (rw is_st valid))
+
+-- the counts after a join, site by site
+pub taken_at-joined : (a b : SeatState) (i : ℕ) → IsSeatState a → IsSeatState b → SameShape a.matrix b.matrix → taken_at (joined_seats a b) i ≡ max (taken_at a i) (taken_at b i)
+taken_at-joined a b i in_a in_b same =
+    get_or-maxima a.taken b.taken i (omega (arith, in_a.size, in_b.size, same.sites))
+
+pub taken_at-joined_at : (st : SeatState) (s taken : ℕ) (row : List ℕ) → IsSeatState st → s < site_count st.matrix → taken_at (joined_seats_at st s row taken) s ≡ max (taken_at st s) taken
+taken_at-joined_at st s taken row h inside = get_or-set_same st.taken s _ 0 (omega (arith, h.size))
+
+pub taken_at-joined_at_other : (st : SeatState) (s i taken : ℕ) (row : List ℕ) → i ≢ s → taken_at (joined_seats_at st s row taken) i ≡ taken_at st i
+taken_at-joined_at_other st s i taken row other = get_or-set_other st.taken s i _ 0 other
+
+-- and after seats were taken
+pub taken_at-after_take : (st : SeatState) (i w : ℕ) → IsSeatState st → i < site_count st.matrix → taken_at (after_take st i w) i ≡ taken_at st i + w
+taken_at-after_take st i w h inside = get_or-set_same st.taken i _ 0 (omega (arith, h.size))
+
+pub taken_at-after_take_other : (st : SeatState) (i w k : ℕ) → k ≢ i → taken_at (after_take st i w) k ≡ taken_at st k
+taken_at-after_take_other st i w k other = get_or-set_other st.taken i k _ 0 other
+
+-- at the start nobody's rights are negative
+pub HasSeatRights-start : (n home seats i : ℕ) → home < n → HasSeatRights (start_seats n home seats) i
+HasSeatRights-start n home seats i inside =
+    let none : taken_at (start_seats n home seats) i ≡ 0 = zero_row n i in
+    let has = HasRights-start n home seats i inside in
+    omega (arith, none, has)
+
+-- what is heard of another site leaves this site's rights no negative number
+pub HasSeatRights-joined_at : (st : SeatState) (s i taken : ℕ) (row : List ℕ) → IsSeatState st → s < site_count st.matrix → length row ≤ site_count st.matrix → i ≢ s → HasSeatRights st i → HasSeatRights (joined_seats_at st s row taken) i
+HasSeatRights-joined_at st s i taken row h inside fits other has =
+    let kept = HasRights-joined_at st.matrix s i (taken_at st i) row h.matrix inside fits other has in
+    let same = taken_at-joined_at_other st s i taken row other in
+    omega (arith, kept, same)

@@ -1,0 +1,80 @@
+-- A bounded counter of one record (Balegas et al., 2015): its rights matrix, and how many seats were taken
+-- at each site, the decrements. A seat that is given back is counted as an increment in the matrix.
+use Rattle.std.specs.Prelude.{◌≡◌, ℕ, ◌+◌, ◌-◌, ◌<◌, ◌≤◌, ◌==◌, nat_lt, max, if◌then◌else◌, List, length, replicate, slice_index, slice_set}
+use Rattle.grow_counters.specs.Counts.{maxima, rise_count}
+use Rattle.rights_matrix.specs.declared.limits.TheConstants.{COUNTER_LIMIT}
+use Rattle.rights_matrix.specs.Joined.{joined, joined_at, rise_counts}
+use Rattle.rights_matrix.specs.Matrix.{MatrixState, site_count, grant, row_of, entry, start_matrix, raised, rights_of, HasRights, IsValidRow, IsMatrix}
+
+-- what contracts see of the seats of one record
+pub record SeatState : Type 0 where
+  pub matrix : MatrixState
+  pub taken : List ℕ
+
+-- 0 where there is no such site
+abbrev pub taken_at : SeatState → ℕ → ℕ
+taken_at st i = slice_index st.taken i
+
+-- the seats that were given back at site i: its increments beyond its grant
+abbrev pub returned_at : SeatState → ℕ → ℕ
+returned_at st i = entry st.matrix i i - grant st.matrix i
+
+-- the seats that are taken at site i and not given back
+abbrev pub inside_of : SeatState → ℕ → ℕ
+inside_of st i = taken_at st i - returned_at st i
+
+abbrev pub seat_rights : SeatState → ℕ → ℕ
+seat_rights st i = rights_of st.matrix i (taken_at st i)
+
+-- the rights of site i are no negative number
+abbrev pub HasSeatRights : SeatState → ℕ → Type 0
+HasSeatRights st i = HasRights st.matrix i (taken_at st i)
+
+-- what holds of the seats of every record: no site gives back more than it took
+pub record IsSeatState (st : SeatState) : Type 0 where
+  pub matrix : IsMatrix st.matrix
+  pub size : length st.taken ≡ site_count st.matrix
+  pub returned : (i : ℕ) → i < site_count st.matrix → returned_at st i ≤ taken_at st i
+  pub limit : (i : ℕ) → i < site_count st.matrix → taken_at st i ≤ COUNTER_LIMIT
+
+-- what site s may say of itself: a valid row of the matrix, and no more given back than taken
+pub record IsValidSeatRow (m : MatrixState) (s : ℕ) (row : List ℕ) (taken : ℕ) : Type 0 where
+  pub in_matrix : IsValidRow m s row
+  pub returned : slice_index row s - grant m s ≤ taken
+  pub limit : taken ≤ COUNTER_LIMIT
+
+-- the start: all seats at home, none taken
+abbrev pub start_seats : ℕ → ℕ → ℕ → SeatState
+start_seats n home seats = record { matrix = start_matrix n home seats; taken = replicate {A = ℕ} n 0 }
+
+-- w more seats were taken at site i
+abbrev pub after_take : SeatState → ℕ → ℕ → SeatState
+after_take st i w = record st { taken = slice_set st.taken i (taken_at st i + w) }
+
+-- n more at entry (i, j) of the matrix
+abbrev pub after_raise : SeatState → ℕ → ℕ → ℕ → SeatState
+after_raise st i j n = record st { matrix = raised st.matrix i j n }
+
+-- the join with another copy, counter by counter the greater one (Shapiro et al., 2011)
+abbrev pub joined_seats : SeatState → SeatState → SeatState
+joined_seats a b = record { matrix = joined a.matrix b.matrix; taken = maxima a.taken b.taken }
+
+-- the join with what was heard of site s
+abbrev pub joined_seats_at : SeatState → ℕ → List ℕ → ℕ → SeatState
+joined_seats_at st s row taken = record {
+  matrix = joined_at st.matrix s row;
+  taken = slice_set st.taken s (max (taken_at st s) taken);
+}
+
+-- how many counters of the new state are above those of the old one, in all rows and in the row of site s
+abbrev pub seat_rises : SeatState → SeatState → ℕ
+seat_rises old new = rise_counts old.matrix.rows new.matrix.rows + rise_count old.taken new.taken
+
+abbrev pub seat_rises_at : SeatState → SeatState → ℕ → ℕ
+seat_rises_at old new s =
+    rise_count (row_of old.matrix s) (row_of new.matrix s)
+    + (if nat_lt (taken_at old s) (taken_at new s) then 1 else 0)
+
+-- the seats that site i is known to have taken after a restart of a site: its own alone
+abbrev pub kept_taken : SeatState → ℕ → ℕ → ℕ
+kept_taken st site i = if i == site then taken_at st i else 0

@@ -1,0 +1,10 @@
+//! The seats of one record: a rights matrix and the seats taken at each site.
+#![tactic(auto)]
+
+pub use faults::SeatError;
+pub use seats::SeatRow;
+
+mod faults;
+mod seats;
+#[cfg(test)]
+mod tests;
