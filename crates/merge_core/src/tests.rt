@@ -221,6 +221,14 @@ fn announces(book: &mut Book) -> Option<(Result<u64, NoticeError>, Option<u16>)>
     Some((answer, book.unfinished(0)))
 }
 
+// What the book tells, as a delta of site 0.
+fn shown(alloc: Global, book: &Book) -> Result<Option<Delta>, AllocError> {
+    if book.sites() == 0 {
+        return Ok(None);
+    }
+    Ok(Some(book.snapshot(alloc, 0)?))
+}
+
 // What a restart of the first site leaves.
 fn restarted(book: &mut Book) -> Option<(u64, u64, u64, u64, u64)> {
     if book.sites() != 2 {
@@ -243,9 +251,10 @@ fn a_site_takes_sends_and_announces(rt: HostRuntime) -> Result<(), Fail> {
     assert_eq!(rt; gives(&mut book, 1), None);
     assert_eq!(rt; announces(&mut book), Some((Ok(1), Some(1))));
     assert_eq!(rt; counters(&book, 1), Some((0, 0, 0, 1, 0)));
-    let shown = book.snapshot(alloc, 0);
+    let told = shown(alloc, &book)?.ok_or("site")?;
+    assert_eq!(rt; told.rows().len(), 2);
     assert_eq!(rt; restarted(&mut book), Some((0, 0, 0, 0, 0)));
-    assert_eq!(rt; taken(&mut book, &shown?), Ok(1));
+    assert_eq!(rt; taken(&mut book, &told), Ok(1));
     let (_, refused) = sends_rights(alloc, &layout, 3)?.ok_or("site")?;
     assert_eq!(rt; refused, Err(TransferError::TooFewRights { rights: 2 }));
     Ok(())
