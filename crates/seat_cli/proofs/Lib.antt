@@ -1,0 +1,4 @@
+mod EngineLemmas
+mod JoinLaws
+mod LayoutLemmas
+mod LineLemmas

@@ -1,0 +1,5 @@
+pub mod Engine
+pub mod Joins
+pub mod LayoutFile
+pub mod Stops
+pub mod Texts

@@ -1,0 +1,237 @@
+ghost use Rattle.std.specs.Prelude.{◌≡◌, string_bytes, IfOk};
+ghost use Rattle.toml.specs.Data.{get};
+ghost use Rattle.toml.specs.View.{view, items_view};
+ghost use Rattle.delta_codec.specs.Readers.{Gives};
+ghost use Rattle.seat_cli.specs.LayoutFile.{ReadsLayout, TellsLayout, layout_error_name, key_count, number_in, number_at_key, short_at_key, text_at_key, record_in, records_in, records_of, records_at_key, parts_in, built_in_layout};
+
+use delta_codec::Unread;
+use merge_core::{Layout, LayoutError, RecordName, RecordSpec};
+use std::alloc::{AllocError, Global};
+use toml::Value;
+
+/// Why there is no layout: the first that applies, from the top.
+#[derive(Clone, Copy, Debug, PartialEq, Eq)]
+pub enum LayoutFault {
+    /// The file could not be read.
+    NotRead,
+    /// The file is no TOML document.
+    NotToml,
+    /// A key is missing, unknown, of another kind, or an integer outside 0 to 65,536.
+    WrongKeys,
+    /// The sites and records are no layout.
+    Refused(LayoutError),
+    /// Memory ran out, which may come before the text is judged.
+    Memory,
+}
+
+impl LayoutFault {
+    ghost use Rattle.std.specs.Prelude.{◌≡◌};
+    ghost use Rattle.seat_cli.specs.LayoutFile.{layout_fault_name};
+
+    /// The name that the program writes.
+    pub fn name(self) -> &'static str
+        ensures { result.now ≡ layout_fault_name self }
+    {
+        match self {
+            LayoutFault::NotRead => "NotRead",
+            LayoutFault::NotToml => "NotToml",
+            LayoutFault::WrongKeys => "WrongKeys",
+            LayoutFault::Refused(error) => error_name(error),
+            LayoutFault::Memory => "Memory",
+        }
+    }
+}
+
+// The name of a fault of the sites and records.
+fn error_name(error: LayoutError) -> &'static str
+    ensures { result.now ≡ layout_error_name error }
+{
+    match error {
+        LayoutError::TooFewSites => "TooFewSites",
+        LayoutError::TooManySites => "TooManySites",
+        LayoutError::NoRecords => "NoRecords",
+        LayoutError::TooManyRecords => "TooManyRecords",
+        LayoutError::BadName => "BadName",
+        LayoutError::SameName => "SameName",
+        LayoutError::BadSeats => "BadSeats",
+        LayoutError::BadHome => "BadHome",
+        LayoutError::BadProblem => "BadProblem",
+    }
+}
+
+/// The layout that a file's bytes describe, or why they describe none.
+pub fn read_layout(alloc: Global, bytes: &[u8]) -> Result<Layout, LayoutFault>
+    ensures { ReadsLayout bytes.now result }
+{
+    let Ok(text) = std::str::from_utf8(bytes) else {
+        return Err(LayoutFault::NotToml);
+    };
+    let table = match toml::table_from_str(alloc, text) {
+        Ok(table) => table,
+        Err(error) => {
+            if error.is_memory() {
+                return Err(LayoutFault::Memory);
+            }
+            return Err(LayoutFault::NotToml);
+        }
+    };
+    layout_in(alloc, &Value::Table(table))
+}
+
+// The layout that a document describes.
+fn layout_in(alloc: Global, value: &Value) -> Result<Layout, LayoutFault>
+    ensures { TellsLayout (parts_in (view value.now)) result }
+{
+    let (sites, records) = match parts_in(alloc, value) {
+        Ok(parts) => parts,
+        Err(Unread::Memory) => return Err(LayoutFault::Memory),
+        Err(Unread::Refused) => return Err(LayoutFault::WrongKeys),
+    };
+    match Layout::new(sites, records) {
+        Ok(layout) => Ok(layout),
+        Err(error) => Err(LayoutFault::Refused(error)),
+    }
+}
+
+/// The layout that the program takes without a file.
+pub fn built_in(alloc: Global) -> Result<Layout, AllocError>
+    ensures { IfOk result (λ layout. layout ≡ built_in_layout) }
+{
+    let name = String::from_str(alloc, "a")?;
+    let mut records = Vec::new(alloc);
+    records.push(RecordSpec {
+        name: RecordName::from_string(name),
+        seats: 2,
+        home: 0,
+        problem: 1,
+    })?;
+    match Layout::new(2, records) {
+        Ok(layout) => Ok(layout),
+        Err(_) => Err(AllocError),
+    }
+}
+
+// The sites and the records.
+#[tactic(auto, unfolding(crate::specs::LayoutFile::parts_in))]
+fn parts_in(alloc: Global, value: &Value) -> Result<(u16, Vec<RecordSpec>), Unread>
+    ensures { Gives (λ x. record { sites = x.0; records = x.1.items }) result (parts_in (view value.now)) }
+{
+    if key_count(value) != 2 {
+        return Err(Unread::Refused);
+    }
+    let sites = short_at(value, "sites")?;
+    let records = records_at(alloc, value, "record")?;
+    Ok((sites, records))
+}
+
+// The records at a key.
+#[tactic(auto, unfolding(crate::specs::LayoutFile::records_at_key))]
+fn records_at(alloc: Global, value: &Value, key: &str) -> Result<Vec<RecordSpec>, Unread>
+    ensures { Gives (λ x. x.items) result (records_at_key key.now (view value.now)) }
+{
+    records_of(alloc, member(value, key)?)
+}
+
+// The records of an array.
+fn records_of(alloc: Global, value: &Value) -> Result<Vec<RecordSpec>, Unread>
+    ensures { Gives (λ x. x.items) result (records_of (view value.now)) }
+{
+    match value.as_array() {
+        Some(items) => records_in(alloc, items.as_slice()),
+        None => Err(Unread::Refused),
+    }
+}
+
+// Each item is a record.
+fn records_in(alloc: Global, items: &[Value]) -> Result<Vec<RecordSpec>, Unread>
+    ensures { Gives (λ x. x.items) result (records_in (items_view items.now)) }
+{
+    let mut records = Vec::new(alloc);
+    for item in items {
+        records.push(record_in(alloc, item)?)?;
+    }
+    Ok(records)
+}
+
+// One record.
+#[tactic(auto, unfolding(crate::specs::LayoutFile::record_in))]
+fn record_in(alloc: Global, value: &Value) -> Result<RecordSpec, Unread>
+    ensures { Gives (λ x. x) result (record_in (view value.now)) }
+{
+    if key_count(value) != 4 {
+        return Err(Unread::Refused);
+    }
+    let name = text_at(alloc, value, "name")?;
+    let seats = number_at(value, "seats")?;
+    let home = short_at(value, "home")?;
+    let problem = short_at(value, "problem")?;
+    Ok(RecordSpec {
+        name: RecordName::from_string(name),
+        seats,
+        home,
+        problem,
+    })
+}
+
+// A copy of the text at a key.
+#[tactic(auto, unfolding(crate::specs::LayoutFile::text_at_key))]
+fn text_at(alloc: Global, value: &Value, key: &str) -> Result<String, Unread>
+    ensures { Gives (λ x. string_bytes x) result (text_at_key key.now (view value.now)) }
+{
+    match member(value, key)?.as_str() {
+        Some(text) => Ok(String::from_str(alloc, text)?),
+        None => Err(Unread::Refused),
+    }
+}
+
+// The number at a key, of which 65,536 is taken as 65,535.
+#[tactic(auto, unfolding(crate::specs::LayoutFile::short_at_key))]
+fn short_at(value: &Value, key: &str) -> Result<u16, Unread>
+    ensures { Gives (λ x. x) result (short_at_key key.now (view value.now)) }
+{
+    let number = number_at(value, key)?;
+    Ok(number.min(65_535) as u16)
+}
+
+// The number at a key.
+#[tactic(auto, unfolding(crate::specs::LayoutFile::number_at_key))]
+fn number_at(value: &Value, key: &str) -> Result<u32, Unread>
+    ensures { Gives (λ x. x) result (number_at_key key.now (view value.now)) }
+{
+    number_in(member(value, key)?)
+}
+
+// An integer from 0 to 65,536.
+fn number_in(value: &Value) -> Result<u32, Unread>
+    ensures { Gives (λ x. x) result (number_in (view value.now)) }
+{
+    match value.as_integer() {
+        Some(number) => {
+            if number < 0 || number > 65_536 {
+                return Err(Unread::Refused);
+            }
+            Ok(number as u32)
+        }
+        None => Err(Unread::Refused),
+    }
+}
+
+// What stands at a key.
+fn member<'a>(value: &'a Value, key: &str) -> Result<&'a Value, Unread>
+    ensures { Gives (λ x. view x.now) result (get key.now (view value.now)) }
+{
+    match value.get(key) {
+        Some(found) => Ok(found),
+        None => Err(Unread::Refused),
+    }
+}
+
+// How many keys a table has; 0 for what is no table.
+fn key_count(value: &Value) -> usize
+    ensures { result ≡ key_count (view value.now) }
+{
+    match value.as_table() {
+        Some(table) => table.len(),
+        None => 0,
+    }
+}

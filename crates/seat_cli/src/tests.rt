@@ -1,0 +1,360 @@
+//! The engine with fake readers and writers, layout files, and words.
+mod fakes;
+
+use crate::engine::join_engine;
+use crate::layout_file::{built_in, read_layout};
+use crate::status::Status;
+use crate::words::layout_asked;
+use fakes::{Giving, Keeping, NEVER};
+use merge_core::Layout;
+use std::alloc::{AllocError, Global};
+
+// The text of a book that nothing happened to.
+const NOTHING: &str = "{\"from\":0,\"rows\":[],\"v\":1}\n";
+// Site 0 gave one of its two seats to site 1.
+const GAVE: &str =
+    "{\"from\":0,\"rows\":[{\"ann\":0,\"fin\":0,\"out\":[2,1],\"r\":0,\"s\":0,\"taken\":0}],\"v\":1}\n";
+// Site 0 announced a writer, and gave nothing.
+const ANNOUNCED: &str =
+    "{\"from\":0,\"rows\":[{\"ann\":1,\"fin\":0,\"out\":[2,0],\"r\":0,\"s\":0,\"taken\":0}],\"v\":1}\n";
+
+const GAVE_AND_ANNOUNCED: &str =
+    "{\"from\":0,\"rows\":[{\"ann\":1,\"fin\":0,\"out\":[2,1],\"r\":0,\"s\":0,\"taken\":0}],\"v\":1}\n";
+
+// Three sites, and record a with three seats at site 0 under problem 2.
+const THREE_SITES: &str = "sites = 3\n[[record]]\nname = \"a\"\nseats = 3\nhome = 0\nproblem = 2\n";
+// A writer is announced at site 1; site 0 heard of it, let a reader in, and gave two seats, then a third.
+const FIRST: &str =
+    "{\"from\":1,\"rows\":[{\"ann\":1,\"fin\":0,\"out\":[0,0,0],\"r\":0,\"s\":1,\"taken\":0}],\"v\":1}\n";
+
+const SECOND: &str =
+    "{\"from\":0,\"rows\":[{\"ann\":0,\"fin\":0,\"out\":[3,2,0],\"r\":0,\"s\":0,\"taken\":1},{\"ann\":1,\"fin\":0,\"out\":[0,0,0],\"r\":0,\"s\":1,\"taken\":0}],\"v\":1}\n";
+
+const THIRD: &str =
+    "{\"from\":0,\"rows\":[{\"ann\":0,\"fin\":0,\"out\":[4,3,0],\"r\":0,\"s\":0,\"taken\":1},{\"ann\":1,\"fin\":0,\"out\":[0,0,0],\"r\":0,\"s\":1,\"taken\":0}],\"v\":1}\n";
+
+fn joined(alloc: Global, lines: [&str; 4]) -> Result<String, AllocError> {
+    let mut all = String::new(alloc);
+    for line in lines {
+        all.push_str(line)?;
+    }
+    Ok(all)
+}
+
+// Whether the engine ends with this status, having written this.
+fn is_answer(alloc: Global, layout: &Layout, input: &str, status: Status, output: &str) -> bool {
+    let mut reader = Giving::new(input.as_bytes(), 0, NEVER);
+    let mut writer = Keeping::new(alloc, NEVER);
+    let ended = join_engine(alloc, layout, &mut reader, &mut writer);
+    ended == status && writer.bytes() == output.as_bytes()
+}
+
+const TWO_SITE_INPUTS: [([&str; 4], &str); 9] = [
+    ([GAVE, NOTHING, "", ""], GAVE),
+    ([NOTHING, GAVE, "", ""], GAVE),
+    ([GAVE, GAVE, NOTHING, NOTHING], GAVE),
+    ([NOTHING, GAVE, NOTHING, GAVE], GAVE),
+    ([NOTHING, "", "", ""], NOTHING),
+    (["", "", "", ""], NOTHING),
+    ([ANNOUNCED, GAVE, "", ""], GAVE_AND_ANNOUNCED),
+    ([GAVE, ANNOUNCED, "", ""], GAVE_AND_ANNOUNCED),
+    (["{\"from\":0,\"rows\":[],\"v\":1}", "", "", ""], NOTHING),
+];
+
+#[test]
+fn lines_join_in_any_order_and_with_repeats(rt: HostRuntime) {
+    let alloc = rt.alloc();
+    let layout = built_in(alloc).expect(&rt, "a layout");
+    for (lines, output) in TWO_SITE_INPUTS {
+        let input = joined(alloc, lines).expect(&rt, "memory");
+        assert!(rt;
+            is_answer(alloc, &layout, input.as_str(), Status::Done, output),
+            "{input}"
+        );
+    }
+}
+
+const THREE_SITE_INPUTS: [[&str; 4]; 7] = [
+    [THIRD, SECOND, SECOND, ""],
+    [SECOND, THIRD, SECOND, ""],
+    [SECOND, SECOND, THIRD, ""],
+    [FIRST, SECOND, THIRD, ""],
+    [THIRD, SECOND, FIRST, ""],
+    [SECOND, FIRST, THIRD, FIRST],
+    [THIRD, FIRST, THIRD, SECOND],
+];
+
+#[test]
+fn three_messages_join_to_the_last(rt: HostRuntime) {
+    let alloc = rt.alloc();
+    let layout = read_layout(alloc, THREE_SITES.as_bytes()).expect(&rt, "a layout");
+    for lines in THREE_SITE_INPUTS {
+        let input = joined(alloc, lines).expect(&rt, "memory");
+        assert!(rt;
+            is_answer(alloc, &layout, input.as_str(), Status::Done, THIRD),
+            "{input}"
+        );
+    }
+}
+
+const REFUSED_INPUTS: [(&str, &str, &str); 12] = [
+    (
+        "",
+        "{\"from\":0,\"rows\":[{\"ann\":0,\"fin\":0,\"out\":[1,0],\"r\":0,\"s\":0,\"taken\":0}],\"v\":1}\n",
+        "line 1 refused BadRow 0\n",
+    ),
+    (
+        "",
+        "{\"from\":0,\"rows\":[{\"ann\":0,\"fin\":0,\"out\":[3,0],\"r\":0,\"s\":0,\"taken\":0}],\"v\":1}\n",
+        "line 1 refused BadRow 0\n",
+    ),
+    (
+        "",
+        "{\"from\":0,\"rows\":[{\"ann\":0,\"fin\":1,\"out\":[2,0],\"r\":0,\"s\":0,\"taken\":0}],\"v\":1}\n",
+        "line 1 refused BadRow 0\n",
+    ),
+    (
+        "",
+        "{\"from\":0,\"rows\":[{\"ann\":0,\"fin\":0,\"out\":[2,1,0],\"r\":0,\"s\":0,\"taken\":0}],\"v\":1}\n",
+        "line 1 refused OtherLayout 0\n",
+    ),
+    (
+        GAVE,
+        "{\"from\":0,\"rows\":[{\"ann\":0,\"fin\":0,\"out\":[2,1],\"r\":0,\"s\":0,\"taken\":0},{\"ann\":0,\"fin\":0,\"out\":[0,0],\"r\":7,\"s\":0,\"taken\":0}],\"v\":1}",
+        "line 2 refused OtherLayout 1\n",
+    ),
+    (NOTHING, "\n", "line 2 refused NotJson\n"),
+    (NOTHING, "[\n", "line 2 refused NotJson\n"),
+    (GAVE, "{}\n", "line 2 refused NotCanonical\n"),
+    (
+        GAVE,
+        "{\"from\":0,\"rows\":[],\"v\":1}\r\n",
+        "line 2 refused NotCanonical\n",
+    ),
+    (
+        GAVE,
+        " {\"from\":0,\"rows\":[],\"v\":1}\n",
+        "line 2 refused NotCanonical\n",
+    ),
+    (
+        GAVE,
+        "{\"from\":0,\"rows\":[],\"v\":2}\n",
+        "line 2 refused NotCanonical\n",
+    ),
+    ("", "{}\n[\n", "line 1 refused NotCanonical\n"),
+];
+
+#[test]
+fn the_first_refused_line_is_the_only_answer(rt: HostRuntime) {
+    let alloc = rt.alloc();
+    let layout = built_in(alloc).expect(&rt, "a layout");
+    for (before, line, output) in REFUSED_INPUTS {
+        let input = joined(alloc, [before, line, GAVE, "["]).expect(&rt, "memory");
+        let input = if line.ends_with('\n') {
+            input
+        } else {
+            joined(alloc, [before, line, "", ""]).expect(&rt, "memory")
+        };
+        assert!(rt;
+            is_answer(alloc, &layout, input.as_str(), Status::Refused, output),
+            "{input}"
+        );
+    }
+}
+
+#[test]
+fn a_line_that_is_not_utf8_is_refused(rt: HostRuntime) {
+    let alloc = rt.alloc();
+    let layout = built_in(alloc).expect(&rt, "a layout");
+    let mut reader = Giving::new(&[255], 0, NEVER);
+    let mut writer = Keeping::new(alloc, NEVER);
+    let ended = join_engine(alloc, &layout, &mut reader, &mut writer);
+    assert_eq!(&rt; ended, Status::Refused);
+    assert_eq!(&rt; writer.bytes(), "line 1 refused NotUtf8\n".as_bytes());
+}
+
+// How many spaces the input is, what is written, and how many bytes the reader then lost.
+const LONG_INPUTS: [(usize, &str, usize); 3] = [
+    (2_097_153, "line 1 refused TooLong\n", 2_097_153),
+    (16_777_217, "input refused TooLong\n", 16_777_217),
+    (20_000_000, "input refused TooLong\n", 16_777_217),
+];
+
+#[test]
+fn an_input_past_the_limit_is_refused(rt: HostRuntime) {
+    let alloc = rt.alloc();
+    let layout = built_in(alloc).expect(&rt, "a layout");
+    for (spaces, output, lost) in LONG_INPUTS {
+        let mut reader = Giving::new(&[], spaces, NEVER);
+        let mut writer = Keeping::new(alloc, NEVER);
+        let ended = join_engine(alloc, &layout, &mut reader, &mut writer);
+        assert_eq!(&rt; ended, Status::Refused);
+        assert_eq!(&rt; writer.bytes(), output.as_bytes());
+        assert_eq!(&rt; spaces.saturating_sub(reader.spaces()), lost);
+    }
+}
+
+#[test]
+fn a_reader_or_a_writer_that_fails_ends_with_status_7(rt: HostRuntime) {
+    let alloc = rt.alloc();
+    let layout = built_in(alloc).expect(&rt, "a layout");
+    // the input comes in two calls, a third tells the end; the answer goes out in twelve calls
+    for (reads, writes) in [
+        (0, NEVER),
+        (1, NEVER),
+        (2, NEVER),
+        (NEVER, 0),
+        (NEVER, 5),
+        (NEVER, 11),
+    ] {
+        let mut reader = Giving::new(GAVE.as_bytes(), 0, reads);
+        let mut writer = Keeping::new(alloc, writes);
+        let ended = join_engine(alloc, &layout, &mut reader, &mut writer);
+        assert_eq!(&rt; ended.code(), 7);
+    }
+}
+
+// The name of what is wrong with a layout file.
+fn fault_of(alloc: Global, text: &str) -> &'static str {
+    match read_layout(alloc, text.as_bytes()) {
+        Ok(_) => "none",
+        Err(fault) => fault.name(),
+    }
+}
+
+const LAYOUT_FILES: [(&str, &str); 27] = [
+    (
+        "sites = 2\n[[record]]\nname = \"a\"\nseats = 2\nhome = 0\nproblem = 1\n",
+        "none",
+    ),
+    (
+        "record = [{problem = 1, home = 1, seats = 65535, name = \"a-1\"}]\nsites = 16",
+        "none",
+    ),
+    ("sites = \n", "NotToml"),
+    ("sites = 2\nsites = 2\n", "NotToml"),
+    ("", "WrongKeys"),
+    ("sites = 2\n", "WrongKeys"),
+    ("record = []\n", "WrongKeys"),
+    ("sites = 2\nrecord = []\nother = 1\n", "WrongKeys"),
+    ("sites = \"2\"\nrecord = []\n", "WrongKeys"),
+    ("sites = 2\nrecord = 1\n", "WrongKeys"),
+    ("sites = 2\nrecord = [1]\n", "WrongKeys"),
+    ("sites = -1\nrecord = []\n", "WrongKeys"),
+    ("sites = 65537\nrecord = []\n", "WrongKeys"),
+    (
+        "sites = 2\n[[record]]\nname = 1\nseats = 2\nhome = 0\nproblem = 1\n",
+        "WrongKeys",
+    ),
+    (
+        "sites = 2\n[[record]]\nname = \"a\"\nseats = 2\nhome = 0\n",
+        "WrongKeys",
+    ),
+    (
+        "sites = 2\n[[record]]\nname = \"a\"\nseats = 2\nhome = 0\nproblem = 1\nother = 1\n",
+        "WrongKeys",
+    ),
+    ("sites = 0\nrecord = []\n", "TooFewSites"),
+    ("sites = 17\nrecord = []\n", "TooManySites"),
+    ("sites = 65536\nrecord = []\n", "TooManySites"),
+    ("sites = 2\nrecord = []\n", "NoRecords"),
+    (
+        "sites = 2\n[[record]]\nname = \"A\"\nseats = 2\nhome = 0\nproblem = 1\n",
+        "BadName",
+    ),
+    (
+        "sites = 2\n[[record]]\nname = \"a\"\nseats = 0\nhome = 9\nproblem = 1\n[[record]]\nname = \"a\"\nseats = 2\nhome = 0\nproblem = 1\n",
+        "SameName",
+    ),
+    (
+        "sites = 2\n[[record]]\nname = \"a\"\nseats = 0\nhome = 0\nproblem = 1\n",
+        "BadSeats",
+    ),
+    (
+        "sites = 2\n[[record]]\nname = \"a\"\nseats = 65536\nhome = 0\nproblem = 1\n",
+        "BadSeats",
+    ),
+    (
+        "sites = 2\n[[record]]\nname = \"a\"\nseats = 2\nhome = 2\nproblem = 1\n",
+        "BadHome",
+    ),
+    (
+        "sites = 2\n[[record]]\nname = \"a\"\nseats = 2\nhome = 65536\nproblem = 1\n",
+        "BadHome",
+    ),
+    (
+        "sites = 2\n[[record]]\nname = \"a\"\nseats = 2\nhome = 0\nproblem = 3\n",
+        "BadProblem",
+    ),
+];
+
+#[test]
+fn each_fault_of_a_layout_file_has_its_name(rt: HostRuntime) {
+    for (text, name) in LAYOUT_FILES {
+        assert_eq!(&rt; fault_of(rt.alloc(), text), name, "{text}");
+    }
+}
+
+#[test]
+fn too_many_records_and_no_utf8_have_their_names(rt: HostRuntime) {
+    let alloc = rt.alloc();
+    let mut text = String::from_str(alloc, "sites = 2\n").expect(&rt, "memory");
+    for _ in 0..257 {
+        let record = "[[record]]\nname = \"a\"\nseats = 2\nhome = 0\nproblem = 1\n";
+        text.push_str(record).expect(&rt, "memory");
+    }
+    assert_eq!(&rt; fault_of(alloc, text.as_str()), "TooManyRecords");
+    let fault = read_layout(alloc, &[255]).err().map(|fault| fault.name());
+    assert_eq!(&rt; fault, Some("NotToml"));
+}
+
+// The words behind the program's own, and the status that they end with: 0 where they are taken.
+const WORDS: [([&str; 3], u8); 14] = [
+    (["", "", ""], 0),
+    (["join", "", ""], 0),
+    (["join", "--layout", "three.toml"], 0),
+    (["join", "--layout=three.toml", ""], 0),
+    (["--help", "", ""], 0),
+    (["join", "--help", ""], 0),
+    (["--version", "", ""], 0),
+    (["--layout", "three.toml", ""], 2),
+    (["join", "--layout", ""], 2),
+    (["join", "three.toml", ""], 2),
+    (["join", "--sites", "3"], 2),
+    (["play", "", ""], 2),
+    (["help", "", ""], 2),
+    (["--", "", ""], 2),
+];
+
+// The words of the program, without those that are empty here.
+fn words_of(alloc: Global, behind: [&str; 3]) -> Result<Vec<String>, AllocError> {
+    let mut words = Vec::new(alloc);
+    words.push(String::from_str(alloc, "seat_cli")?)?;
+    for word in behind {
+        if !word.is_empty() {
+            words.push(String::from_str(alloc, word)?)?;
+        }
+    }
+    Ok(words)
+}
+
+#[test]
+fn words_are_taken_or_refused(rt: HostRuntime) {
+    let alloc = rt.alloc();
+    for (behind, status) in WORDS {
+        let words = words_of(alloc, behind).expect(&rt, "memory");
+        let ended = match layout_asked(alloc, words.as_slice()) {
+            Ok(_) => 0,
+            Err(error) => error.exit_code(),
+        };
+        assert_eq!(&rt; ended, i32::from(status), "{behind:?}");
+    }
+}
+
+#[test]
+fn the_layout_file_is_the_one_that_the_words_name(rt: HostRuntime) {
+    let alloc = rt.alloc();
+    let words = words_of(alloc, ["join", "--layout", "three.toml"]).expect(&rt, "memory");
+    let asked = layout_asked(alloc, words.as_slice());
+    assert_eq!(&rt; asked.ok(), Some(Some("three.toml")));
+}

@@ -1,0 +1,93 @@
+//! A reader and a writer whose bytes and faults the test chooses.
+use std::alloc::Global;
+use std::io;
+use std::io::{Error, ErrorKind, Read, Write};
+
+/// No call.
+pub const NEVER: usize = usize::MAX;
+
+/// Gives the bytes, at most 40 at a call, and then so many spaces. Call `fails` is answered with a fault.
+#[derive(Drop)]
+pub struct Giving<'a> {
+    bytes: &'a [u8],
+    spaces: usize,
+    call: usize,
+    fails: usize,
+}
+
+impl<'a> Giving<'a> {
+    pub fn new(bytes: &'a [u8], spaces: usize, fails: usize) -> Giving<'a> {
+        Giving {
+            bytes,
+            spaces,
+            call: 0,
+            fails,
+        }
+    }
+
+    /// How many spaces are left.
+    pub fn spaces(&self) -> usize {
+        self.spaces
+    }
+}
+
+impl Read for Giving<'_> {
+    fn read(&mut self, buf: &mut [u8]) -> io::Result<usize> {
+        let here = self.call;
+        self.call = here.saturating_add(1);
+        if here == self.fails {
+            return Err(Error::from(ErrorKind::Other));
+        }
+        let bytes = self.bytes;
+        if bytes.is_empty() {
+            let n = buf.len().min(self.spaces);
+            buf[..n].fill(b' ');
+            self.spaces = self.spaces.saturating_sub(n);
+            return Ok(n);
+        }
+        let n = buf.len().min(bytes.len()).min(40);
+        buf[..n].copy_from_slice(&bytes[..n]);
+        self.bytes = &bytes[n..];
+        Ok(n)
+    }
+}
+
+/// Keeps what is written, 7 bytes at a call. Call `fails` is answered with a fault.
+#[derive(Drop)]
+pub struct Keeping {
+    bytes: Vec<u8>,
+    call: usize,
+    fails: usize,
+}
+
+impl Keeping {
+    pub fn new(alloc: Global, fails: usize) -> Keeping {
+        Keeping {
+            bytes: Vec::new(alloc),
+            call: 0,
+            fails,
+        }
+    }
+
+    /// What was written.
+    pub fn bytes(&self) -> &[u8] {
+        self.bytes.as_slice()
+    }
+}
+
+impl Write for Keeping {
+    fn write(&mut self, buf: &[u8]) -> io::Result<usize> {
+        let here = self.call;
+        self.call = here.saturating_add(1);
+        if here == self.fails {
+            return Err(Error::from(ErrorKind::Other));
+        }
+        let n = buf.len().min(7);
+        self.bytes.extend_from_slice(&buf[..n])?;
+        Ok(n)
+    }
+
+    fn flush(&mut self) -> io::Result<()> {
+        Ok(())
+    }
+}

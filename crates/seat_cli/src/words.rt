@@ -1,0 +1,35 @@
+use clap::{Arg, ArgAction, Command, Error};
+use std::alloc::Global;
+
+const LAYOUT_HELP: &str =
+    "A TOML file with the sites and records [default: two sites, record a of two seats at site 0]";
+
+const JOIN_HELP: &str =
+    "Joins the delta texts of the input, one a line, and writes the joined book";
+
+const PROGRAM_HELP: &str = "Joins the books of sites that share seats of records";
+
+/// The path of the layout file that the words name, if they name one. The first word is the program's own;
+/// without a further one the command is `join`.
+pub fn layout_asked<'a>(alloc: Global, words: &'a [String]) -> Result<Option<&'a str>, Error> {
+    if words.len() <= 1 {
+        return Ok(None);
+    }
+    let layout = Arg::new(alloc, "layout")
+        .long("layout")
+        .value_name("FILE")
+        .help(LAYOUT_HELP)
+        .action(ArgAction::Set);
+    let join = Command::new(alloc, "join").about(JOIN_HELP).arg(layout)?;
+    let program = Command::new(alloc, "seat_cli")
+        .version("0.1.0")
+        .about(PROGRAM_HELP)
+        .subcommand_required(true)
+        .disable_help_subcommand(true)
+        .subcommand(join)?;
+    let matches = program.try_get_matches_from(words)?;
+    match matches.subcommand_matches("join") {
+        Some(found) => Ok(found.get_str("layout")),
+        None => Ok(None),
+    }
+}
