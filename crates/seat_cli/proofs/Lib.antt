@@ -1,4 +1,5 @@
 mod EngineLemmas
+mod ExampleLemmas
 mod JoinLaws
 mod LayoutLemmas
 mod LineLemmas

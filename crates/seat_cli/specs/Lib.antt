@@ -1,4 +1,5 @@
 pub mod Engine
+pub mod Examples
 pub mod Joins
 pub mod LayoutFile
 pub mod Stops

@@ -4,13 +4,16 @@ ghost use Rattle.seat_cli.specs.Texts.{fault_text, refusal_text};
 use delta_codec::DecodeError;
 use merge_core::CheckError;
 use std::alloc::{AllocError, Global};
+use thiserror::Error;
 
 /// Why a line was not joined.
-#[derive(Clone, Copy, Debug, PartialEq, Eq)]
+#[derive(Clone, Copy, Debug, PartialEq, Eq, Error)]
 pub enum LineFault {
     /// It is no delta's text.
+    #[error("{0}")]
     Unread(DecodeError),
     /// The layout's books do not take its delta.
+    #[error("{0}")]
     Unfit(CheckError),
 }
 

@@ -7,20 +7,24 @@ ghost use Rattle.seat_cli.specs.LayoutFile.{ReadsLayout, TellsLayout, layout_err
 use delta_codec::Unread;
 use merge_core::{Layout, LayoutError, RecordName, RecordSpec};
 use std::alloc::{AllocError, Global};
+use thiserror::Error;
 use toml::Value;
 
 /// Why there is no layout: the first that applies, from the top.
-#[derive(Clone, Copy, Debug, PartialEq, Eq)]
+#[derive(Clone, Copy, Debug, PartialEq, Eq, Error)]
 pub enum LayoutFault {
-    /// The file could not be read.
+    #[error("the layout file could not be read")]
     NotRead,
-    /// The file is no TOML document.
+    #[error("the layout file is no TOML document")]
     NotToml,
     /// A key is missing, unknown, of another kind, or an integer outside 0 to 65,536.
+    #[error("the layout file has other keys or values than a layout")]
     WrongKeys,
     /// The sites and records are no layout.
+    #[error("{0}")]
     Refused(LayoutError),
     /// Memory ran out, which may come before the text is judged.
+    #[error("out of memory")]
     Memory,
 }
 

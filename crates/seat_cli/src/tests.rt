@@ -1,5 +1,6 @@
 //! The engine with fake readers and writers, layout files, and words.
 mod fakes;
+mod hostile_bytes;
 
 use crate::engine::join_engine;
 use crate::layout_file::{built_in, read_layout};
@@ -43,7 +44,7 @@ fn joined(alloc: Global, lines: [&str; 4]) -> Result<String, AllocError> {
 
 // Whether the engine ends with this status, having written this.
 fn is_answer(alloc: Global, layout: &Layout, input: &str, status: Status, output: &str) -> bool {
-    let mut reader = Giving::new(input.as_bytes(), 0, NEVER);
+    let mut reader = Giving::new(input.as_bytes(), NEVER);
     let mut writer = Keeping::new(alloc, NEVER);
     let ended = join_engine(alloc, layout, &mut reader, &mut writer);
     ended == status && writer.bytes() == output.as_bytes()
@@ -166,7 +167,7 @@ fn the_first_refused_line_is_the_only_answer(rt: HostRuntime) {
 fn a_line_that_is_not_utf8_is_refused(rt: HostRuntime) {
     let alloc = rt.alloc();
     let layout = built_in(alloc).expect(&rt, "a layout");
-    let mut reader = Giving::new(&[255], 0, NEVER);
+    let mut reader = Giving::new(&[255], NEVER);
     let mut writer = Keeping::new(alloc, NEVER);
     let ended = join_engine(alloc, &layout, &mut reader, &mut writer);
     assert_eq!(&rt; ended, Status::Refused);
@@ -185,12 +186,12 @@ fn an_input_past_the_limit_is_refused(rt: HostRuntime) {
     let alloc = rt.alloc();
     let layout = built_in(alloc).expect(&rt, "a layout");
     for (spaces, output, lost) in LONG_INPUTS {
-        let mut reader = Giving::new(&[], spaces, NEVER);
+        let mut reader = Giving::new(&[], NEVER).followed_by(b' ', spaces);
         let mut writer = Keeping::new(alloc, NEVER);
         let ended = join_engine(alloc, &layout, &mut reader, &mut writer);
         assert_eq!(&rt; ended, Status::Refused);
         assert_eq!(&rt; writer.bytes(), output.as_bytes());
-        assert_eq!(&rt; spaces.saturating_sub(reader.spaces()), lost);
+        assert_eq!(&rt; spaces.saturating_sub(reader.fillers()), lost);
     }
 }
 
@@ -198,7 +199,7 @@ fn an_input_past_the_limit_is_refused(rt: HostRuntime) {
 fn a_reader_or_a_writer_that_fails_ends_with_status_7(rt: HostRuntime) {
     let alloc = rt.alloc();
     let layout = built_in(alloc).expect(&rt, "a layout");
-    // the input comes in two calls, a third tells the end; the answer goes out in twelve calls
+    // the input comes in two calls, a third tells the end; the answer goes out in twelve calls and a flush
     for (reads, writes) in [
         (0, NEVER),
         (1, NEVER),
@@ -206,8 +207,9 @@ fn a_reader_or_a_writer_that_fails_ends_with_status_7(rt: HostRuntime) {
         (NEVER, 0),
         (NEVER, 5),
         (NEVER, 11),
+        (NEVER, 12),
     ] {
-        let mut reader = Giving::new(GAVE.as_bytes(), 0, reads);
+        let mut reader = Giving::new(GAVE.as_bytes(), reads);
         let mut writer = Keeping::new(alloc, writes);
         let ended = join_engine(alloc, &layout, &mut reader, &mut writer);
         assert_eq!(&rt; ended.code(), 7);

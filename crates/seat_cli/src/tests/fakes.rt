@@ -6,28 +6,41 @@ use std::io::{Error, ErrorKind, Read, Write};
 /// No call.
 pub const NEVER: usize = usize::MAX;
 
-/// Gives the bytes, at most 40 at a call, and then so many spaces. Call `fails` is answered with a fault.
+/// Gives the bytes, at most 40 at a call, and then one byte so many times. Call `fails` is answered with a fault.
 #[derive(Drop)]
 pub struct Giving<'a> {
     bytes: &'a [u8],
-    spaces: usize,
+    filler: u8,
+    fillers: usize,
     call: usize,
     fails: usize,
 }
 
 impl<'a> Giving<'a> {
-    pub fn new(bytes: &'a [u8], spaces: usize, fails: usize) -> Giving<'a> {
+    pub fn new(bytes: &'a [u8], fails: usize) -> Giving<'a> {
         Giving {
             bytes,
-            spaces,
+            filler: b' ',
+            fillers: 0,
             call: 0,
             fails,
         }
     }
 
-    /// How many spaces are left.
-    pub fn spaces(&self) -> usize {
-        self.spaces
+    /// The same, and then this byte so many times.
+    pub fn followed_by(self, filler: u8, fillers: usize) -> Giving<'a> {
+        Giving {
+            bytes: self.bytes,
+            filler,
+            fillers,
+            call: self.call,
+            fails: self.fails,
+        }
+    }
+
+    /// How many of the bytes that follow are left.
+    pub fn fillers(&self) -> usize {
+        self.fillers
     }
 }
 
@@ -40,9 +53,9 @@ impl Read for Giving<'_> {
         }
         let bytes = self.bytes;
         if bytes.is_empty() {
-            let n = buf.len().min(self.spaces);
-            buf[..n].fill(b' ');
-            self.spaces = self.spaces.saturating_sub(n);
+            let n = buf.len().min(self.fillers);
+            buf[..n].fill(self.filler);
+            self.fillers = self.fillers.saturating_sub(n);
             return Ok(n);
         }
         let n = buf.len().min(bytes.len()).min(40);
@@ -52,7 +65,7 @@ impl Read for Giving<'_> {
     }
 }
 
-/// Keeps what is written, 7 bytes at a call. Call `fails` is answered with a fault.
+/// Keeps what is written, 7 bytes at a call; a flush is a call too. Call `fails` is answered with a fault.
 #[derive(Drop)]
 pub struct Keeping {
     bytes: Vec<u8>,
@@ -88,6 +101,11 @@ impl Write for Keeping {
     }
 
     fn flush(&mut self) -> io::Result<()> {
+        let here = self.call;
+        self.call = here.saturating_add(1);
+        if here == self.fails {
+            return Err(Error::from(ErrorKind::Other));
+        }
         Ok(())
     }
 }
