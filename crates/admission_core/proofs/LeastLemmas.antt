@@ -1,10 +1,11 @@
 -- The least number that passes a test, and the plan that rests on it.
 use Rattle.std.proofs.Common.{◌≡◌, ◌≢◌, ℕ, zero, suc, ◌+◌, ◌-◌, ◌<◌, ◌≤◌, ◌⊎◌, inl, inr, Bool, true, false, ◌&&◌, ◌||◌, cond, eqb, ltb, leb, Option, Some, None, refl, sym, ap, subst, ◌∙◌, arith}
-use Rattle.std.proofs.lemmas.Bool.{cases_eq, cases_Bool, cases_lt, eqb-false, leb-true, lt-ltb, le-ltb, and_parts, or_parts, cond-true, cond-false}
+use Rattle.std.proofs.lemmas.Bool.{cases_eq, cases_Bool, cases_lt, eqb-false, leb-true, ltb-true, lt-ltb, le-ltb, and_parts, or_parts, cond-true, cond-false}
 use Rattle.std.proofs.lemmas.Option.{same_Some}
 use Rattle.admission_core.specs.declared.reply.Plan.{Plan}
 use Rattle.admission_core.specs.Sums.{least_below, first_of_two}
 use Rattle.admission_core.specs.Account.{seats_in}
+use Rattle.admission_core.specs.Laws.{IsFeasible}
 use Rattle.admission_core.specs.View.{View, rights_of, fair_share, next_site, plan_for, plan_of, first_unfinished, shows_writer}
 
 -- k is the least number below n that passes the test
@@ -68,12 +69,6 @@ least_below-found n test k is = at (least_below n test) refl
             let yes_it : test k ≡ true = is.passes in cc
         meet found (inr upper) (inr lower) = omega arith
 
--- what a plan sends, and where
-pub record IsFeasible (v : View) (r : ℕ) (p : Plan) : Type 0 where
-  pub there : p.to < v.sites
-  pub elsewhere : p.to ≢ v.site
-  pub enough : p.seats ≤ rights_of v r
-
 next_there : (n i : ℕ) → i < n → 2 ≤ n → (next_site n i < n) × (next_site n i ≢ i)
 next_there n i below two = at (cases_lt (i + 1) n)
   where
@@ -99,8 +94,9 @@ plan_for-fits v r p below (Some w) within e = at (cases_Bool ((eqb w v.site) || 
         let to : w ≡ p.to = ap (λ (q : Plan). q.to) same in
         let seats : rights_of v r ≡ p.seats = ap (λ (q : Plan). q.seats) same in
         let apart = eqb-false w v.site (or_parts (eqb w v.site) (eqb (rights_of v r) 0) f).0 in
+        let some = eqb-false (rights_of v r) 0 (or_parts (eqb w v.site) (eqb (rights_of v r) 0) f).1 in
         let there = within w refl in
-        record { there = omega arith; elsewhere = λ here. apart (to ∙ here); enough = omega arith }
+        record { there = omega arith; elsewhere = λ here. apart (to ∙ here); some = omega arith; enough = omega arith }
 plan_for-fits v r p below None within e = at (cases_Bool (leb 2 v.sites && ltb (fair_share (seats_in v.layout r) v.sites) (rights_of v r)))
   where
     excess : Plan
@@ -114,8 +110,9 @@ plan_for-fits v r p below None within e = at (cases_Bool (leb 2 v.sites && ltb (
         let to : next_site v.sites v.site ≡ p.to = ap (λ (q : Plan). q.to) same in
         let seats : rights_of v r - fair_share (seats_in v.layout r) v.sites ≡ p.seats = ap (λ (q : Plan). q.seats) same in
         let two = leb-true 2 v.sites (and_parts (leb 2 v.sites) (ltb (fair_share (seats_in v.layout r) v.sites) (rights_of v r)) t).0 in
+        let above = ltb-true (fair_share (seats_in v.layout r) v.sites) (rights_of v r) (and_parts (leb 2 v.sites) (ltb (fair_share (seats_in v.layout r) v.sites) (rights_of v r)) t).1 in
         let next = next_there v.sites v.site below two in
-        record { there = subst (λ (x : ℕ). x < v.sites) to next.0; elsewhere = λ here. next.1 (to ∙ here); enough = omega arith }
+        record { there = subst (λ (x : ℕ). x < v.sites) to next.0; elsewhere = λ here. next.1 (to ∙ here); some = omega arith; enough = omega arith }
 
 pub plan_of-fits : (v : View) (r : ℕ) (p : Plan) → v.site < v.sites → plan_of v r ≡ Some p → IsFeasible v r p
 plan_of-fits v r p below e =

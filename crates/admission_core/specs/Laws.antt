@@ -1,5 +1,5 @@
 -- The statements of one site's laws.
-use Rattle.std.specs.Prelude.{◌≡◌, ◌↔◌, ℕ, ◌+◌, ◌-◌, ◌<◌, ◌≤◌, ◌⊎◌, List, [], ◌∷◌, length, None}
+use Rattle.std.specs.Prelude.{◌≡◌, ◌≢◌, ◌↔◌, ℕ, ◌+◌, ◌-◌, ◌<◌, ◌≤◌, ◌⊎◌, List, [], ◌∷◌, length, None}
 use Rattle.merge_core.specs.declared.cell.Cell.{Cell}
 use Rattle.merge_core.specs.declared.cell.Cell.TheVariants.{Out, Taken, Ann, Fin}
 use Rattle.merge_core.specs.declared.delta.Row.{Row}
@@ -7,6 +7,7 @@ use Rattle.merge_core.specs.Layout.{Shape, shape_of}
 use Rattle.grow_counters.specs.Counts.{counter_limit}
 use Rattle.merge_core.specs.Rows.{grant}
 use Rattle.merge_core.specs.Naming.{ReachesUnit, RowsName}
+use Rattle.admission_core.specs.declared.reply.Plan.{Plan}
 use Rattle.admission_core.specs.Sums.{total_others}
 use Rattle.admission_core.specs.Account.{Account, begin, sites_of, own, inside, writers_here, phase_of, sessions_of}
 use Rattle.admission_core.specs.Knowledge.{known, KnowsUnit, durable_part, resumed, restarted}
@@ -64,6 +65,13 @@ pub record MayAsk (v : View) (r h : ℕ) : Type 0 where
   pub holder : h ≤ holder_limit
   pub not_here : v.phase r h ≡ None
   pub room : v.counter r v.site Taken + 1 ≤ counter_limit
+
+-- a plan sends seats to another site of the layout, and no more than the site has rights to
+pub record IsFeasible (v : View) (r : ℕ) (plan : Plan) : Type 0 where
+  pub there : plan.to < v.sites
+  pub elsewhere : plan.to ≢ v.site
+  pub some : 0 < plan.seats
+  pub enough : plan.seats ≤ rights_of v r
 
 -- two views that differ in notices alone
 pub record DifferInNotices (v w : View) : Type 0 where

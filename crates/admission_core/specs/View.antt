@@ -1,6 +1,7 @@
 -- What a site decides by: its phases and its known counters. Rights, the least unfinished writer and the
 -- plan are stated over these alone, so that whatever shows the same phases and counters decides the same.
-use Rattle.std.specs.Prelude.{ℕ, ◌+◌, ◌-◌, ◌/◌, ◌%◌, ◌==◌, ◌||◌, ◌&&◌, min, Bool, nat_lt, nat_le, if◌then◌else◌, Option, Some, None, [], slice_index_or}
+use Rattle.std.specs.Prelude.{ℕ, ◌+◌, ◌-◌, ◌==◌, ◌||◌, ◌&&◌, Bool, nat_lt, nat_le, if◌then◌else◌, Option, Some, None, [], slice_index_or}
+use Rattle.std.specs.Int.{div_ceil}
 use Rattle.merge_core.specs.declared.cell.Cell.{Cell}
 use Rattle.merge_core.specs.declared.cell.Cell.TheVariants.{Out, Taken, Ann, Fin}
 use Rattle.merge_core.specs.Layout.{LayoutState}
@@ -55,7 +56,7 @@ first_unfinished v r = least_below v.sites (shows_writer v r)
 
 -- the seats of a record, shared out evenly over the sites and rounded up
 abbrev pub fair_share : ℕ → ℕ → ℕ
-fair_share seats sites = seats / sites + min 1 (seats % sites)
+fair_share seats sites = div_ceil seats sites
 
 -- the site after i, and site 0 after the last one
 abbrev pub next_site : ℕ → ℕ → ℕ

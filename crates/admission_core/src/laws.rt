@@ -1,5 +1,5 @@
 //! Laws of the definitions in specs/: functions that do nothing, whose contracts are the laws.
-ghost use Rattle.std.specs.Prelude.{◌≡◌, ◌↔◌, ℕ, ◌<◌, IsTrue, List, length};
+ghost use Rattle.std.specs.Prelude.{◌≡◌, ◌↔◌, ℕ, ◌<◌, IsTrue, List, length, Some};
 ghost use Rattle.merge_core.specs.declared.cell.Cell.{Cell};
 ghost use Rattle.merge_core.specs.declared.delta.Row.{Row};
 ghost use Rattle.merge_core.specs.Layout.{LayoutState, shape_of};
@@ -9,13 +9,14 @@ ghost use Rattle.admission_core.specs.declared.ask.Ask.TheVariants.{Read};
 ghost use Rattle.admission_core.specs.declared.ask.Call.TheVariants.{Ask as Asks};
 ghost use Rattle.admission_core.specs.declared.reply.Refusal.TheVariants.{WriterAnnounced};
 ghost use Rattle.admission_core.specs.declared.reply.Reply.TheVariants.{Refused};
+ghost use Rattle.admission_core.specs.declared.reply.Plan.{Plan};
 ghost use Rattle.admission_core.specs.Account.{Account, Origin, begin, start_origin};
 ghost use Rattle.admission_core.specs.Knowledge.{known, hears_all, resumed};
-ghost use Rattle.admission_core.specs.View.{View, problem_in};
+ghost use Rattle.admission_core.specs.View.{View, plan_of, problem_in};
 ghost use Rattle.admission_core.specs.Merging.{is_placed, is_valid, snapshot_of};
 ghost use Rattle.admission_core.specs.Serving.{Step, replay, reply_of};
 ghost use Rattle.admission_core.specs.Sound.{IsOrigin};
-ghost use Rattle.admission_core.specs.Laws.{CountsUnits, CountsSessions, KnowTheSame, NameTheSame, IsCellOf, IsFirstUnfinished, MayAsk, DifferInNotices, IsResumed, KeepsDurable};
+ghost use Rattle.admission_core.specs.Laws.{CountsUnits, CountsSessions, KnowTheSame, NameTheSame, IsCellOf, IsFirstUnfinished, MayAsk, DifferInNotices, IsFeasible, IsResumed, KeepsDurable};
 
 /// An account may begin at the start of each site, and wherever a stop leaves an account.
 pub fn origin_law()
@@ -56,6 +57,11 @@ pub fn equal_books_law()
 pub fn announced_writer_law()
     ensures held { (v : View) → (r h s : ℕ) → problem_in v.layout r ≡ 2 → MayAsk v r h → IsFirstUnfinished v r s → reply_of v (Asks (Read r h)) ≡ Refused (WriterAnnounced s) }
     ensures not_held { (v w : View) → (r h : ℕ) → problem_in v.layout r ≡ 1 → DifferInNotices v w → reply_of w (Asks (Read r h)) ≡ reply_of v (Asks (Read r h)) }
+{}
+
+/// A plan sends seats to another site of the layout, and no more than the site has rights to.
+pub fn plan_law()
+    ensures { (v : View) → (r : ℕ) → (plan : Plan) → v.site < v.sites → plan_of v r ≡ Some plan → IsFeasible v r plan }
 {}
 
 /// What a restart keeps is the durable part, and the account that begins from it is the restarted one.

@@ -7,9 +7,8 @@ use Rattle.std.proofs.lemmas.Fmt.{length-decimal-le}
 use Rattle.merge_core.specs.Delta.{DeltaState, IsDelta, IsRow, IsRising}
 use Rattle.merge_core.specs.declared.delta.Row.{Row}
 use Rattle.delta_codec.specs.Lists.{later, joined}
-use Rattle.delta_codec.specs.Decodes.{HasNoDelta}
+use Rattle.delta_codec.specs.Decodes.{HasNoDelta, text_limit}
 use Rattle.delta_codec.specs.DeltaText.{row_text, delta_text}
-use Rattle.delta_codec.specs.declared.TheConstants.{TEXT_LIMIT}
 use Rattle.delta_codec.proofs.DeltaLaws.{few_rows}
 
 counter_length : (n : ℕ) → n < 2 ^ 64 → length (decimal n) ≤ 20
@@ -66,7 +65,7 @@ delta_length d is =
     simp length-append (omega arith)
 
 -- beyond the limit there is no delta's text
-pub too_long_none : (bytes : List ℕ) → TEXT_LIMIT < length bytes → HasNoDelta bytes
+pub too_long_none : (bytes : List ℕ) → text_limit < length bytes → HasNoDelta bytes
 too_long_none bytes long d is text =
     let short = delta_length d is in
     let same : length bytes ≡ length (delta_text d) = ap length text in

@@ -3,9 +3,12 @@ use Rattle.std.specs.Prelude.{ℕ, ◌≡◌, ◌≤◌, ◌<◌, List, length, 
 use Rattle.serde_json.specs.Read.{read}
 use Rattle.merge_core.specs.Delta.{DeltaState, IsDelta}
 use Rattle.delta_codec.specs.DeltaText.{delta_text}
-use Rattle.delta_codec.specs.declared.TheConstants.{TEXT_LIMIT}
 use Rattle.delta_codec.specs.declared.fault.DecodeError.{DecodeError}
 use Rattle.delta_codec.specs.declared.fault.DecodeError.TheVariants.{TooLong, NotUtf8, NotJson, NotCanonical, Memory}
+
+-- the most bytes of a text that is read (this project's own limit)
+abbrev pub text_limit : ℕ
+text_limit = 2097152
 
 -- the bytes are no delta's text
 abbrev pub HasNoDelta : List ℕ → Type 0
@@ -13,14 +16,14 @@ HasNoDelta bytes = (d : DeltaState) → IsDelta d → bytes ≡ delta_text d →
 
 -- text within the limit
 abbrev pub IsText : List ℕ → Type 0
-IsText bytes = (length bytes ≤ TEXT_LIMIT) × IsUtf8 bytes
+IsText bytes = (length bytes ≤ text_limit) × IsUtf8 bytes
 
 -- What is read is the delta whose text the bytes are, and each fault says that there is none, and that no
 -- earlier fault applies. A text is JSON where `serde_json` reads it. Memory may run out at any time.
 abbrev pub Decodes : List ℕ → Result DeltaState DecodeError → Type 0
 Decodes bytes (Ok d) = IsDelta d × (bytes ≡ delta_text d)
-Decodes bytes (Err TooLong) = HasNoDelta bytes × (TEXT_LIMIT < length bytes)
-Decodes bytes (Err NotUtf8) = HasNoDelta bytes × (length bytes ≤ TEXT_LIMIT) × ¬ IsUtf8 bytes
+Decodes bytes (Err TooLong) = HasNoDelta bytes × (text_limit < length bytes)
+Decodes bytes (Err NotUtf8) = HasNoDelta bytes × (length bytes ≤ text_limit) × ¬ IsUtf8 bytes
 Decodes bytes (Err NotJson) = HasNoDelta bytes × IsText bytes × (read bytes ≡ None)
 Decodes bytes (Err NotCanonical) = HasNoDelta bytes × IsText bytes × IsSome (read bytes)
 Decodes bytes (Err Memory) = Unit {0}

@@ -1,6 +1,6 @@
 ghost use Rattle.std.specs.Prelude.{◌≡◌, ◌≤◌, ◌⊎◌, length, Ok, Err, MatchResult};
 ghost use Rattle.merge_core.specs.Delta.{DeltaState, IsDelta};
-ghost use Rattle.delta_codec.specs.Decodes.{Decodes, HasNoDelta};
+ghost use Rattle.delta_codec.specs.Decodes.{Decodes, HasNoDelta, text_limit};
 ghost use Rattle.delta_codec.specs.DeltaReaders.{delta_at};
 ghost use Rattle.delta_codec.specs.DeltaText.{delta_text};
 ghost use Rattle.delta_codec.specs.Readers.{Gives};
@@ -44,7 +44,7 @@ fn read(alloc: Global, bytes: &[u8]) -> Result<Delta, Unread>
 
 // What is wrong with bytes that are no delta's text. Only here `serde_json` reads them.
 fn fault_of(alloc: Global, bytes: &[u8]) -> DecodeError
-    requires short { length bytes.now ≤ TEXT_LIMIT }
+    requires short { length bytes.now ≤ text_limit }
     requires none { HasNoDelta bytes.now }
     ensures { Decodes bytes.now (Err result) }
 {

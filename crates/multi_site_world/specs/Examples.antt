@@ -1,12 +1,17 @@
 -- Short scripts over two small layouts, with the replies that are wanted.
-use Rattle.std.specs.Prelude.{ℕ, zero, suc, List, [], ◌∷◌, ◌++◌}
+use Rattle.std.specs.Prelude.{ℕ, zero, suc, ◌+◌, ◌==◌, ◌&&◌, if◌then◌else◌, List, [], ◌∷◌, ◌++◌}
+use Rattle.merge_core.specs.declared.cell.Cell.{Cell}
+use Rattle.merge_core.specs.declared.cell.Cell.TheVariants.{Out, Taken, Ann, Fin}
+use Rattle.merge_core.specs.declared.delta.Row.{Row}
 use Rattle.merge_core.specs.Delta.{DeltaState}
 use Rattle.merge_core.specs.Layout.{LayoutState}
 use Rattle.admission_core.specs.declared.ask.Ask.TheVariants.{Read, Announce, Quill, Leave, Give, Help}
 use Rattle.admission_core.specs.declared.ask.Phase.TheVariants.{Reader, Waiting, Writer}
-use Rattle.admission_core.specs.declared.reply.Refusal.TheVariants.{NoRecord, BadHolder, CounterFull, NoSeat, WriterAnnounced, TooManyWriters, NotAnnounced, MissingSeats, NotHere, ToSelf, ZeroSeats, TooFewRights, NoPlan}
+use Rattle.admission_core.specs.declared.reply.Refusal.TheVariants.{NoRecord, BadHolder, AlreadyHere, CounterFull, NoSeat, WriterAnnounced, TooManyWriters, NotAnnounced, AlreadyInside, MissingSeats, NotHere, NoSite as NoSuchSite, ToSelf, ZeroSeats, TooFewRights, NoPlan}
 use Rattle.admission_core.specs.declared.reply.Reply.{Reply}
 use Rattle.admission_core.specs.declared.reply.Reply.TheVariants.{Admitted, Announced, Left, Given, Gave, Merged, Refused}
+use Rattle.admission_core.specs.Account.{begin}
+use Rattle.admission_core.specs.View.{View, view_of}
 use Rattle.multi_site_world.specs.declared.event.Event.{Event}
 use Rattle.multi_site_world.specs.declared.event.Event.TheVariants.{Call, Send, Take, Restart}
 use Rattle.multi_site_world.specs.declared.event.WorldReply.{WorldReply}
@@ -129,3 +134,55 @@ seat_moves_message = record {
   from = 0;
   rows = record { r = 0; s = 0; out = 2 ∷ (1 ∷ []); taken = 0; ann = 0; fin = 0 } ∷ [];
 }
+
+-- three seats at two sites: a share is two, rounded up; the last site's excess goes to site 0
+abbrev pub seats_shared : List Event
+seats_shared =
+    Call 0 (Help 0) ∷ Call 0 (Help 0) ∷ Call 0 (Give 0 1 2) ∷ Send 0 ∷ Take 1 0 ∷ Call 1 (Help 0) ∷ []
+
+abbrev pub seats_shared_replies : List WorldReply
+seats_shared_replies =
+    Core (Gave 1 1) ∷ Core (Refused NoPlan) ∷ Core Given ∷ Sent 0 ∷ Core (Merged 1) ∷ Core (Gave 0 1) ∷ []
+
+-- a row of site 0 with these counters, at a layout of two sites
+abbrev pub row_at_start : ℕ → ℕ → ℕ → Row
+row_at_start r ann fin = record { r = r; s = 0; out = 2 ∷ (0 ∷ []); taken = 0; ann = ann; fin = fin }
+
+-- two rows, of which the second names no record of the layout, or no row that a site can have
+abbrev pub other_layout_message : DeltaState
+other_layout_message = record { from = 0; rows = row_at_start 0 0 1 ∷ (row_at_start 1 0 0 ∷ []) }
+
+abbrev pub bad_row_message : DeltaState
+bad_row_message = record { from = 0; rows = row_at_start 0 1 1 ∷ (row_at_start 0 0 1 ∷ []) }
+
+-- where two refusals apply, the earlier one is told; the greatest holder and the greatest hand-over are within
+-- their limits
+abbrev pub refusals_in_order : List Event
+refusals_in_order =
+    Call 0 (Give 0 1 1000000000000) ∷ Call 0 (Give 0 1 1000000000001) ∷ Call 0 (Read 0 1) ∷ Call 0 (Read 0 1)
+    ∷ Call 0 (Announce 0 1) ∷ Call 0 (Quill 0 1) ∷ Call 0 (Announce 0 2) ∷ Call 0 (Read 0 1000000000000)
+    ∷ Call 0 (Leave 0 1) ∷ Call 0 (Quill 0 2) ∷ Call 0 (Quill 0 2) ∷ Call 0 (Read 0 3) ∷ Call 0 (Read 0 2)
+    ∷ Call 0 (Read 1 1000000000001) ∷ Call 0 (Give 0 5 0) ∷ Call 0 (Give 0 0 0) ∷ Call 0 (Give 0 1 1) ∷ Call 0 (Help 0)
+    ∷ Call 0 (Leave 0 2) ∷ Call 0 (Leave 0 2) ∷ []
+
+abbrev pub refusals_in_order_replies : List WorldReply
+refusals_in_order_replies = answered (
+    Refused (TooFewRights 2) ∷ Refused CounterFull ∷ Admitted ∷ Refused AlreadyHere
+    ∷ Refused AlreadyHere ∷ Refused NotAnnounced ∷ Announced 1 ∷ Refused (WriterAnnounced 0)
+    ∷ Left Reader ∷ Admitted ∷ Refused AlreadyInside ∷ Refused (WriterAnnounced 0) ∷ Refused AlreadyHere
+    ∷ Refused NoRecord ∷ Refused NoSuchSite ∷ Refused ToSelf ∷ Refused (TooFewRights 0) ∷ Refused NoPlan
+    ∷ Left Writer ∷ Refused NotHere ∷ [])
+
+-- site 0 of two, where so many seats were taken and given back, and so many writers came and went
+abbrev pub used_counters : ℕ → ℕ → ℕ → Cell → ℕ
+used_counters n r s (Out j) = if (s == 0) && (j == 0) then n + 2 else 0
+used_counters n r s Taken = if s == 0 then n else 0
+used_counters n r s Ann = if s == 0 then n else 0
+used_counters n r s Fin = if s == 0 then n else 0
+
+abbrev pub used_site : ℕ → View
+used_site n = view_of (begin (record {
+  layout = small_layout 2 2 1;
+  site = 0;
+  base = record { counters = used_counters n; sessions = [] };
+}))

@@ -1,13 +1,13 @@
 //! Laws of the definitions in specs/: functions that do nothing, whose contracts are the laws.
-ghost use Rattle.std.specs.Prelude.{◌≡◌, ◌++◌, ℕ, ◌<◌, ◌≤◌, List, length};
+ghost use Rattle.std.specs.Prelude.{◌≡◌, ◌++◌, ◌∷◌, [], ℕ, ◌<◌, ◌≤◌, List, length};
 ghost use Rattle.std.specs.List.{AllByRecursion};
 ghost use Rattle.merge_core.specs.declared.cell.Cell.{Cell};
 ghost use Rattle.merge_core.specs.Delta.{DeltaState};
 ghost use Rattle.merge_core.specs.Layout.{LayoutState, IsLayout};
-ghost use Rattle.admission_core.specs.declared.ask.Ask.TheVariants.{Read};
-ghost use Rattle.admission_core.specs.declared.ask.Call.TheVariants.{Merge};
-ghost use Rattle.admission_core.specs.declared.reply.Refusal.TheVariants.{WriterAnnounced, OwnRowAhead};
-ghost use Rattle.admission_core.specs.declared.reply.Reply.TheVariants.{Refused};
+ghost use Rattle.admission_core.specs.declared.ask.Ask.TheVariants.{Read, Announce};
+ghost use Rattle.admission_core.specs.declared.ask.Call.TheVariants.{Ask as Asks, Merge};
+ghost use Rattle.admission_core.specs.declared.reply.Refusal.TheVariants.{CounterFull, WriterAnnounced, OtherLayout, BadRow, OwnRowAhead};
+ghost use Rattle.admission_core.specs.declared.reply.Reply.TheVariants.{Admitted, Announced, Refused};
 ghost use Rattle.admission_core.specs.Account.{begin, seats_in, start_origin};
 ghost use Rattle.admission_core.specs.Knowledge.{known};
 ghost use Rattle.admission_core.specs.View.{problem_in, view_of, rights_of};
@@ -18,7 +18,7 @@ ghost use Rattle.multi_site_world.specs.declared.event.Event.TheVariants.{Call, 
 ghost use Rattle.multi_site_world.specs.declared.event.WorldReply.TheVariants.{Core};
 ghost use Rattle.multi_site_world.specs.World.{account_at, replies, run, start_world, world_reply};
 ghost use Rattle.multi_site_world.specs.Laws.{IsConserved, IsWriterAlone, IsSentBefore, HeardNoMore, WasSent, all_inside, replayed, IsMergedReply, gathering, AreTheOthers, IsNeverFull, AreGathered, MayGather};
-ghost use Rattle.multi_site_world.specs.Examples.{small_layout, seat_moves, seat_moves_replies, writer_announced, writer_announced_replies, reader_not_held, writer_helped, writer_helped_replies, writer_done, writer_done_replies, seat_kept, seat_kept_replies, writer_forgotten, writer_forgotten_replies, writer_withdraws, writer_withdraws_replies, stale_book, stale_book_replies, refusals, refusals_replies, writers_announced, writers_announced_replies, writers_limit, writers_limit_replies, seat_moves_message};
+ghost use Rattle.multi_site_world.specs.Examples.{small_layout, seat_moves, seat_moves_replies, writer_announced, writer_announced_replies, reader_not_held, writer_helped, writer_helped_replies, writer_done, writer_done_replies, seat_kept, seat_kept_replies, writer_forgotten, writer_forgotten_replies, writer_withdraws, writer_withdraws_replies, stale_book, stale_book_replies, refusals, refusals_replies, writers_announced, writers_announced_replies, writers_limit, writers_limit_replies, seats_shared, seats_shared_replies, refusals_in_order, refusals_in_order_replies, used_site, seat_moves_message, other_layout_message, bad_row_message};
 
 /// Seats are conserved: after every list of events a record's seats are the rights of all sites, the weights
 /// inside and the seats in flight, and no site has spent more than it gained.
@@ -79,5 +79,14 @@ pub fn examples()
     ensures stale_book { replies stale_book (start_world (small_layout 3 3 2)) ≡ stale_book_replies }
     ensures refusals { replies refusals (start_world (small_layout 2 2 1)) ≡ refusals_replies }
     ensures writers_limit { replies (writers_announced 64 ++ writers_limit) (start_world (small_layout 2 2 1)) ≡ writers_announced_replies 64 ++ writers_limit_replies }
+    ensures seats_shared { replies seats_shared (start_world (small_layout 2 3 1)) ≡ seats_shared_replies }
+    ensures refusals_in_order { replies refusals_in_order (start_world (small_layout 2 2 2)) ≡ refusals_in_order_replies }
+    ensures last_seat_taken { reply_of (used_site 999999999999) (Asks (Read 0 1)) ≡ Admitted }
+    ensures taken_full { reply_of (used_site 1000000000000) (Asks (Read 0 1)) ≡ Refused CounterFull }
+    ensures last_announced { reply_of (used_site 999999999999) (Asks (Announce 0 1)) ≡ Announced 1000000000000 }
+    ensures announced_full { reply_of (used_site 1000000000000) (Asks (Announce 0 1)) ≡ Refused CounterFull }
+    ensures message { (run seat_moves (start_world (small_layout 2 2 1))).sent ≡ seat_moves_message ∷ [] }
+    ensures other_layout { reply_of (view_of (begin (start_origin (small_layout 2 2 1) 1))) (Merge other_layout_message) ≡ Refused (OtherLayout 1) }
+    ensures bad_row { reply_of (view_of (begin (start_origin (small_layout 2 2 1) 1))) (Merge bad_row_message) ≡ Refused (BadRow 1) }
     ensures own_row_ahead { reply_of (view_of (begin (start_origin (small_layout 2 2 1) 0))) (Merge seat_moves_message) ≡ Refused (OwnRowAhead 0) }
 {}

@@ -3,7 +3,7 @@ use Rattle.std.proofs.Common.{◌≡◌, ◌≢◌, ℕ, ◌+◌, ◌<◌, ◌�
 use Rattle.std.proofs.lemmas.List.{get_or_past}
 use Rattle.std.proofs.lemmas.Bool.{cases_lt, cases_cond}
 use Rattle.std.proofs.lemmas.Bool.Decides.{nat_tests}
-use Rattle.rights_matrix.specs.declared.limits.TheConstants.{COUNTER_LIMIT}
+use Rattle.grow_counters.specs.Counts.{counter_limit}
 use Rattle.rights_matrix.specs.Kept.{kept_entry}
 use Rattle.rights_matrix.specs.Matrix.{MatrixState, site_count, grant, row_of, entry, start_entry, IsValidRow, IsMatrix}
 use Rattle.rights_matrix.proofs.MatrixLemmas.{IsMatrix-with_rows}
@@ -53,11 +53,11 @@ IsValidRow-kept m site i row v each = record {
     granted (inl is) = omega (arith, each i, is, v.granted)
     granted (inr is) = omega (arith, each i, is, start_entry_own m i)
 
-    own : (kept_entry m site i i ≡ entry m i i) ⊎ (kept_entry m site i i ≡ start_entry m i i) → get_or row i 0 ≤ grant m i + COUNTER_LIMIT
+    own : (kept_entry m site i i ≡ entry m i i) ⊎ (kept_entry m site i i ≡ start_entry m i i) → get_or row i 0 ≤ grant m i + counter_limit
     own (inl is) = omega (arith, each i, is, v.own)
     own (inr is) = omega (arith, each i, is, start_entry_own m i)
 
-    sent : (j : ℕ) → j ≢ i → (kept_entry m site i j ≡ entry m i j) ⊎ (kept_entry m site i j ≡ start_entry m i j) → get_or row j 0 ≤ COUNTER_LIMIT
+    sent : (j : ℕ) → j ≢ i → (kept_entry m site i j ≡ entry m i j) ⊎ (kept_entry m site i j ≡ start_entry m i j) → get_or row j 0 ≤ counter_limit
     sent j other (inl is) = omega (arith, each j, is, v.sent j other)
     sent j other (inr is) = omega (arith, each j, is, start_entry_other m i j other)
 

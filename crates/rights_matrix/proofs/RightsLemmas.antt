@@ -7,7 +7,7 @@ use Rattle.std.proofs.lemmas.Bool.{cases_eq}
 use Rattle.std.proofs.lemmas.Bool.Decides.{nat_tests}
 use Rattle.grow_counters.specs.Counts.{maxima}
 use Rattle.grow_counters.proofs.CountsLemmas.{get_or-maxima}
-use Rattle.rights_matrix.specs.declared.limits.TheConstants.{COUNTER_LIMIT}
+use Rattle.grow_counters.specs.Counts.{counter_limit}
 use Rattle.rights_matrix.specs.Changes.{MovesRights, MakesRights, SameRightsAt}
 use Rattle.rights_matrix.specs.Joined.{joined_at}
 use Rattle.rights_matrix.specs.Kept.{kept_entry}
@@ -115,7 +115,7 @@ SameRightsAt-kept m rows site size width each = record {
     same_row = ext_get_or 0 (get_or rows site []) (row_of m site) width (λ k below. each site k ∙ in_row k)
 
 -- what the table of refusals says where it refuses nothing
-pub transfer_allowed : (m : MatrixState) (i j n taken : ℕ) → transfer_fault m i j n taken ≡ None → (j ≢ i) × (entry m i j + n ≤ COUNTER_LIMIT) × (n ≤ rights_of m i taken)
+pub transfer_allowed : (m : MatrixState) (i j n taken : ℕ) → transfer_fault m i j n taken ≡ None → (j ≢ i) × (entry m i j + n ≤ counter_limit) × (n ≤ rights_of m i taken)
 transfer_allowed m i j n taken none = (grind (arith, nat_tests), grind (arith, nat_tests), grind (arith, nat_tests))
 
 -- after a transfer the giver's rights are still no negative number

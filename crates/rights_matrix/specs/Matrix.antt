@@ -2,7 +2,7 @@
 -- for Enforcing Numeric Invariants", 2015). Entry (i, i) counts the increments made at site i, entry (i, j)
 -- the rights that site i has sent to site j. Here all rights are granted to one home site at the start.
 use Rattle.std.specs.Prelude.{◌≡◌, ◌≢◌, ℕ, ◌+◌, ◌-◌, ◌^◌, ◌<◌, ◌≤◌, ◌==◌, if◌then◌else◌, List, [], length, replicate, slice_index, slice_index_or, slice_set, sum, sum_by}
-use Rattle.rights_matrix.specs.declared.limits.TheConstants.{COUNTER_LIMIT}
+use Rattle.grow_counters.specs.Counts.{counter_limit}
 
 -- what contracts see of the matrix of one record: its home site, its seats and its rows
 pub record MatrixState : Type 0 where
@@ -62,8 +62,8 @@ HasRights m i taken = spent m i taken ≤ gained m i
 -- what site s may say of itself: it never has less than its grant, and no counter is past its limit
 pub record IsValidRow (m : MatrixState) (s : ℕ) (row : List ℕ) : Type 0 where
   pub granted : grant m s ≤ slice_index row s
-  pub own : slice_index row s ≤ grant m s + COUNTER_LIMIT
-  pub sent : (j : ℕ) → j ≢ s → slice_index row j ≤ COUNTER_LIMIT
+  pub own : slice_index row s ≤ grant m s + counter_limit
+  pub sent : (j : ℕ) → j ≢ s → slice_index row j ≤ counter_limit
 
 -- what holds of every matrix; with a home site there is at least one row
 pub record IsMatrix (m : MatrixState) : Type 0 where

@@ -1,6 +1,6 @@
 -- A transfer of rights (Balegas et al., 2015): made only where the giver has at least as many.
 use Rattle.std.specs.Prelude.{ℕ, ◌+◌, ◌==◌, nat_lt, if◌then◌else◌, Option, Some, None}
-use Rattle.rights_matrix.specs.declared.limits.TheConstants.{COUNTER_LIMIT}
+use Rattle.grow_counters.specs.Counts.{counter_limit}
 use Rattle.rights_matrix.specs.declared.faults.TransferError.{TransferError}
 use Rattle.rights_matrix.specs.declared.faults.TransferError.TheVariants.{ToSelf, ZeroSeats, CounterFull, TooFewRights}
 use Rattle.rights_matrix.specs.Matrix.{MatrixState, entry, rights_of}
@@ -10,5 +10,5 @@ abbrev pub transfer_fault : MatrixState → ℕ → ℕ → ℕ → ℕ → Opti
 transfer_fault m i j n taken =
     if i == j then Some ToSelf else (
     if n == 0 then Some ZeroSeats else (
-    if nat_lt COUNTER_LIMIT (entry m i j + n) then Some CounterFull else (
+    if nat_lt counter_limit (entry m i j + n) then Some CounterFull else (
     if nat_lt (rights_of m i taken) n then Some (TooFewRights (rights_of m i taken)) else None)))

@@ -2,11 +2,9 @@
 #![tactic(auto)]
 
 pub use faults::TransferError;
-pub use limits::COUNTER_LIMIT;
 pub use rights::Rights;
 
 mod faults;
-mod limits;
 mod rights;
 #[cfg(test)]
 mod tests;

@@ -4,11 +4,10 @@ ghost use Rattle.rights_matrix.specs.Joined.{joined, joined_at, joined_rows, ris
 ghost use Rattle.rights_matrix.specs.Kept.{kept_counter, kept_entry};
 ghost use Rattle.rights_matrix.specs.Matrix.{MatrixState, matrix_of, site_count, grant, row_of, entry, start_matrix, gained, given, spent, rights_of, HasRights, IsValidRow, IsMatrix, SameShape, raised};
 ghost use Rattle.rights_matrix.specs.Transfer.{transfer_fault};
-ghost use Rattle.grow_counters.specs.Counts.{rise_count};
+ghost use Rattle.grow_counters.specs.Counts.{counter_limit, rise_count};
 
 use crate::faults::TransferError;
-use crate::limits::COUNTER_LIMIT;
-use grow_counters::Counts;
+use grow_counters::{COUNTER_LIMIT, Counts};
 use std::alloc::{AllocError, Global};
 use std::marker::Model;
 
@@ -156,7 +155,7 @@ impl Rights {
     /// Counts `n` increments at site `i`: rights that were taken there and come back.
     pub fn give_back(&mut self, i: u16, n: u64)
         requires site { i < site_count self.old }
-        requires room { entry self.old i i - grant self.old i + n ≤ COUNTER_LIMIT }
+        requires room { entry self.old i i - grant self.old i + n ≤ counter_limit }
         ensures state { self.new ≡ raised self.old i i n }
         ensures rights { MakesRights self.old self.new i n }
         ensures matrix { IsMatrix self.new }
@@ -247,7 +246,7 @@ fn column_sum(rows: &Vec<Counts>, i: usize) -> u64
     requires wide { (k : ℕ) → k < length rows.now.items →
         i < length (slice_index_or rows.now.items k []) }
     requires small { (k : ℕ) → k < length rows.now.items →
-        slice_index (slice_index_or rows.now.items k []) i ≤ 2 * COUNTER_LIMIT }
+        slice_index (slice_index_or rows.now.items k []) i ≤ 2 * counter_limit }
     ensures { result ≡ sum_by (λ row. slice_index row i) rows.now.items }
 {
     let mut all = 0;

@@ -6,9 +6,8 @@ use Rattle.merge_core.specs.Delta.{DeltaState}
 use Rattle.merge_core.specs.Book.{BookState}
 use Rattle.merge_core.specs.Snapshot.{snapshot_rows}
 use Rattle.delta_codec.specs.DeltaText.{delta_text}
-use Rattle.text_input.specs.declared.TheConstants.{INPUT_LIMIT}
 use Rattle.text_input.specs.declared.input.InputError.TheVariants.{TooLong}
-use Rattle.text_input.specs.Input.{ReadsInput, LosesSome}
+use Rattle.text_input.specs.Input.{ReadsInput, LosesSome, input_limit}
 use Rattle.text_input.specs.Lines.{lines_of}
 use Rattle.seat_cli.specs.declared.fault.LineFault.{LineFault}
 use Rattle.seat_cli.specs.declared.status.Status.{Status}
@@ -51,8 +50,8 @@ EndsJoin shape reader reader_after writer writer_after Done =
 EndsJoin shape reader reader_after writer writer_after Refused =
     ((bytes : List ℕ) × ReadsInput reader reader_after (Ok bytes) × WritesRefusal shape (lines_of bytes) writer writer_after)
     ⊎ (ReadsInput reader reader_after (Err TooLong) × Appends writer writer_after too_long_text)
-EndsJoin shape reader reader_after writer writer_after Memory = LosesSome reader reader_after (INPUT_LIMIT + 1)
-EndsJoin shape reader reader_after writer writer_after Io = LosesSome reader reader_after (INPUT_LIMIT + 1)
+EndsJoin shape reader reader_after writer writer_after Memory = LosesSome reader reader_after (input_limit + 1)
+EndsJoin shape reader reader_after writer writer_after Io = LosesSome reader reader_after (input_limit + 1)
 
 -- the status that the program ends with
 abbrev pub status_code : Status → ℕ

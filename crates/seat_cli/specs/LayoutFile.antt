@@ -107,3 +107,14 @@ built_in_layout = record {
   sites = 2;
   records = record { name = codes "a"; seats = 2; home = 0; problem = 1 } ∷ [];
 }
+
+-- what the program finds without a layout file: the built-in layout
+abbrev pub FindsBuiltIn : Result LayoutState LayoutFault → Type 0
+FindsBuiltIn (Ok layout) = layout ≡ built_in_layout
+FindsBuiltIn (Err e) = e ≡ Memory
+
+-- what it finds at a layout file: what some bytes describe, or that the file could not be read. No contract can
+-- say what a file holds
+abbrev pub FindsFile : Result LayoutState LayoutFault → Type 0
+FindsFile (Err NotRead) = Unit {0}
+FindsFile answer = (bytes : List ℕ) × ReadsLayout bytes answer

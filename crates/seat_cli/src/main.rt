@@ -1,6 +1,10 @@
 //! The program: delta texts in, the text of the joined book out.
 #![tactic(auto)]
 
+ghost use Rattle.std.specs.Prelude.{◌≡◌, MatchOption};
+ghost use Rattle.seat_cli.specs.Engine.{status_code};
+ghost use Rattle.seat_cli.specs.LayoutFile.{FindsBuiltIn, FindsFile};
+
 mod engine;
 mod fault;
 mod laws;
@@ -87,7 +91,9 @@ fn run_join(rt: &HostRuntime, path: Option<&str>) -> u8 {
 }
 
 // The layout of the file, or the built-in one.
-fn layout_at(rt: &HostRuntime, path: Option<&str>) -> Result<Layout, LayoutFault> {
+fn layout_at(rt: &HostRuntime, path: Option<&str>) -> Result<Layout, LayoutFault>
+    ensures { MatchOption path.entry (FindsBuiltIn result) (λ _. FindsFile result) }
+{
     let Some(path) = path else {
         return match built_in(rt.alloc()) {
             Ok(layout) => Ok(layout),
@@ -106,7 +112,9 @@ fn layout_at(rt: &HostRuntime, path: Option<&str>) -> Result<Layout, LayoutFault
 }
 
 // Tells of the statuses that have a word on standard error, and gives the status to end with.
-fn end_with(rt: &HostRuntime, status: Status) -> u8 {
+fn end_with(rt: &HostRuntime, status: Status) -> u8
+    ensures { result ≡ status_code status }
+{
     match status {
         Status::Memory => {
             let _ = eprintln!(rt; "memory");

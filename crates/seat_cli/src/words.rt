@@ -1,3 +1,5 @@
+ghost use Rattle.std.specs.Prelude.{◌≡◌, ◌≤◌, length, None, Ok};
+
 use clap::{Arg, ArgAction, Command, Error};
 use std::alloc::Global;
 
@@ -11,7 +13,9 @@ const PROGRAM_HELP: &str = "Joins the books of sites that share seats of records
 
 /// The path of the layout file that the words name, if they name one. The first word is the program's own;
 /// without a further one the command is `join`.
-pub fn layout_asked<'a>(alloc: Global, words: &'a [String]) -> Result<Option<&'a str>, Error> {
+pub fn layout_asked<'a>(alloc: Global, words: &'a [String]) -> Result<Option<&'a str>, Error>
+    ensures { length words.now ≤ 1 → result ≡ Ok None }
+{
     if words.len() <= 1 {
         return Ok(None);
     }

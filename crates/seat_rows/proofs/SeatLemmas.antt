@@ -4,7 +4,7 @@ use Rattle.std.proofs.lemmas.List.{get_or-set_same, get_or-set_other, length-set
 use Rattle.std.proofs.lemmas.Bool.{cases_eq}
 use Rattle.grow_counters.specs.Counts.{maxima}
 use Rattle.grow_counters.proofs.CountsLemmas.{length-maxima, get_or-maxima}
-use Rattle.rights_matrix.specs.declared.limits.TheConstants.{COUNTER_LIMIT}
+use Rattle.grow_counters.specs.Counts.{counter_limit}
 use Rattle.rights_matrix.specs.Joined.{joined, joined_at}
 use Rattle.rights_matrix.specs.Matrix.{MatrixState, site_count, grant, SameShape}
 use Rattle.rights_matrix.proofs.EntryLemmas.{entry-joined, entry-joined_at, entry-joined_at_other}
@@ -38,7 +38,7 @@ IsSeatState-joined a b in_a in_b same = record {
         let by_b = in_b.returned i (omega (arith, same.sites)) in
         omega (arith, own, taken i, grants i, by_a, by_b)
 
-    limit : (i : ℕ) → i < site_count a.matrix → taken_at (joined_seats a b) i ≤ COUNTER_LIMIT
+    limit : (i : ℕ) → i < site_count a.matrix → taken_at (joined_seats a b) i ≤ counter_limit
     limit i below =
         let by_a = in_a.limit i below in
         let by_b = in_b.limit i (omega (arith, same.sites)) in
@@ -73,7 +73,7 @@ IsSeatState-joined_at st s taken row h inside fits valid = record {
         let before = h.returned i below in
         omega (arith, own, there i other, before)
 
-    limit : (i : ℕ) → i < site_count st.matrix → (i ≡ s) ⊎ (i ≢ s) → taken_at (joined_seats_at st s row taken) i ≤ COUNTER_LIMIT
+    limit : (i : ℕ) → i < site_count st.matrix → (i ≡ s) ⊎ (i ≢ s) → taken_at (joined_seats_at st s row taken) i ≤ counter_limit
     limit i below (inl same) =
         let before = h.limit s inside in
         let heard = valid.limit in

@@ -1,8 +1,7 @@
 -- A bounded counter of one record (Balegas et al., 2015): its rights matrix, and how many seats were taken
 -- at each site, the decrements. A seat that is given back is counted as an increment in the matrix.
 use Rattle.std.specs.Prelude.{◌≡◌, ℕ, ◌+◌, ◌-◌, ◌<◌, ◌≤◌, ◌==◌, nat_lt, max, if◌then◌else◌, List, length, replicate, slice_index, slice_set}
-use Rattle.grow_counters.specs.Counts.{maxima, rise_count}
-use Rattle.rights_matrix.specs.declared.limits.TheConstants.{COUNTER_LIMIT}
+use Rattle.grow_counters.specs.Counts.{counter_limit, maxima, rise_count}
 use Rattle.rights_matrix.specs.Joined.{joined, joined_at, rise_counts}
 use Rattle.rights_matrix.specs.Matrix.{MatrixState, site_count, grant, row_of, entry, start_matrix, raised, rights_of, HasRights, IsValidRow, IsMatrix}
 
@@ -35,13 +34,13 @@ pub record IsSeatState (st : SeatState) : Type 0 where
   pub matrix : IsMatrix st.matrix
   pub size : length st.taken ≡ site_count st.matrix
   pub returned : (i : ℕ) → i < site_count st.matrix → returned_at st i ≤ taken_at st i
-  pub limit : (i : ℕ) → i < site_count st.matrix → taken_at st i ≤ COUNTER_LIMIT
+  pub limit : (i : ℕ) → i < site_count st.matrix → taken_at st i ≤ counter_limit
 
 -- what site s may say of itself: a valid row of the matrix, and no more given back than taken
 pub record IsValidSeatRow (m : MatrixState) (s : ℕ) (row : List ℕ) (taken : ℕ) : Type 0 where
   pub in_matrix : IsValidRow m s row
   pub returned : slice_index row s - grant m s ≤ taken
-  pub limit : taken ≤ COUNTER_LIMIT
+  pub limit : taken ≤ counter_limit
 
 -- the start: all seats at home, none taken
 abbrev pub start_seats : ℕ → ℕ → ℕ → SeatState

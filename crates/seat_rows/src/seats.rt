@@ -7,8 +7,8 @@ ghost use Rattle.seat_rows.specs.Seats.{SeatState, taken_at, returned_at, inside
 ghost use Rattle.seat_rows.specs.Take.{take_fault};
 
 use crate::faults::SeatError;
-use grow_counters::Counts;
-use rights_matrix::{COUNTER_LIMIT, Rights, TransferError};
+use grow_counters::{COUNTER_LIMIT, Counts};
+use rights_matrix::{Rights, TransferError};
 use std::alloc::{AllocError, Global};
 use std::marker::Model;
 

@@ -1,8 +1,10 @@
-ghost use Rattle.std.specs.Prelude.{◌≡◌, ◌<◌, ◌≤◌, length};
+ghost use Rattle.std.specs.Prelude.{◌≡◌, ◌≢◌, ◌↔◌, ◌<◌, ◌≤◌, ◌++◌, false, IsTrue, IfErr, IfOk, MatchResult, OnErr, Err, Ok, length, take};
+ghost use Rattle.std.specs.IoError.{error_kind};
 ghost use Rattle.text_input.specs.Input.{ReadsInput, ReadsPart};
 
 use crate::INPUT_LIMIT;
 use std::alloc::Global;
+use std::io;
 use std::io::{ErrorKind, Read};
 use std::marker::Model;
 use thiserror::Error;
@@ -79,7 +81,26 @@ fn read_part<R: Read>(
     requires { 0 < length chunk.old }
     ensures { ReadsPart (R.remaining reader.old) (R.remaining reader.new) (length chunk.old) bytes.old.items bytes.new.items result }
 {
-    match reader.read(chunk) {
+    let answer = reader.read(chunk);
+    take_answer(answer, chunk, bytes)
+}
+
+// What an answer of the reader means: whether it is the end, more bytes, or a fault. Only an interrupted read
+// is tried again.
+fn take_answer(
+    answer: io::Result<usize>,
+    chunk: &[u8],
+    bytes: &mut Vec<u8>,
+) -> Result<bool, InputError>
+    requires { IfOk answer (λ n. n ≤ length chunk.now) }
+    ensures taken { IfOk answer (λ n. MatchResult result
+        (λ end. (IsTrue end ↔ (n ≡ 0)) × (bytes.new.items ≡ bytes.old.items ++ take n chunk.now))
+        (λ e. e ≡ InputError.Memory)) }
+    ensures nothing { OnErr answer (bytes.new.items ≡ bytes.old.items) }
+    ensures retried { IfErr answer (λ e. error_kind e ≡ ErrorKind.Interrupted → result ≡ Ok false) }
+    ensures ended { IfErr answer (λ e. error_kind e ≢ ErrorKind.Interrupted → result ≡ Err InputError.Io) }
+{
+    match answer {
         Ok(0) => Ok(true),
         Ok(n) => {
             if bytes.extend_from_slice(&chunk[..n]).is_err() {
