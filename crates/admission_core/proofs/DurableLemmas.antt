@@ -7,7 +7,8 @@ use Rattle.merge_core.specs.Layout.{shape_of}
 use Rattle.merge_core.specs.Rows.{grant}
 use Rattle.admission_core.specs.declared.ask.Phase.{Phase}
 use Rattle.admission_core.specs.Account.{Account, Key, begin, sites_of, seats_in, is_key, key_of, stored_phase, with_phase, present, occurs, arrivals, phase_of, sessions_of, session_total, own, weight, writers}
-use Rattle.admission_core.specs.Knowledge.{is_kept, told, known, durable_part, resumed, restarted}
+use Rattle.merge_core.specs.Changes.{keeps_counter}
+use Rattle.admission_core.specs.Knowledge.{told, known, durable_part, resumed, restarted}
 use Rattle.admission_core.specs.Sound.{IsBalanced, IsSound}
 use Rattle.admission_core.specs.Laws.{IsResumed, KeepsDurable}
 use Rattle.admission_core.proofs.SumLemmas.{total_others_same}
@@ -85,9 +86,9 @@ resumed_own a r cell = kept_yes a.origin (known a) r a.origin.site cell (kept_ro
 
 -- what is stored of another site's row is what the restarted site was told
 resumed_told : (a : Account) (r s : ℕ) (cell : Cell) → s ≢ a.origin.site → told (begin (resumed a)) r s cell ≡ told (restarted a) r s cell
-resumed_told a r s cell apart = at (cases_Bool (is_kept a.origin.site s cell))
+resumed_told a r s cell apart = at (cases_Bool (keeps_counter a.origin.site s cell))
   where
-    at : (is_kept a.origin.site s cell ≡ true) ⊎ (is_kept a.origin.site s cell ≡ false) → told (begin (resumed a)) r s cell ≡ told (restarted a) r s cell
+    at : (keeps_counter a.origin.site s cell ≡ true) ⊎ (keeps_counter a.origin.site s cell ≡ false) → told (begin (resumed a)) r s cell ≡ told (restarted a) r s cell
     at (inl e) =
         kept_yes (resumed a) (durable_part a).counters r s cell e
         ∙ (kept_yes a.origin (known a) r s cell e
@@ -112,15 +113,15 @@ is_resumed a sound = record {
 }
 
 pub keeps_durable : (a : Account) → KeepsDurable a
-keeps_durable a = record { counters = λ r s cell. at r s cell (cases_Bool (is_kept a.origin.site s cell)); sessions = refl }
+keeps_durable a = record { counters = λ r s cell. at r s cell (cases_Bool (keeps_counter a.origin.site s cell)); sessions = refl }
   where
-    same : (r s : ℕ) (cell : Cell) → is_kept a.origin.site s cell ≡ true → (s ≡ a.origin.site) ⊎ (s ≡ a.origin.site → ⊥) → known (restarted a) r s cell ≡ known a r s cell
+    same : (r s : ℕ) (cell : Cell) → keeps_counter a.origin.site s cell ≡ true → (s ≡ a.origin.site) ⊎ (s ≡ a.origin.site → ⊥) → known (restarted a) r s cell ≡ known a r s cell
     same r s cell e (inl here) =
         subst (λ (x : ℕ). known (restarted a) r x cell ≡ known a r x cell) (sym here) (known_own (restarted a) r cell ∙ sym (known_own a r cell))
     same r s cell e (inr apart) =
         known_other (restarted a) r s cell apart ∙ (kept_yes a.origin (told a) r s cell e ∙ sym (known_other a r s cell apart))
 
-    at : (r s : ℕ) (cell : Cell) → (is_kept a.origin.site s cell ≡ true) ⊎ (is_kept a.origin.site s cell ≡ false) → (durable_part (restarted a)).counters r s cell ≡ (durable_part a).counters r s cell
+    at : (r s : ℕ) (cell : Cell) → (keeps_counter a.origin.site s cell ≡ true) ⊎ (keeps_counter a.origin.site s cell ≡ false) → (durable_part (restarted a)).counters r s cell ≡ (durable_part a).counters r s cell
     at r s cell (inl e) =
         kept_yes a.origin (known (restarted a)) r s cell e ∙ (same r s cell e (cases_eq s a.origin.site) ∙ sym (kept_yes a.origin (known a) r s cell e))
     at r s cell (inr e) = kept_no a.origin (known (restarted a)) r s cell e ∙ sym (kept_no a.origin (known a) r s cell e)

@@ -10,7 +10,8 @@ use Rattle.merge_core.specs.Rows.{grant, start_counter}
 use Rattle.merge_core.specs.Naming.{shown_by}
 use Rattle.admission_core.specs.Sums.{total_others}
 use Rattle.admission_core.specs.Account.{Origin, Account, sites_of, own, inside}
-use Rattle.admission_core.specs.Knowledge.{is_kept, is_out_to, kept_or_start, told, known, hears, restarted}
+use Rattle.merge_core.specs.Changes.{keeps_counter}
+use Rattle.admission_core.specs.Knowledge.{kept_or_start, told, known, hears, restarted}
 use Rattle.admission_core.specs.View.{view_of, rights_of}
 use Rattle.admission_core.specs.Merging.{is_placed, is_valid, first_ahead, tells_too_much}
 use Rattle.admission_core.specs.Sound.{FitsRow, IsSound}
@@ -78,20 +79,24 @@ sound_hears a rows sound placed valid behind = record {
   told_after_done = λ r cell. omega (arith, sound.told_after_done r cell, shown_own a rows sound placed behind r cell);
 }
 
-pub kept_column : (i s : ℕ) → is_kept i s (Out i) ≡ true
+pub kept_column : (i s : ℕ) → keeps_counter i s (Out i) ≡ true
 kept_column i s = or_right (eqb s i) (eqb i i) (eq-eqb i i refl)
 
-pub kept_row : (i : ℕ) (cell : Cell) → is_kept i i cell ≡ true
-kept_row i cell = or_left (eqb i i) (is_out_to i cell) (eq-eqb i i refl)
+-- the site's own row
+own_row_kept : (i s : ℕ) (cell : Cell) → s ≡ i → keeps_counter i s cell ≡ true
+own_row_kept i s (Out j) e = or_left (eqb s i) (eqb j i) (eq-eqb s i e)
+own_row_kept i s Taken e = eq-eqb s i e
+own_row_kept i s Ann e = eq-eqb s i e
+own_row_kept i s Fin e = eq-eqb s i e
 
-pub kept_yes : (o : Origin) (f : ℕ → ℕ → Cell → ℕ) (r s : ℕ) (cell : Cell) → is_kept o.site s cell ≡ true → kept_or_start o f r s cell ≡ f r s cell
-kept_yes o f r s cell e = cond-true (is_kept o.site s cell) (f r s cell) (start_counter (shape_of o.layout) r s cell) e
+pub kept_row : (i : ℕ) (cell : Cell) → keeps_counter i i cell ≡ true
+kept_row i cell = own_row_kept i i cell refl
 
-pub kept_no : (o : Origin) (f : ℕ → ℕ → Cell → ℕ) (r s : ℕ) (cell : Cell) → is_kept o.site s cell ≡ false → kept_or_start o f r s cell ≡ start_counter (shape_of o.layout) r s cell
-kept_no o f r s cell e = cond-false (is_kept o.site s cell) (f r s cell) (start_counter (shape_of o.layout) r s cell) e
+pub kept_yes : (o : Origin) (f : ℕ → ℕ → Cell → ℕ) (r s : ℕ) (cell : Cell) → keeps_counter o.site s cell ≡ true → kept_or_start o f r s cell ≡ f r s cell
+kept_yes o f r s cell e = cond-true (keeps_counter o.site s cell) (f r s cell) (start_counter (shape_of o.layout) r s cell) e
 
-not_kept : (i s : ℕ) (cell : Cell) → s ≢ i → is_out_to i cell ≡ false → is_kept i s cell ≡ false
-not_kept i s cell apart e = or_from (eqb s i) (is_out_to i cell) (ne_eqb s i apart) e
+pub kept_no : (o : Origin) (f : ℕ → ℕ → Cell → ℕ) (r s : ℕ) (cell : Cell) → keeps_counter o.site s cell ≡ false → kept_or_start o f r s cell ≡ start_counter (shape_of o.layout) r s cell
+kept_no o f r s cell e = cond-false (keeps_counter o.site s cell) (f r s cell) (start_counter (shape_of o.layout) r s cell) e
 
 -- rows that fit still fit when they are cut to what is kept
 pub FitsRow-kept : (o : Origin) (f : ℕ → ℕ → Cell → ℕ) (r s : ℕ) → FitsRow (grant (shape_of o.layout) r s) s (f r s) → FitsRow (grant (shape_of o.layout) r s) s (kept_or_start o f r s)
@@ -100,12 +105,12 @@ FitsRow-kept o f r s fits = at (cases_eq s o.site)
     at : (s ≡ o.site) ⊎ (s ≡ o.site → ⊥) → FitsRow (grant (shape_of o.layout) r s) s (kept_or_start o f r s)
     at (inl e) =
         FitsRow-along (grant (shape_of o.layout) r s) s (f r s) (kept_or_start o f r s)
-        (λ cell. kept_yes o f r s cell (or_left (eqb s o.site) (is_out_to o.site cell) (eq-eqb s o.site e))) fits
+        (λ cell. kept_yes o f r s cell (own_row_kept o.site s cell e)) fits
     at (inr ne) =
-        let diagonal = kept_no o f r s (Out s) (not_kept o.site s (Out s) ne (ne_eqb s o.site ne)) in
-        let none_taken = kept_no o f r s Taken (not_kept o.site s Taken ne refl) in
-        let none_announced = kept_no o f r s Ann (not_kept o.site s Ann ne refl) in
-        let none_finished = kept_no o f r s Fin (not_kept o.site s Fin ne refl) in
+        let diagonal = kept_no o f r s (Out s) (or_from (eqb s o.site) (eqb s o.site) (ne_eqb s o.site ne) (ne_eqb s o.site ne)) in
+        let none_taken = kept_no o f r s Taken (ne_eqb s o.site ne) in
+        let none_announced = kept_no o f r s Ann (ne_eqb s o.site ne) in
+        let none_finished = kept_no o f r s Fin (ne_eqb s o.site ne) in
         record {
           grant_kept = omega (arith, start_diagonal (shape_of o.layout) r s);
           returned_after_taken = omega (arith, start_diagonal (shape_of o.layout) r s);
@@ -119,7 +124,7 @@ FitsRow-kept o f r s fits = at (cases_eq s o.site)
         moved j apart (inl here) =
             omega (arith, fits.few_moved j apart, kept_yes o f r s (Out j) (or_right (eqb s o.site) (eqb j o.site) (eq-eqb j o.site here)))
         moved j apart (inr there) =
-            omega (arith, start_elsewhere (shape_of o.layout) r s j apart, kept_no o f r s (Out j) (not_kept o.site s (Out j) ne (ne_eqb j o.site there)))
+            omega (arith, start_elsewhere (shape_of o.layout) r s j apart, kept_no o f r s (Out j) (or_from (eqb s o.site) (eqb j o.site) (ne_eqb s o.site ne) (ne_eqb j o.site there)))
 
 pub sound_restarted : (a : Account) → IsSound a → IsSound (restarted a)
 sound_restarted a sound = record {

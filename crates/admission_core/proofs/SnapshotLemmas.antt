@@ -11,7 +11,7 @@ use Rattle.merge_core.specs.Naming.{shown_by}
 use Rattle.admission_core.specs.Sums.{number_of_cells}
 use Rattle.admission_core.specs.View.{View}
 use Rattle.admission_core.specs.Merging.{row_of, row_if, has_moved, moved_rows, all_moved_rows, snapshot_of}
-use Rattle.admission_core.specs.Laws.{IsCellOf}
+use Rattle.merge_core.specs.Book.{HasCell}
 use Rattle.admission_core.proofs.RowLemmas.{number_of_cells-zero}
 use Rattle.admission_core.proofs.MessageLemmas.{row_of-at, all_told}
 
@@ -69,7 +69,7 @@ matches_all v r s (suc n) below there moved = at (cases_eq r n) (λ lower. match
     at (inr ne) earlier =
         omega (arith, earlier (omega arith), matches-append r s (all_moved_rows v n) (moved_rows v n v.sites))
 
-told_cell : (v : View) (r s : ℕ) (cell : Cell) → IsCellOf v.sites cell → counter_in (counters_of (row_of v r s)) cell ≡ v.counter r s cell
+told_cell : (v : View) (r s : ℕ) (cell : Cell) → HasCell v.sites cell → counter_in (counters_of (row_of v r s)) cell ≡ v.counter r s cell
 told_cell v r s (Out j) below = row_of-at v r s j below
 told_cell v r s Taken below = refl
 told_cell v r s Ann below = refl
@@ -78,19 +78,19 @@ told_cell v r s Fin below = refl
 at_start : (n m : ℕ) → not (eqb n m) ≡ false → n ≡ m
 at_start n m e = eqb-true n m (not-false (eqb n m) e)
 
-unmoved : (v : View) (r s : ℕ) (cell : Cell) → IsCellOf v.sites cell → has_moved v r s ≡ false → v.counter r s cell ≡ start_counter (shape_of v.layout) r s cell
+unmoved : (v : View) (r s : ℕ) (cell : Cell) → HasCell v.sites cell → has_moved v r s ≡ false → v.counter r s cell ≡ start_counter (shape_of v.layout) r s cell
 unmoved v r s cell below still = at cell below
   where
     none : number_of_cells v.sites (λ c. not (eqb (v.counter r s c) (start_counter (shape_of v.layout) r s c))) ≡ 0
     none = omega (arith, ltb-false 0 (number_of_cells v.sites (λ c. not (eqb (v.counter r s c) (start_counter (shape_of v.layout) r s c)))) still)
 
-    at : (c : Cell) → IsCellOf v.sites c → v.counter r s c ≡ start_counter (shape_of v.layout) r s c
+    at : (c : Cell) → HasCell v.sites c → v.counter r s c ≡ start_counter (shape_of v.layout) r s c
     at (Out j) lower = at_start (v.counter r s (Out j)) (start_counter (shape_of v.layout) r s (Out j)) ((number_of_cells-zero v.sites (λ c. not (eqb (v.counter r s c) (start_counter (shape_of v.layout) r s c))) none).0 j lower)
     at Taken lower = at_start (v.counter r s Taken) 0 (number_of_cells-zero v.sites (λ c. not (eqb (v.counter r s c) (start_counter (shape_of v.layout) r s c))) none).1.0
     at Ann lower = at_start (v.counter r s Ann) 0 (number_of_cells-zero v.sites (λ c. not (eqb (v.counter r s c) (start_counter (shape_of v.layout) r s c))) none).1.1.0
     at Fin lower = at_start (v.counter r s Fin) 0 (number_of_cells-zero v.sites (λ c. not (eqb (v.counter r s c) (start_counter (shape_of v.layout) r s c))) none).1.1.1
 
-pub snapshot_shows : (v : View) (r s : ℕ) (cell : Cell) → r < length v.layout.records → s < v.sites → IsCellOf v.sites cell → shown_by (shape_of v.layout) (snapshot_of v).rows r s cell ≡ v.counter r s cell
+pub snapshot_shows : (v : View) (r s : ℕ) (cell : Cell) → r < length v.layout.records → s < v.sites → HasCell v.sites cell → shown_by (shape_of v.layout) (snapshot_of v).rows r s cell ≡ v.counter r s cell
 snapshot_shows v r s cell below there in_row =
     shown_agreed (shape_of v.layout) (all_moved_rows v (length v.layout.records)) r s cell (v.counter r s cell)
     (all_told (Agrees r s cell (v.counter r s cell)) v (length v.layout.records) agree)

@@ -8,7 +8,8 @@ use Rattle.merge_core.specs.Layout.{Shape, shape_of}
 use Rattle.merge_core.specs.Rows.{start_counter}
 use Rattle.merge_core.specs.Naming.{shown_by, ReachesUnit}
 use Rattle.admission_core.specs.Account.{Account, Origin, Operation, Heard, Merged, Restarted, own_after, own}
-use Rattle.admission_core.specs.Knowledge.{is_kept, told_after, told, known, HeardUnit, KnowsUnit, hears_all}
+use Rattle.merge_core.specs.Changes.{keeps_counter}
+use Rattle.admission_core.specs.Knowledge.{told_after, told, known, HeardUnit, KnowsUnit, hears_all}
 use Rattle.admission_core.specs.Sound.{IsSound}
 use Rattle.admission_core.specs.Laws.{CountsUnits, KnowTheSame, NamedBySome, NameTheSame}
 use Rattle.admission_core.proofs.CounterLemmas.{known_own, known_other}
@@ -20,7 +21,7 @@ own_from_base : (o : Origin) (done : List Operation) (r : ℕ) (cell : Cell) →
 own_from_base o [] r cell = omega arith
 own_from_base o (operation ∷ done) r cell = omega (arith, own_from_base o done r cell)
 
-told_from_base : (o : Origin) (heard : List Heard) (r s : ℕ) (cell : Cell) → is_kept o.site s cell ≡ true → o.base.counters r s cell ≤ told_after o heard r s cell
+told_from_base : (o : Origin) (heard : List Heard) (r s : ℕ) (cell : Cell) → keeps_counter o.site s cell ≡ true → o.base.counters r s cell ≤ told_after o heard r s cell
 told_from_base o [] r s cell kept = omega (arith, kept_yes o o.base.counters r s cell kept)
 told_from_base o (Merged rows ∷ heard) r s cell kept = omega (arith, told_from_base o heard r s cell kept)
 told_from_base o (Restarted ∷ heard) r s cell kept = omega (arith, told_from_base o heard r s cell kept, kept_yes o (told_after o heard) r s cell kept)
@@ -38,13 +39,13 @@ heard_told o (Restarted ∷ heard) r s cell k unit =
 abbrev FromWhere : Origin → List Heard → ℕ → ℕ → Cell → ℕ → Type 0
 FromWhere o heard r s cell k =
     ReachesUnit (start_counter (shape_of o.layout) r s cell) k
-    ⊎ ((IsTrue (is_kept o.site s cell) × ReachesUnit (o.base.counters r s cell) k)
+    ⊎ ((IsTrue (keeps_counter o.site s cell) × ReachesUnit (o.base.counters r s cell) k)
     ⊎ HeardUnit o heard r s cell k)
 
 told_from : (o : Origin) (heard : List Heard) (r s : ℕ) (cell : Cell) (k : ℕ) → ReachesUnit (told_after o heard r s cell) k → FromWhere o heard r s cell k
-told_from o [] r s cell k reaches = at (cases_Bool (is_kept o.site s cell))
+told_from o [] r s cell k reaches = at (cases_Bool (keeps_counter o.site s cell))
   where
-    at : (is_kept o.site s cell ≡ true) ⊎ (is_kept o.site s cell ≡ false) → FromWhere o [] r s cell k
+    at : (keeps_counter o.site s cell ≡ true) ⊎ (keeps_counter o.site s cell ≡ false) → FromWhere o [] r s cell k
     at (inl e) = inr (inl (e, (reaches.0, omega (arith, reaches.1, kept_yes o o.base.counters r s cell e))))
     at (inr e) = inl (reaches.0, omega (arith, reaches.1, kept_no o o.base.counters r s cell e))
 told_from o (Merged rows ∷ heard) r s cell k reaches =
@@ -59,14 +60,14 @@ told_from o (Merged rows ∷ heard) r s cell k reaches =
     at (inl less) earlier = later (earlier (reaches.0, omega (arith, reaches.1)))
     at (inr named) earlier = inr (inr (inl (reaches.0, named)))
 told_from o (Restarted ∷ heard) r s cell k reaches =
-    at (cases_Bool (is_kept o.site s cell)) (λ h. told_from o heard r s cell k h)
+    at (cases_Bool (keeps_counter o.site s cell)) (λ h. told_from o heard r s cell k h)
   where
-    later : is_kept o.site s cell ≡ true → FromWhere o heard r s cell k → FromWhere o (Restarted ∷ heard) r s cell k
+    later : keeps_counter o.site s cell ≡ true → FromWhere o heard r s cell k → FromWhere o (Restarted ∷ heard) r s cell k
     later e (inl granted) = inl granted
     later e (inr (inl based)) = inr (inl based)
     later e (inr (inr unit)) = inr (inr (e, unit))
 
-    at : (is_kept o.site s cell ≡ true) ⊎ (is_kept o.site s cell ≡ false) → (ReachesUnit (told_after o heard r s cell) k → FromWhere o heard r s cell k) → FromWhere o (Restarted ∷ heard) r s cell k
+    at : (keeps_counter o.site s cell ≡ true) ⊎ (keeps_counter o.site s cell ≡ false) → (ReachesUnit (told_after o heard r s cell) k → FromWhere o heard r s cell k) → FromWhere o (Restarted ∷ heard) r s cell k
     at (inl e) earlier = later e (earlier (reaches.0, omega (arith, reaches.1, kept_yes o (told_after o heard) r s cell e)))
     at (inr e) earlier = inl (reaches.0, omega (arith, reaches.1, kept_no o (told_after o heard) r s cell e))
 

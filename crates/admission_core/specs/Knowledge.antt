@@ -7,24 +7,14 @@ use Rattle.merge_core.specs.declared.cell.Cell.TheVariants.{Out, Taken, Ann, Fin
 use Rattle.merge_core.specs.declared.delta.Row.{Row}
 use Rattle.merge_core.specs.Layout.{shape_of}
 use Rattle.merge_core.specs.Rows.{start_counter}
+use Rattle.merge_core.specs.Changes.{keeps_counter}
 use Rattle.merge_core.specs.Naming.{shown_by, ReachesUnit, RowsName}
 use Rattle.admission_core.specs.Account.{Origin, Account, Heard, Merged, Restarted, DurablePart, own, sessions_of}
-
--- the counter of rights moved to site i
-abbrev pub is_out_to : ℕ → Cell → Bool
-is_out_to i (Out j) = j == i
-is_out_to i Taken = false
-is_out_to i Ann = false
-is_out_to i Fin = false
-
--- what a restart keeps at site i: the site's own row, and the seats that others sent it
-abbrev pub is_kept : ℕ → ℕ → Cell → Bool
-is_kept i s cell = (s == i) || is_out_to i cell
 
 -- a counter that a restart keeps, or else its start
 abbrev pub kept_or_start : Origin → (ℕ → ℕ → Cell → ℕ) → ℕ → ℕ → Cell → ℕ
 kept_or_start o counters r s cell =
-    if is_kept o.site s cell then counters r s cell else start_counter (shape_of o.layout) r s cell
+    if keeps_counter o.site s cell then counters r s cell else start_counter (shape_of o.layout) r s cell
 
 -- the counters that a site was told of: by its beginning, then raised by each delta and cut by each restart
 abbrev pub told_after : Origin → List Heard → ℕ → ℕ → Cell → ℕ
@@ -44,14 +34,14 @@ known a r s cell = if s == a.origin.site then own a r cell else told a r s cell
 abbrev pub HeardUnit : Origin → List Heard → ℕ → ℕ → Cell → ℕ → Type 0
 HeardUnit o [] r s cell k = ⊥
 HeardUnit o (Merged rows ∷ heard) r s cell k = RowsName (shape_of o.layout) rows r s cell k ⊎ HeardUnit o heard r s cell k
-HeardUnit o (Restarted ∷ heard) r s cell k = IsTrue (is_kept o.site s cell) × HeardUnit o heard r s cell k
+HeardUnit o (Restarted ∷ heard) r s cell k = IsTrue (keeps_counter o.site s cell) × HeardUnit o heard r s cell k
 
 -- the site knows the k-th unit of a counter where a source names it: the grants, the beginning, the site's
 -- own operations, or a delta
 abbrev pub KnowsUnit : Account → ℕ → ℕ → Cell → ℕ → Type 0
 KnowsUnit a r s cell k =
     ReachesUnit (start_counter (shape_of a.origin.layout) r s cell) k
-    ⊎ ((IsTrue (is_kept a.origin.site s cell) × ReachesUnit (a.origin.base.counters r s cell) k)
+    ⊎ ((IsTrue (keeps_counter a.origin.site s cell) × ReachesUnit (a.origin.base.counters r s cell) k)
     ⊎ (((s ≡ a.origin.site) × ReachesUnit (own a r cell) k)
     ⊎ HeardUnit a.origin a.heard r s cell k))
 

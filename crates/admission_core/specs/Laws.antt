@@ -46,13 +46,6 @@ NamedBySome shape (rows ∷ deltas) r s cell k = RowsName shape rows r s cell k 
 abbrev pub NameTheSame : Shape → List (List Row) → List (List Row) → Type 0
 NameTheSame shape first second = (r s : ℕ) (cell : Cell) (k : ℕ) → NamedBySome shape first r s cell k ↔ NamedBySome shape second r s cell k
 
--- a counter that a row at n sites has
-abbrev pub IsCellOf : ℕ → Cell → Type 0
-IsCellOf n (Out j) = j < n
-IsCellOf n Taken = Unit {0}
-IsCellOf n Ann = Unit {0}
-IsCellOf n Fin = Unit {0}
-
 -- s is the least site that shows an unfinished writer
 pub record IsFirstUnfinished (v : View) (r s : ℕ) : Type 0 where
   pub there : s < v.sites

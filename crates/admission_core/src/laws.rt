@@ -16,7 +16,8 @@ ghost use Rattle.admission_core.specs.View.{View, plan_of, problem_in};
 ghost use Rattle.admission_core.specs.Merging.{is_placed, is_valid, snapshot_of};
 ghost use Rattle.admission_core.specs.Serving.{Step, replay, reply_of};
 ghost use Rattle.admission_core.specs.Sound.{IsOrigin};
-ghost use Rattle.admission_core.specs.Laws.{CountsUnits, CountsSessions, KnowTheSame, NameTheSame, IsCellOf, IsFirstUnfinished, MayAsk, DifferInNotices, IsFeasible, IsResumed, KeepsDurable};
+ghost use Rattle.merge_core.specs.Book.{HasCell};
+ghost use Rattle.admission_core.specs.Laws.{CountsUnits, CountsSessions, KnowTheSame, NameTheSame, IsFirstUnfinished, MayAsk, DifferInNotices, IsFeasible, IsResumed, KeepsDurable};
 
 /// An account may begin at the start of each site, and wherever a stop leaves an account.
 pub fn origin_law()
@@ -36,7 +37,7 @@ pub fn sessions_law()
 
 /// What a site tells shows each counter of the layout as the site knows it.
 pub fn snapshot_law()
-    ensures { (v : View) → (r s : ℕ) → (cell : Cell) → r < length v.layout.records → s < v.sites → IsCellOf v.sites cell → shown_by (shape_of v.layout) (snapshot_of v).rows r s cell ≡ v.counter r s cell }
+    ensures { (v : View) → (r s : ℕ) → (cell : Cell) → r < length v.layout.records → s < v.sites → HasCell v.sites cell → shown_by (shape_of v.layout) (snapshot_of v).rows r s cell ≡ v.counter r s cell }
 {}
 
 /// The tests of a merge decide whether a row's place is there, and whether a site can have the row.

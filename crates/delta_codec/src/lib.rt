@@ -12,9 +12,9 @@ pub const TEXT_LIMIT: usize = 2_097_152;
 
 mod fault;
 pub mod laws;
-pub mod lists;
-pub mod literals;
-pub mod numbers;
+mod lists;
+mod literals;
+mod numbers;
 mod reading;
 mod rows;
 #[cfg(test)]

@@ -12,7 +12,8 @@ use Rattle.merge_core.specs.Naming.{shown_by}
 use Rattle.admission_core.specs.declared.ask.Ask.{Ask}
 use Rattle.admission_core.specs.declared.ask.Call.TheVariants.{Ask as Asks, Merge}
 use Rattle.admission_core.specs.Account.{Account, begin, start_origin, sites_of, own}
-use Rattle.admission_core.specs.Knowledge.{told_after, told, known, is_kept, hears, restarted}
+use Rattle.merge_core.specs.Changes.{keeps_counter}
+use Rattle.admission_core.specs.Knowledge.{told_after, told, known, hears, restarted}
 use Rattle.admission_core.specs.View.{view_of}
 use Rattle.admission_core.specs.Merging.{row_of, snapshot_of}
 use Rattle.admission_core.specs.Serving.{unless_refused, after}
@@ -66,7 +67,7 @@ next_restart w i sound below =
       same_origin = refl;
       more = λ r cell. omega arith;
       told_done = λ j there r cell.
-          cond_both (is_kept a.origin.site j cell) (told a r j cell) (start_counter (shape_of a.origin.layout) r j cell) (λ x. x ≤ own (account_at w j) r cell)
+          cond_both (keeps_counter a.origin.site j cell) (told a r j cell) (start_counter (shape_of a.origin.layout) r j cell) (λ x. x ≤ own (account_at w j) r cell)
           (λ e. sound.told_done i j below there r cell)
           (λ e. start_done j there r cell);
     }
@@ -184,7 +185,7 @@ sound_start_world layout is = record {
       let mine : told (account_at (start_world layout) i) r j cell ≡ told (begin (start_origin layout i)) r j cell = ap (λ a. told a r j cell) (first i) in
       let done : own (account_at (start_world layout) j) r cell ≡ start_counter (shape_of layout) r j cell = ap (λ a. own a r cell) (first j) in
       let low : told (begin (start_origin layout i)) r j cell ≤ start_counter (shape_of layout) r j cell =
-      cond_both (is_kept i j cell) (start_counter (shape_of layout) r j cell) (start_counter (shape_of layout) r j cell) (λ x. x ≤ start_counter (shape_of layout) r j cell) (λ e. omega arith) (λ e. omega arith) in
+      cond_both (keeps_counter i j cell) (start_counter (shape_of layout) r j cell) (start_counter (shape_of layout) r j cell) (λ x. x ≤ start_counter (shape_of layout) r j cell) (λ e. omega arith) (λ e. omega arith) in
       omega arith;
   sent = tt;
 }

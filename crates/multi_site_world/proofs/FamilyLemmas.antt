@@ -10,7 +10,8 @@ use Rattle.admission_core.specs.declared.ask.Phase.{Phase}
 use Rattle.admission_core.specs.declared.ask.Phase.TheVariants.{Reader, Waiting, Writer}
 use Rattle.admission_core.specs.Sums.{total, total_others}
 use Rattle.admission_core.specs.Account.{Account, Heard, Merged, Restarted, Origin, begin, start_origin, seats_in, own, phase_of, inside, weight, on_phase, arrivals}
-use Rattle.admission_core.specs.Knowledge.{is_kept, told_after, told, known}
+use Rattle.merge_core.specs.Changes.{keeps_counter}
+use Rattle.admission_core.specs.Knowledge.{told_after, told, known}
 use Rattle.admission_core.specs.View.{view_of, rights_of}
 use Rattle.admission_core.specs.Sound.{FitsRow, IsSound}
 use Rattle.admission_core.proofs.SumLemmas.{total_same, total_add, total_member, total_two, total_others_same, total_others_add, total_others-swap}
@@ -146,7 +147,7 @@ replayed_family layout logs = record {
 -- what an account was told was done, where each delta that it heard tells no more
 told_heard : (layout : LayoutState) (accounts : ℕ → Account) (i j r : ℕ) (cell : Cell) → FitsRow (grant (shape_of layout) r j) j (own (accounts j) r) → (heard : List Heard) → HeardNoMore accounts heard → told_after (start_origin layout i) heard r j cell ≤ own (accounts j) r cell
 told_heard layout accounts i j r cell fits [] no_more =
-    cond_both (is_kept i j cell) (start_counter (shape_of layout) r j cell) (start_counter (shape_of layout) r j cell) (λ x. x ≤ own (accounts j) r cell)
+    cond_both (keeps_counter i j cell) (start_counter (shape_of layout) r j cell) (start_counter (shape_of layout) r j cell) (λ x. x ≤ own (accounts j) r cell)
     (λ e. start_below (shape_of layout) r j (own (accounts j) r) fits cell) (λ e. start_below (shape_of layout) r j (own (accounts j) r) fits cell)
 told_heard layout accounts i j r cell fits (Merged rows ∷ heard) no_more =
     let shown : shown_by (shape_of layout) rows r j cell ≤ own (accounts j) r cell =
@@ -155,7 +156,7 @@ told_heard layout accounts i j r cell fits (Merged rows ∷ heard) no_more =
     (start_below (shape_of layout) r j (own (accounts j) r) fits) cell in
     omega (arith, told_heard layout accounts i j r cell fits heard no_more.1)
 told_heard layout accounts i j r cell fits (Restarted ∷ heard) no_more =
-    cond_both (is_kept i j cell) (told_after (start_origin layout i) heard r j cell) (start_counter (shape_of layout) r j cell) (λ x. x ≤ own (accounts j) r cell)
+    cond_both (keeps_counter i j cell) (told_after (start_origin layout i) heard r j cell) (start_counter (shape_of layout) r j cell) (λ x. x ≤ own (accounts j) r cell)
     (λ e. told_heard layout accounts i j r cell fits heard no_more) (λ e. start_below (shape_of layout) r j (own (accounts j) r) fits cell)
 
 pub consistent_cut : (layout : LayoutState) (logs : ℕ → List Step) → ((i : ℕ) → i < layout.sites → HeardNoMore (replayed layout logs) (replayed layout logs i).heard) → (r : ℕ) → IsSentBefore layout (replayed layout logs) r
