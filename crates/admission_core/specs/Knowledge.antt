@@ -1,9 +1,8 @@
 -- What a site knows: the units that the grants, its beginning, its own operations or a delta named. As
 -- numbers, by the greatest unit known of each counter; as sets, by who names a unit (Shapiro et al., 2011:
 -- a join semilattice of sets of operations, of which the counters are the representation).
-use Rattle.std.specs.Prelude.{◌≡◌, ℕ, ◌==◌, ◌⊎◌, max, Bool, false, ◌||◌, IsTrue, List, [], ◌∷◌, if◌then◌else◌}
+use Rattle.std.specs.Prelude.{◌≡◌, ℕ, ◌==◌, ◌⊎◌, max, IsTrue, List, [], ◌∷◌, if◌then◌else◌}
 use Rattle.merge_core.specs.declared.cell.Cell.{Cell}
-use Rattle.merge_core.specs.declared.cell.Cell.TheVariants.{Out, Taken, Ann, Fin}
 use Rattle.merge_core.specs.declared.delta.Row.{Row}
 use Rattle.merge_core.specs.Layout.{shape_of}
 use Rattle.merge_core.specs.Rows.{start_counter}

@@ -1,23 +1,23 @@
 -- A row joined to a book: its counters, its validity, and the rows that were not touched.
-use Rattle.std.proofs.Common.{◌∷◌, zero, suc, map, ◌≡◌, ◌≢◌, ℕ, ◌+◌, ◌-◌, ◌<◌, ◌≤◌, ◌⊎◌, inl, inr, Bool, true, false, ◌&&◌, ◌==◌, cond, max, List, [], length, get_or, set, slice_index, slice_index_or, slice_set, refl, sym, ap, ◌∙◌, subst, arith, eq-eqb}
-use Rattle.std.proofs.lemmas.List.{length-set, get_or-set_same, get_or-set_other, get_or-map, length-map, get_or_past, ext_get_or}
-use Rattle.std.proofs.lemmas.Bool.{cases_eq, cases_lt, ne_eqb}
-use Rattle.grow_counters.specs.Counts.{maxima, counter_limit}
+use Rattle.std.proofs.Common.{◌∷◌, zero, suc, map, ◌≡◌, ◌≢◌, ℕ, ◌<◌, ◌≤◌, ◌⊎◌, inl, inr, ◌==◌, cond, max, List, [], length, get_or, slice_index_or, refl, sym, ap, ◌∙◌, arith, eq-eqb}
+use Rattle.std.proofs.lemmas.List.{length-set, get_or-set_same, get_or-set_other, length-map}
+use Rattle.std.proofs.lemmas.Bool.{cases_eq, ne_eqb}
+use Rattle.grow_counters.specs.Counts.{maxima}
 use Rattle.grow_counters.proofs.CountsLemmas.{get_or-maxima}
-use Rattle.rights_matrix.specs.Matrix.{MatrixState, site_count, row_of, grant as matrix_grant, IsValidRow}
-use Rattle.seat_rows.specs.Seats.{IsSeatState, IsValidSeatRow, taken_at, joined_seats_at}
+use Rattle.rights_matrix.specs.Matrix.{site_count, row_of, grant as matrix_grant}
+use Rattle.seat_rows.specs.Seats.{IsSeatState, IsValidSeatRow}
 use Rattle.writer_notices.specs.Notices.{IsNotices}
 use Rattle.merge_core.specs.declared.cell.Cell.{Cell}
 use Rattle.merge_core.specs.declared.cell.Cell.TheVariants.{Out, Taken, Ann, Fin}
 use Rattle.merge_core.specs.declared.delta.Row.{Row}
 use Rattle.merge_core.specs.declared.record.RecordState.{RecordState}
-use Rattle.merge_core.specs.Layout.{Shape, RecordShape}
-use Rattle.merge_core.specs.Rows.{no_record, grant, start_counter, counter_in, counters_of, IsPlaced, IsValid}
+use Rattle.merge_core.specs.Layout.{RecordShape}
+use Rattle.merge_core.specs.Rows.{no_record, grant, counter_in, counters_of, IsPlaced, IsValid}
 use Rattle.merge_core.specs.Book.{BookState, nothing_known, record_at, row_in, counter_of, shape_in, book_shape, IsRecord, IsBook}
 use Rattle.merge_core.specs.Joined.{joined_record, with_row}
-use Rattle.merge_core.proofs.BookLemmas.{with_record, record_at-same, record_at-other, book_shape-same, IsBook-with}
+use Rattle.merge_core.proofs.BookLemmas.{record_at-same, record_at-other}
 use Rattle.merge_core.proofs.ShownLemmas.{stands_at}
-use Rattle.merge_core.proofs.RiseLemmas.{HasSite, AgreeAt}
+use Rattle.merge_core.proofs.RiseLemmas.{HasSite}
 
 -- the shape of a record that a book shows
 pub shape_at : (b : BookState) (r : ℕ) → slice_index_or (book_shape b).records r no_record ≡ shape_in (record_at b r)

@@ -4,8 +4,8 @@ use Rattle.std.proofs.lemmas.List.{take_more, take_all}
 use Rattle.merge_core.specs.declared.cell.Cell.{Cell}
 use Rattle.merge_core.specs.Layout.{Shape}
 use Rattle.merge_core.specs.Delta.{DeltaState}
-use Rattle.merge_core.specs.Naming.{shown_by, ReachesUnit, RowsName}
-use Rattle.merge_core.specs.Book.{BookState, counter_of, Names, book_shape}
+use Rattle.merge_core.specs.Naming.{shown_by, ReachesUnit}
+use Rattle.merge_core.specs.Book.{BookState, counter_of, book_shape}
 use Rattle.merge_core.specs.Check.{IsChecked}
 use Rattle.merge_core.specs.Changes.{JoinsRows, JoinsAll, known_counter}
 use Rattle.merge_core.specs.Order.{Known, NamesKnown}

@@ -1,5 +1,5 @@
 -- The laws of the join of books.
-use Rattle.std.proofs.Common.{◌≡◌, ℕ, ◌⊎◌, ◌↔◌, inl, inr, List}
+use Rattle.std.proofs.Common.{◌≡◌, ℕ, ◌⊎◌, inl, inr, List}
 use Rattle.merge_core.specs.declared.cell.Cell.{Cell}
 use Rattle.merge_core.specs.Delta.{DeltaState}
 use Rattle.merge_core.specs.Book.{BookState, IsBook, Names, book_shape}

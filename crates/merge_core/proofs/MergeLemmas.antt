@@ -1,24 +1,21 @@
 -- The join of a book with rows, one after another.
-use Rattle.std.proofs.Common.{◌≡◌, ◌≢◌, ℕ, ◌+◌, ◌<◌, ◌≤◌, ◌⊎◌, inl, inr, Bool, true, false, ◌&&◌, ◌==◌, cond, max, All, List, [], ◌∷◌, ◌++◌, length, get_or, set, take, slice_index, refl, sym, ap, ◌∙◌, subst, arith, eq-eqb}
-use Rattle.std.specs.List.{AllByRecursion}
-use Rattle.std.proofs.lemmas.List.{length-set, get_or_past, ext_get_or, take_more, length-map}
+use Rattle.std.proofs.Common.{◌≡◌, ◌≢◌, ℕ, ◌+◌, ◌<◌, ◌≤◌, ◌⊎◌, inl, inr, Bool, true, false, ◌==◌, cond, max, All, List, [], ◌∷◌, ◌++◌, length, get_or, take, refl, sym, ap, ◌∙◌, subst, arith, eq-eqb}
+use Rattle.std.proofs.lemmas.List.{get_or_past, ext_get_or, take_more, length-map}
 use Rattle.std.proofs.lemmas.Bool.{cases_eq, cases_lt, ne_eqb}
-use Rattle.std.proofs.lemmas.Bool.Decides.{nat_tests}
-use Rattle.rights_matrix.specs.Matrix.{MatrixState, site_count, row_of, grant as matrix_grant}
+use Rattle.rights_matrix.specs.Matrix.{row_of, grant as matrix_grant}
 use Rattle.merge_core.specs.declared.cell.Cell.{Cell}
 use Rattle.merge_core.specs.declared.cell.Cell.TheVariants.{Out, Taken, Ann, Fin}
 use Rattle.merge_core.specs.declared.delta.Row.{Row}
-use Rattle.merge_core.specs.declared.record.RecordState.{RecordState}
 use Rattle.merge_core.specs.Layout.{Shape}
 use Rattle.merge_core.specs.Delta.{IsRising}
 use Rattle.merge_core.specs.Rows.{grant, start_counter, counter_in, counters_of, IsPlaced}
 use Rattle.merge_core.specs.Naming.{shown_by, ReachesUnit, RowsName}
-use Rattle.merge_core.specs.Book.{BookState, nothing_known, record_at, row_in, counter_of, Names, shape_in, book_shape, book_rises, IsBook}
+use Rattle.merge_core.specs.Book.{BookState, nothing_known, record_at, counter_of, Names, shape_in, book_shape, book_rises, IsBook}
 use Rattle.merge_core.specs.Order.{IsBelow, IsLeastWith}
 use Rattle.merge_core.specs.Joined.{joined_record, with_row}
 use Rattle.merge_core.proofs.BookLemmas.{book_shape-same}
 use Rattle.merge_core.proofs.ShownLemmas.{stands_at, shown_by-push, shown_by-absent, all_apart}
-use Rattle.merge_core.proofs.RiseLemmas.{HasSite, AgreeAt, record_rises-onward, records_rise-onward, records_rise-written}
+use Rattle.merge_core.proofs.RiseLemmas.{AgreeAt, record_rises-onward, records_rise-onward, records_rise-written}
 use Rattle.merge_core.proofs.UnitLemmas.{ReachesUnit-max, units-from_le}
 use Rattle.merge_core.proofs.JoinLemmas.{grant_at, HasSite-book, counter_of-with_row, placed_below}
 

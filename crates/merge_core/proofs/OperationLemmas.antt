@@ -1,10 +1,9 @@
 -- How the operations on seats and notices change the counters of a record.
-use Rattle.std.proofs.Common.{Result, Ok, Err, MatchResult, OnOk, ◌≡◌, ◌≢◌, ℕ, ◌+◌, ◌<◌, ◌≤◌, ◌⊎◌, inl, inr, Bool, true, false, ◌&&◌, ◌==◌, cond, List, [], length, get_or, set, slice_index, slice_set, refl, sym, ap, ◌∙◌, arith, eq-eqb, if◌then◌else◌}
-use Rattle.std.proofs.lemmas.List.{length-set, get_or-set_same, get_or-set_other, get_or_past}
+use Rattle.std.proofs.Common.{Result, Ok, Err, MatchResult, OnOk, ◌≡◌, ◌≢◌, ℕ, ◌+◌, ◌<◌, ◌≤◌, ◌⊎◌, inl, inr, Bool, true, false, ◌&&◌, ◌==◌, cond, List, [], length, get_or, set, slice_index, refl, ap, ◌∙◌, arith, eq-eqb}
+use Rattle.std.proofs.lemmas.List.{get_or-set_same, get_or-set_other, get_or_past}
 use Rattle.std.proofs.lemmas.Bool.{cases_eq, cases_lt, ne_eqb}
-use Rattle.std.proofs.lemmas.Bool.Decides.{nat_tests}
-use Rattle.rights_matrix.specs.Matrix.{MatrixState, site_count, row_of, entry, raised, IsMatrix}
-use Rattle.seat_rows.specs.Seats.{SeatState, taken_at, after_take, after_raise, IsSeatState}
+use Rattle.rights_matrix.specs.Matrix.{MatrixState, site_count, row_of, entry, raised}
+use Rattle.seat_rows.specs.Seats.{SeatState, after_take, after_raise, IsSeatState}
 use Rattle.writer_notices.specs.Notices.{NoticeState, announced_at, finished_at, IsNotices, IsOpen}
 use Rattle.merge_core.specs.declared.cell.Cell.{Cell}
 use Rattle.merge_core.specs.declared.cell.Cell.TheVariants.{Out, Taken, Ann, Fin}

@@ -1,13 +1,12 @@
 -- How many counters rise, counted on the way: where a row is joined that was as it was at first, the counters
 -- that rise then are counted once more, and no other.
-use Rattle.std.proofs.Common.{◌≡◌, ℕ, zero, suc, ◌+◌, ◌<◌, ◌≤◌, cond, ltb, max, List, [], ◌∷◌, length, get_or, set, refl, sym, ap, ◌∙◌, subst, arith, slice_index}
+use Rattle.std.proofs.Common.{◌≡◌, ℕ, zero, suc, ◌+◌, ◌<◌, cond, ltb, max, List, [], ◌∷◌, length, get_or, set, refl, sym, ap, ◌∙◌, subst, arith, slice_index}
 use Rattle.grow_counters.specs.Counts.{maxima, rise_count}
 use Rattle.grow_counters.proofs.CountsLemmas.{rise_count-same, rise_count-set}
 use Rattle.std.proofs.lemmas.List.{get_or-set_same}
 use Rattle.rights_matrix.specs.Matrix.{site_count, row_of}
 use Rattle.rights_matrix.specs.Joined.{rise_counts}
 use Rattle.seat_rows.specs.Seats.{SeatState, taken_at, joined_seats_at, seat_rises, seat_rises_at}
-use Rattle.writer_notices.specs.Notices.{NoticeState, joined_at, notice_rises}
 use Rattle.merge_core.specs.declared.delta.Row.{Row}
 use Rattle.merge_core.specs.declared.record.RecordState.{RecordState}
 use Rattle.merge_core.specs.Book.{nothing_known, record_rises, records_rise}

@@ -1,10 +1,7 @@
 -- Books of one shape that show the same counters are the same book.
-use Rattle.std.proofs.Common.{◌≡◌, ℕ, ◌<◌, ◌≤◌, ◌↔◌, Bool, true, false, IsTrue, List, [], length, get_or, map, slice_index, refl, sym, ap, ◌∙◌, subst, arith}
+use Rattle.std.proofs.Common.{◌≡◌, ℕ, ◌<◌, ◌↔◌, List, [], length, get_or, sym, ap, ◌∙◌, subst, arith}
 use Rattle.std.proofs.lemmas.List.{ext_get_or, length-map}
-use Rattle.std.proofs.lemmas.Bool.{false≢true}
-use Rattle.rights_matrix.specs.Matrix.{MatrixState, site_count, row_of}
-use Rattle.seat_rows.specs.Seats.{SeatState}
-use Rattle.writer_notices.specs.Notices.{NoticeState}
+use Rattle.rights_matrix.specs.Matrix.{MatrixState}
 use Rattle.merge_core.specs.declared.cell.Cell.{Cell}
 use Rattle.merge_core.specs.declared.cell.Cell.TheVariants.{Out, Taken, Ann, Fin}
 use Rattle.merge_core.specs.declared.record.RecordState.{RecordState}

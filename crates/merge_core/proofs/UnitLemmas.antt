@@ -1,5 +1,5 @@
 -- From counters to the operations that they name: the greater of two counters names the union.
-use Rattle.std.proofs.Common.{◌≡◌, ℕ, ◌<◌, ◌≤◌, ◌⊎◌, ◌↔◌, inl, inr, max, refl, sym, subst, arith}
+use Rattle.std.proofs.Common.{◌≡◌, ℕ, ◌<◌, ◌≤◌, ◌⊎◌, ◌↔◌, inl, inr, max, arith}
 use Rattle.std.proofs.lemmas.Bool.{cases_lt}
 use Rattle.merge_core.specs.Naming.{ReachesUnit}
 

@@ -1,6 +1,6 @@
 -- Deltas: rows of counters that one site sends another (the delta-states of Almeida, Shoker and Baquero,
 -- "Delta state replicated data types", 2018, cut along the rows of the bounded counter's matrix).
-use Rattle.std.specs.Prelude.{ℕ, ◌≡◌, ◌^◌, ◌<◌, ◌≤◌, ◌⊎◌, List, [], ◌∷◌, length, All}
+use Rattle.std.specs.Prelude.{ℕ, ◌≡◌, ◌^◌, ◌<◌, ◌≤◌, ◌⊎◌, List, [], ◌∷◌, length}
 use Rattle.std.specs.List.{AllByRecursion}
 use Rattle.merge_core.specs.declared.delta.Row.{Row}
 

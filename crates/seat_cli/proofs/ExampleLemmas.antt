@@ -1,12 +1,12 @@
 -- The texts of the small examples: each number is one digit.
-use Rattle.std.proofs.Common.{◌≡◌, ℕ, List, [], ◌∷◌, ◌++◌, codes, decimal, refl, arith}
+use Rattle.std.proofs.Common.{◌≡◌, [], ◌∷◌, ◌++◌, codes, decimal, refl, arith}
 use Rattle.std.proofs.lemmas.Fmt.{decimal_digit}
 use Rattle.merge_core.specs.declared.check.CheckError.TheVariants.{OtherLayout}
 use Rattle.delta_codec.specs.DeltaText.{row_text, delta_text}
 use Rattle.seat_cli.specs.declared.fault.LineFault.TheVariants.{Unfit}
 use Rattle.seat_cli.specs.Engine.{book_line}
 use Rattle.seat_cli.specs.Texts.{refusal_text}
-use Rattle.seat_cli.specs.Examples.{seat_given, seat_given_text, three_sent, three_sent_text, three_sent_book}
+use Rattle.seat_cli.specs.Examples.{seat_given, seat_given_text, three_sent_text, three_sent_book}
 
 zero : decimal 0 ≡ 48 ∷ []
 zero = decimal_digit 0 (omega arith)

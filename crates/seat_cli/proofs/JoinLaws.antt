@@ -1,11 +1,11 @@
 -- The same deltas join to one book.
-use Rattle.std.proofs.Common.{◌≡◌, ℕ, ◌≤◌, ◌⊎◌, ◌↔◌, inl, inr, List, [], ◌∷◌, refl, sym, ap, ◌∙◌, subst, arith}
+use Rattle.std.proofs.Common.{◌≡◌, ℕ, ◌≤◌, inl, inr, List, [], ◌∷◌, refl, sym, ap, ◌∙◌, subst, arith}
 use Rattle.merge_core.specs.declared.cell.Cell.{Cell}
 use Rattle.merge_core.specs.Layout.{Shape}
 use Rattle.merge_core.specs.Delta.{DeltaState}
 use Rattle.merge_core.specs.Rows.{start_counter}
 use Rattle.merge_core.specs.Naming.{shown_by, ReachesUnit}
-use Rattle.merge_core.specs.Book.{BookState, counter_of, Names}
+use Rattle.merge_core.specs.Book.{BookState, counter_of}
 use Rattle.merge_core.specs.Order.{NamesSame}
 use Rattle.merge_core.proofs.SameLemmas.{same_from_names}
 use Rattle.seat_cli.specs.Joins.{joined_counter, IsJoinOf, IsAmong, SameDeltas}

@@ -1,12 +1,10 @@
 -- Layout files: the keys of a table, and the records of an array one by one.
-use Rattle.std.proofs.Common.{◌≡◌, ℕ, ◌+◌, ◌<◌, ◌≤◌, List, [], ◌∷◌, ◌++◌, length, get_or, drop, Option, Some, None, String, Global, refl, sym, ap, ◌∙◌, subst, append_assoc, append-nil, arith, drop_of_length-le}
+use Rattle.std.proofs.Common.{◌≡◌, ℕ, List, [], ◌∷◌, ◌++◌, length, Option, Some, None, String, Global, refl, sym, ap, ◌∙◌, arith}
 use Rattle.toml.specs.declared.value.Value.{Value}
-use Rattle.toml.specs.Data.{Data, string, integer, float, boolean, datetime, array, table, as_table, item, Items, Members}
-use Rattle.toml.specs.View.{view, items_view, members_view}
-use Rattle.toml.proofs.Views.{items_view-drop}
-use Rattle.delta_codec.specs.Readers.{◌>>=◌}
+use Rattle.toml.specs.Data.{Data, string, integer, float, boolean, datetime, array, table, as_table, Members}
+use Rattle.toml.specs.View.{members_view}
 use Rattle.merge_core.specs.declared.layout.RecordSpec.{RecordSpec}
-use Rattle.seat_cli.specs.LayoutFile.{count_members, key_count, record_in, records_in}
+use Rattle.seat_cli.specs.LayoutFile.{count_members, key_count}
 
 -- the members that stand for the entries of a map are as many
 members_counted : (es : List (String Global × Value)) → count_members (members_view es) ≡ length es

@@ -1,5 +1,5 @@
 -- What the engine of `join` did, by the status that it ended with.
-use Rattle.std.specs.Prelude.{◌≡◌, ℕ, ◌+◌, ◌⊎◌, List, [], ◌∷◌, ◌++◌, Option, Ok, Err}
+use Rattle.std.specs.Prelude.{ℕ, ◌+◌, ◌⊎◌, List, [], ◌∷◌, ◌++◌, Option, Ok, Err}
 use Rattle.std.specs.Io.KnownBytes.{Appends}
 use Rattle.merge_core.specs.Layout.{Shape}
 use Rattle.merge_core.specs.Delta.{DeltaState}

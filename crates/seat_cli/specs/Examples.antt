@@ -1,9 +1,8 @@
 -- Small inputs of `join` and what they are answered, for the laws that compute the definitions on them.
-use Rattle.std.specs.Prelude.{ℕ, List, [], ◌∷◌, ◌++◌, codes, map}
+use Rattle.std.specs.Prelude.{ℕ, List, [], ◌∷◌, codes, map}
 use Rattle.std.specs.List.{range_with_len}
 use Rattle.merge_core.specs.declared.cell.Cell.TheVariants.{Out, Taken, Ann, Fin}
 use Rattle.merge_core.specs.declared.delta.Row.{Row}
-use Rattle.merge_core.specs.declared.layout.RecordSpec.{RecordSpec}
 use Rattle.merge_core.specs.Layout.{LayoutState, Shape, shape_of}
 use Rattle.merge_core.specs.Delta.{DeltaState}
 use Rattle.merge_core.specs.Book.{BookState}

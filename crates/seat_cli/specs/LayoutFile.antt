@@ -1,7 +1,7 @@
 -- What a layout file says (this project's own format, in TOML): the keys `sites` and `record` and no other,
 -- and in each record `name`, `seats`, `home` and `problem` and no other.
-use Rattle.std.specs.Prelude.{◌≡◌, ℕ, ◌+◌, min, ◌==◌, nat_le, pos, List, [], ◌∷◌, codes, if◌then◌else◌, Option, Some, None, option_and_then, IsUtf8, Result, Ok, Err}
-use Rattle.toml.specs.Data.{Data, integer, array, table, Items, no_items, item, Members, no_members, member, get, as_str, as_integer}
+use Rattle.std.specs.Prelude.{◌≡◌, ℕ, ◌+◌, min, ◌==◌, nat_le, pos, List, [], ◌∷◌, codes, if◌then◌else◌, Option, Some, None, IsUtf8, Result, Ok, Err}
+use Rattle.toml.specs.Data.{Data, integer, array, table, Items, no_items, item, Members, no_members, member, get, as_str}
 use Rattle.toml.specs.Parse.{parse_document}
 use Rattle.delta_codec.specs.Readers.{◌>>=◌}
 use Rattle.merge_core.specs.declared.layout.RecordSpec.{RecordSpec}

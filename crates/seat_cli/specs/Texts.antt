@@ -1,6 +1,5 @@
 -- What `join` writes.
 use Rattle.std.specs.Prelude.{ℕ, List, [], ◌∷◌, ◌++◌, codes, decimal}
-use Rattle.merge_core.specs.declared.check.CheckError.{CheckError}
 use Rattle.merge_core.specs.declared.check.CheckError.TheVariants.{OtherLayout, BadRow}
 use Rattle.delta_codec.specs.Decodes.{fault_name}
 use Rattle.seat_cli.specs.declared.fault.LineFault.{LineFault}

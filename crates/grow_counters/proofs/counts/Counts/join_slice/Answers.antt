@@ -2,7 +2,6 @@ use Rattle.std.proofs.Common.{◌≡◌, ℕ, ◌+◌, ◌<◌, ◌≤◌, ◌�
 use Rattle.std.proofs.lemmas.Bool.{lt-ltb, le-ltb, false≢true}
 use mir.Val.{bool_byte}
 use Rattle.grow_counters.specs.Counts.{rise_count}
-use Rattle.std.proofs.lemmas.Bool.Decides.{nat_tests}
 use Rattle.grow_counters.proofs.CountsLemmas.{IsMergedBelow, rise_count-same, rise_count-set, IsMergedBelow-start, IsMergedBelow-step, IsMergedBelow-end}
 use Rattle.grow_counters.proofs.counts.Counts.join_slice.Goals as goal
 

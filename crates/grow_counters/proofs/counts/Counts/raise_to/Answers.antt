@@ -1,4 +1,4 @@
-use Rattle.std.proofs.Common.{sym, arith}
+use Rattle.std.proofs.Common.{arith}
 use Rattle.grow_counters.proofs.CountsLemmas.{rise_count-same, rise_count-raised}
 use Rattle.grow_counters.proofs.counts.Counts.raise_to.Goals as goal
 

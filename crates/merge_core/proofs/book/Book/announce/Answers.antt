@@ -1,4 +1,4 @@
-use Rattle.std.proofs.Common.{◌≡◌, ◌<◌, length, arith}
+use Rattle.std.proofs.Common.{◌<◌, length, arith}
 use Rattle.writer_notices.specs.Notices.{announced_at}
 use Rattle.merge_core.specs.Book.{BookState}
 use Rattle.merge_core.proofs.BookLemmas.{Raises-written, IsRecord-read}

@@ -1,4 +1,4 @@
-use Rattle.std.proofs.Common.{◌≡◌, ◌<◌, length, sym, subst}
+use Rattle.std.proofs.Common.{◌<◌, length, sym, subst}
 use Rattle.writer_notices.specs.Notices.{IsOpen}
 use Rattle.merge_core.specs.declared.record.RecordState.{RecordState}
 use Rattle.merge_core.specs.Book.{BookState}

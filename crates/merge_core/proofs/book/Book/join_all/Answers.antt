@@ -1,4 +1,3 @@
-use Rattle.std.proofs.Common.{arith}
 use Rattle.merge_core.proofs.KnownLemmas.{JoinsAll-step, JoinsAll-whole, NamesKnown-joined, checked_at}
 use Rattle.merge_core.proofs.book.Book.join_all.Goals as goal
 

@@ -1,4 +1,4 @@
-use Rattle.std.proofs.Common.{◌≡◌, ◌<◌, length, ap, sym, ◌∙◌, arith}
+use Rattle.std.proofs.Common.{◌<◌, length, ap, sym, ◌∙◌, arith}
 use Rattle.merge_core.specs.declared.record.RecordState.{RecordState}
 use Rattle.merge_core.specs.Book.{BookState, record_rises}
 use Rattle.merge_core.proofs.BookLemmas.{IsBook-with, IsRecord-read, read_record}

@@ -1,7 +1,4 @@
-use Rattle.std.proofs.Common.{◌≡◌, refl, sym, ap, ◌∙◌, arith}
-use Rattle.std.proofs.lemmas.Bool.{false≢true}
-use Rattle.merge_core.specs.declared.record.RecordState.{RecordState}
-use Rattle.merge_core.specs.Book.{row_in}
+use Rattle.std.proofs.Common.{refl, arith}
 use Rattle.merge_core.proofs.SameLemmas.{same_records}
 use Rattle.merge_core.proofs.book.equality.same_record.Goals as goal
 

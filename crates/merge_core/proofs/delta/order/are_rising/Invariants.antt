@@ -1,4 +1,4 @@
-use Rattle.std.proofs.Common.{ℕ, suc, ◌<◌, ◌-◌, get_or}
+use Rattle.std.proofs.Common.{ℕ, suc, ◌<◌, get_or}
 use Rattle.merge_core.specs.declared.delta.Row.{Row}
 use Rattle.merge_core.specs.Delta.{ComesBefore}
 use Rattle.merge_core.proofs.delta.order.are_rising.Given as goal
