@@ -5,6 +5,7 @@ use Rattle.std.specs.Prelude.{ℕ, ◌+◌, ◌==◌, ◌&&◌, Bool, true, fals
 use Rattle.merge_core.specs.declared.cell.Cell.TheVariants.{Out, Taken, Ann, Fin}
 use Rattle.merge_core.specs.Delta.{DeltaState}
 use Rattle.grow_counters.specs.Counts.{counter_limit}
+use Rattle.writer_notices.specs.Notices.{most_writers}
 use Rattle.admission_core.specs.declared.ask.Ask.{Ask}
 use Rattle.admission_core.specs.declared.ask.Ask.TheVariants.{Read, Announce, Quill, Leave, Give, Help}
 use Rattle.admission_core.specs.declared.ask.Phase.{Phase}
@@ -33,10 +34,6 @@ first_reason (l ∷ ls) = if l.test then Some l.refusal else first_reason ls
 -- the greatest number of a holder
 abbrev pub holder_limit : ℕ
 holder_limit = 1000000000000
-
--- how many unfinished writers a site may have at a record
-abbrev pub writer_limit : ℕ
-writer_limit = 64
 
 -- the layout has no such record
 abbrev pub no_record_there : View → ℕ → Bool
@@ -82,7 +79,7 @@ announce_lines v r h =
     ∷ line (nat_lt holder_limit h) BadHolder
     ∷ line (is_some (v.phase r h)) AlreadyHere
     ∷ line (nat_lt counter_limit (v.counter r v.site Ann + 1)) CounterFull
-    ∷ line (nat_le (v.counter r v.site Fin + writer_limit) (v.counter r v.site Ann)) TooManyWriters
+    ∷ line (nat_le (v.counter r v.site Fin + most_writers) (v.counter r v.site Ann)) TooManyWriters
     ∷ []
 
 -- an announced writer enters: it needs all seats of the record

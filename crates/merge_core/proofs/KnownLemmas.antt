@@ -4,16 +4,17 @@ use Rattle.std.proofs.lemmas.List.{take_more, take_all}
 use Rattle.merge_core.specs.declared.cell.Cell.{Cell}
 use Rattle.merge_core.specs.Layout.{Shape}
 use Rattle.merge_core.specs.Delta.{DeltaState}
-use Rattle.merge_core.specs.Naming.{shown_by, ReachesUnit}
+use Rattle.merge_core.specs.Naming.{greatest_shown, shown_by, ReachesUnit}
 use Rattle.merge_core.specs.Book.{BookState, counter_of, book_shape}
 use Rattle.merge_core.specs.Check.{IsChecked}
-use Rattle.merge_core.specs.Changes.{JoinsRows, JoinsAll, known_counter}
+use Rattle.merge_core.specs.Changes.{JoinsRows, JoinsAll}
 use Rattle.merge_core.specs.Order.{Known, NamesKnown}
 use Rattle.merge_core.proofs.UnitLemmas.{ReachesUnit-max}
 
-known_counter-push : (b : BookState) (ds : List DeltaState) (d : DeltaState) (r s : ℕ) (cell : Cell) → known_counter b (ds ++ d ∷ []) r s cell ≡ max (known_counter b ds r s cell) (shown_by (book_shape b) d.rows r s cell)
-known_counter-push b [] d r s cell = omega arith
-known_counter-push b (e ∷ es) d r s cell = omega (arith, known_counter-push b es d r s cell)
+pub greatest_shown-push : (shape : Shape) (known : ℕ) (ds : List DeltaState) (d : DeltaState) (r s : ℕ) (cell : Cell)
+    → greatest_shown shape known (ds ++ d ∷ []) r s cell ≡ max (greatest_shown shape known ds r s cell) (shown_by shape d.rows r s cell)
+greatest_shown-push shape known [] d r s cell = omega arith
+greatest_shown-push shape known (e ∷ es) d r s cell = omega (arith, greatest_shown-push shape known es d r s cell)
 
 pub JoinsAll-start : (b : BookState) → JoinsAll b b []
 JoinsAll-start b = record { shape = refl; counters = λ r s cell. refl }
@@ -28,11 +29,11 @@ JoinsAll-step old now new ds i d below read before joins = record {
     one_more : take (i + 1) ds ≡ take i ds ++ d ∷ []
     one_more = rw read (take_more ds i d below)
 
-    at_place : (r s : ℕ) (cell : Cell) → counter_of new r s cell ≡ known_counter old (take (i + 1) ds) r s cell
+    at_place : (r s : ℕ) (cell : Cell) → counter_of new r s cell ≡ greatest_shown (book_shape old) (counter_of old r s cell) (take (i + 1) ds) r s cell
     at_place r s cell =
         let shown : shown_by (book_shape now) d.rows r s cell ≡ shown_by (book_shape old) d.rows r s cell =
         ap (λ (shape : Shape). shown_by shape d.rows r s cell) before.shape in
-        rw one_more (omega (arith, joins.counters r s cell, before.counters r s cell, known_counter-push old (take i ds) d r s cell, shown))
+        rw one_more (omega (arith, joins.counters r s cell, before.counters r s cell, greatest_shown-push (book_shape old) (counter_of old r s cell) (take i ds) d r s cell, shown))
 
 pub JoinsAll-whole : (old new : BookState) (ds : List DeltaState) (i : ℕ) → length ds ≤ i → JoinsAll old new (take i ds) → JoinsAll old new ds
 JoinsAll-whole old new ds i past joins = subst (λ (es : List DeltaState). JoinsAll old new es) (take_all i ds past) joins
@@ -56,10 +57,10 @@ or_rest {A} {B} {C} {D} both rest = (λ d. forth (both.0 d), back)
     back (inr there) = both.1 (inr (rest.1 there))
 
 -- the greatest counter names what the book or one of the deltas names
-known_units : (b : BookState) (ds : List DeltaState) (r s : ℕ) (cell : Cell) (k : ℕ) → ReachesUnit (known_counter b ds r s cell) k ↔ Known b ds r s cell k
+known_units : (b : BookState) (ds : List DeltaState) (r s : ℕ) (cell : Cell) (k : ℕ) → ReachesUnit (greatest_shown (book_shape b) (counter_of b r s cell) ds r s cell) k ↔ Known b ds r s cell k
 known_units b [] r s cell k = (λ h. h, λ h. h)
 known_units b (d ∷ ds) r s cell k =
-    or_rest (ReachesUnit-max (shown_by (book_shape b) d.rows r s cell) (known_counter b ds r s cell) k) (known_units b ds r s cell k)
+    or_rest (ReachesUnit-max (shown_by (book_shape b) d.rows r s cell) (greatest_shown (book_shape b) (counter_of b r s cell) ds r s cell) k) (known_units b ds r s cell k)
 
 pub NamesKnown-joined : (old new : BookState) (ds : List DeltaState) → JoinsAll old new ds → NamesKnown old ds new
 NamesKnown-joined old new ds joins r s cell k =

@@ -1,12 +1,11 @@
 -- How many counters rise, counted on the way: where a row is joined that was as it was at first, the counters
 -- that rise then are counted once more, and no other.
-use Rattle.std.proofs.Common.{◌≡◌, ℕ, zero, suc, ◌+◌, ◌<◌, cond, ltb, max, List, [], ◌∷◌, length, get_or, set, refl, sym, ap, ◌∙◌, subst, arith, slice_index}
+use Rattle.std.proofs.Common.{◌≡◌, ℕ, zero, suc, ◌+◌, ◌<◌, cond, ltb, max, List, [], ◌∷◌, length, get_or, set, refl, ap, ◌∙◌, arith, slice_index}
 use Rattle.grow_counters.specs.Counts.{maxima, rise_count}
 use Rattle.grow_counters.proofs.CountsLemmas.{rise_count-same, rise_count-set}
-use Rattle.std.proofs.lemmas.List.{get_or-set_same}
 use Rattle.rights_matrix.specs.Matrix.{site_count, row_of}
-use Rattle.rights_matrix.specs.Joined.{rise_counts}
-use Rattle.seat_rows.specs.Seats.{SeatState, taken_at, joined_seats_at, seat_rises, seat_rises_at}
+use Rattle.rights_matrix.proofs.JoinLemmas.{rise_counts-onward, rise_counts-same}
+use Rattle.seat_rows.specs.Seats.{taken_at}
 use Rattle.merge_core.specs.declared.delta.Row.{Row}
 use Rattle.merge_core.specs.declared.record.RecordState.{RecordState}
 use Rattle.merge_core.specs.Book.{nothing_known, record_rises, records_rise}
@@ -18,34 +17,6 @@ rise_count-onward xs ys i v in_xs in_ys same =
     let alone : rise_count ys (set ys i v) ≡ cond (ltb (get_or ys i 0) v) 1 0 =
     rise_count-set ys ys i v in_ys in_ys refl ∙ ap (λ n. n + cond (ltb (get_or ys i 0) v) 1 0) (rise_count-same ys) ∙ omega arith in
     rw (alone, same) (rise_count-set xs ys i v in_xs in_ys same)
-
--- one row
-rise_counts-set : (xs ys : List (List ℕ)) (i : ℕ) (row : List ℕ) → i < length xs → i < length ys → get_or ys i [] ≡ get_or xs i [] → rise_counts xs (set ys i row) ≡ rise_counts xs ys + rise_count (get_or ys i []) row
-rise_counts-set [] ys i row in_xs in_ys same = absurd (omega arith)
-rise_counts-set (x ∷ xs) [] i row in_xs in_ys same = absurd (omega arith)
-rise_counts-set (x ∷ xs) (y ∷ ys) zero row in_xs in_ys same =
-    let nothing : rise_count x y ≡ 0 = rw same (rise_count-same x) in rw (nothing, same) (omega arith)
-rise_counts-set (x ∷ xs) (y ∷ ys) (suc i) row in_xs in_ys same =
-    let rest = rise_counts-set xs ys i row (omega arith) (omega arith) same in omega arith
-
-rise_counts-same : (xs : List (List ℕ)) → rise_counts xs xs ≡ 0
-rise_counts-same [] = refl
-rise_counts-same (x ∷ xs) = omega (arith, rise_count-same x, rise_counts-same xs)
-
-rise_counts-onward : (xs ys : List (List ℕ)) (i : ℕ) (row : List ℕ) → i < length xs → i < length ys → get_or ys i [] ≡ get_or xs i [] → rise_counts xs (set ys i row) ≡ rise_counts xs ys + rise_counts ys (set ys i row)
-rise_counts-onward xs ys i row in_xs in_ys same =
-    omega (arith, rise_counts-set xs ys i row in_xs in_ys same, rise_counts-set ys ys i row in_ys in_ys refl, rise_counts-same ys)
-
--- the seats of a record
-seat_rises-at : (st : SeatState) (s taken : ℕ) (row : List ℕ) → s < site_count st.matrix → s < length st.taken → seat_rises_at st (joined_seats_at st s row taken) s ≡ seat_rises st (joined_seats_at st s row taken)
-seat_rises-at st s taken row in_matrix in_taken =
-    let v = max (taken_at st s) taken in
-    let new_row = maxima (row_of st.matrix s) row in
-    let rows = rise_counts-set st.matrix.rows st.matrix.rows s new_row in_matrix in_matrix refl in
-    let none = rise_counts-same st.matrix.rows in
-    let counts = rise_count-set st.taken st.taken s v in_taken in_taken refl in
-    let nothing = rise_count-same st.taken in
-    rw (get_or-set_same st.matrix.rows s new_row [] in_matrix, get_or-set_same st.taken s v 0 in_taken) (omega arith)
 
 -- an agreeing row: both records show the same at a site
 pub record AgreeAt (x y : RecordState) (s : ℕ) : Type 0 where
@@ -90,8 +61,3 @@ pub records_rise-written : (ys : List RecordState) (r : ℕ) (st : RecordState) 
 records_rise-written ys r st inside =
     let alone = record_rises-same (get_or ys r nothing_known) in
     omega (arith, records_rise-onward ys ys r st inside inside (omega arith), records_rise-same ys)
-
--- the same, for a state that is the joined one
-pub seat_rises-joined : (st new : SeatState) (s taken : ℕ) (row : List ℕ) → new ≡ joined_seats_at st s row taken → s < site_count st.matrix → s < length st.taken → seat_rises_at st new s ≡ seat_rises st new
-seat_rises-joined st new s taken row change in_matrix in_taken =
-    subst (λ (x : SeatState). seat_rises_at st x s ≡ seat_rises st x) (sym change) (seat_rises-at st s taken row in_matrix in_taken)

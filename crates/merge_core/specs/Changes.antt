@@ -1,10 +1,10 @@
 -- How the calls of a book change its counters.
-use Rattle.std.specs.Prelude.{◌≡◌, ℕ, ◌+◌, max, Bool, ◌==◌, ◌&&◌, ◌||◌, false, true, List, [], ◌∷◌, if◌then◌else◌}
+use Rattle.std.specs.Prelude.{◌≡◌, ℕ, ◌+◌, max, Bool, ◌==◌, ◌&&◌, ◌||◌, false, true, List, if◌then◌else◌}
 use Rattle.merge_core.specs.declared.cell.Cell.{Cell}
 use Rattle.merge_core.specs.declared.cell.Cell.TheVariants.{Out, Taken, Ann, Fin}
 use Rattle.merge_core.specs.declared.delta.Row.{Row}
 use Rattle.merge_core.specs.Delta.{DeltaState}
-use Rattle.merge_core.specs.Naming.{shown_by}
+use Rattle.merge_core.specs.Naming.{greatest_shown, shown_by}
 use Rattle.merge_core.specs.Rows.{start_counter}
 use Rattle.merge_core.specs.Book.{BookState, counter_of, book_shape}
 
@@ -25,15 +25,10 @@ pub record JoinsRows (old new : BookState) (rows : List Row) : Type 0 where
   pub shape : book_shape new ≡ book_shape old
   pub counters : (r s : ℕ) (cell : Cell) → counter_of new r s cell ≡ max (counter_of old r s cell) (shown_by (book_shape old) rows r s cell)
 
--- the greatest that the book or one of the deltas shows of a counter
-abbrev pub known_counter : BookState → List DeltaState → ℕ → ℕ → Cell → ℕ
-known_counter b [] r s cell = counter_of b r s cell
-known_counter b (d ∷ ds) r s cell = max (shown_by (book_shape b) d.rows r s cell) (known_counter b ds r s cell)
-
 -- each counter is the greatest of the book's and all the deltas'
 pub record JoinsAll (old new : BookState) (deltas : List DeltaState) : Type 0 where
   pub shape : book_shape new ≡ book_shape old
-  pub counters : (r s : ℕ) (cell : Cell) → counter_of new r s cell ≡ known_counter old deltas r s cell
+  pub counters : (r s : ℕ) (cell : Cell) → counter_of new r s cell ≡ greatest_shown (book_shape old) (counter_of old r s cell) deltas r s cell
 
 -- which counters a restart of a site keeps: its own row, and the rights that were sent to it. Every other
 -- counter starts again (this project's own rule)

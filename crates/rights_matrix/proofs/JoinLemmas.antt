@@ -1,8 +1,8 @@
 -- Joins of rows and of matrices.
-use Rattle.std.proofs.Common.{◌≡◌, ℕ, zero, suc, ◌+◌, ◌<◌, ◌≤◌, List, [], ◌∷◌, ◌++◌, ◌*◌, length, get_or, set, take, drop, max, refl, ap, ◌∙◌, arith}
+use Rattle.std.proofs.Common.{◌≡◌, ℕ, zero, suc, ◌+◌, ◌<◌, ◌≤◌, List, [], ◌∷◌, ◌++◌, ◌*◌, length, get_or, set, take, drop, max, refl, ap, ◌∙◌, subst, arith}
 use Rattle.std.proofs.lemmas.List.{get_or_read, get_or-set_other, length-set, drop_more, take_more_set, drop-set-lt, append_assoc}
 use Rattle.grow_counters.specs.Counts.{maxima, rise_count}
-use Rattle.grow_counters.proofs.CountsLemmas.{length-maxima, get_or-maxima, rise_count_le}
+use Rattle.grow_counters.proofs.CountsLemmas.{length-maxima, get_or-maxima, rise_count_le, rise_count-same}
 use Rattle.rights_matrix.specs.Joined.{joined_rows, rise_counts, joined, joined_at}
 use Rattle.rights_matrix.specs.Matrix.{MatrixState, site_count, grant, row_of, IsValidRow, IsMatrix, SameShape}
 use Rattle.rights_matrix.proofs.MatrixLemmas.{FitsAt, IsMatrix-with_rows, IsMatrix-set_row}
@@ -130,3 +130,31 @@ read_row_rises m0 m s k old new is_m h inside place read =
     let old_is : old ≡ row_of m0 k = get_or_read m0.rows k old inside' read [] in
     let size : length old ≡ site_count m0 = rw old_is (h.square k inside') in
     omega (arith, size, h.few_sites, rise_count_le old new)
+
+-- one row of a matrix is set
+pub rise_counts-set : (xs ys : List (List ℕ)) (i : ℕ) (row : List ℕ) → i < length xs → i < length ys → get_or ys i [] ≡ get_or xs i [] → rise_counts xs (set ys i row) ≡ rise_counts xs ys + rise_count (get_or ys i []) row
+rise_counts-set [] ys i row in_xs in_ys same = absurd (omega arith)
+rise_counts-set (x ∷ xs) [] i row in_xs in_ys same = absurd (omega arith)
+rise_counts-set (x ∷ xs) (y ∷ ys) zero row in_xs in_ys same =
+    let nothing : rise_count x y ≡ 0 = rw same (rise_count-same x) in rw (nothing, same) (omega arith)
+rise_counts-set (x ∷ xs) (y ∷ ys) (suc i) row in_xs in_ys same =
+    let rest = rise_counts-set xs ys i row (omega arith) (omega arith) same in omega arith
+
+pub rise_counts-same : (xs : List (List ℕ)) → rise_counts xs xs ≡ 0
+rise_counts-same [] = refl
+rise_counts-same (x ∷ xs) = omega (arith, rise_count-same x, rise_counts-same xs)
+
+-- the same, counted on the way: the row was as it was at first
+pub rise_counts-onward : (xs ys : List (List ℕ)) (i : ℕ) (row : List ℕ) → i < length xs → i < length ys → get_or ys i [] ≡ get_or xs i [] → rise_counts xs (set ys i row) ≡ rise_counts xs ys + rise_counts ys (set ys i row)
+rise_counts-onward xs ys i row in_xs in_ys same =
+    omega (arith, rise_counts-set xs ys i row in_xs in_ys same, rise_counts-set ys ys i row in_ys in_ys refl, rise_counts-same ys)
+
+-- the counters that rose in one row are those that rose in the matrix
+pub read_row_counts : (m0 m : MatrixState) (s k n : ℕ) (old new : List ℕ) → m0 ≡ m → s < site_count m → k ≡ s → old ≡ get_or m0.rows k old → n ≡ rise_count old new → n ≡ rise_counts m.rows (set m0.rows k new)
+read_row_counts m0 m s k n old new is_m inside place read counted =
+    let inside' : k < site_count m0 = rw (place, is_m) inside in
+    let old_is : old ≡ get_or m0.rows k [] = get_or_read m0.rows k old inside' read [] in
+    let counted' : n ≡ rise_count (get_or m0.rows k []) new = counted ∙ ap (λ (row : List ℕ). rise_count row new) old_is in
+    let at : n ≡ rise_counts m0.rows (set m0.rows k new) =
+    omega (arith, rise_counts-set m0.rows m0.rows k new inside' inside' refl, rise_counts-same m0.rows, counted') in
+    subst (λ (x : MatrixState). n ≡ rise_counts x.rows (set m0.rows k new)) is_m at

@@ -121,7 +121,7 @@ impl Rights {
         requires size { length given.now ≤ site_count self.old }
         requires valid { IsValidRow self.old s given.now }
         ensures state { self.new ≡ joined_at self.old s given.now }
-        ensures risen { result ≡ rise_count (row_of self.old s) (row_of self.new s) }
+        ensures risen { result ≡ rise_counts self.old.rows self.new.rows }
         ensures few { result ≤ 16 }
         ensures matrix { IsMatrix self.new }
     {

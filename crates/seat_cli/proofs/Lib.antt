@@ -3,3 +3,4 @@ mod ExampleLemmas
 mod JoinLaws
 mod LayoutLemmas
 mod LineLemmas
+mod WordLemmas

@@ -1,5 +1,5 @@
 -- One line more of an input.
-use Rattle.std.proofs.Common.{◌≡◌, ℕ, ◌+◌, max, List, [], ◌∷◌, ◌++◌, length, map, refl, sym, ap, ◌∙◌, subst, append_assoc, append-nil, arith}
+use Rattle.std.proofs.Common.{◌≡◌, ℕ, ◌+◌, List, [], ◌∷◌, ◌++◌, length, map, refl, sym, ap, ◌∙◌, subst, append_assoc, append-nil, arith}
 use Rattle.std.specs.List.{AllByRecursion}
 use Rattle.merge_core.specs.declared.cell.Cell.{Cell}
 use Rattle.merge_core.specs.Layout.{Shape}
@@ -7,16 +7,13 @@ use Rattle.merge_core.specs.Delta.{DeltaState}
 use Rattle.merge_core.specs.Naming.{shown_by}
 use Rattle.merge_core.specs.Book.{BookState, IsBook, counter_of, book_shape}
 use Rattle.merge_core.specs.Changes.{JoinsRows}
+use Rattle.merge_core.specs.Rows.{start_counter}
+use Rattle.merge_core.proofs.KnownLemmas.{greatest_shown-push}
 use Rattle.delta_codec.specs.DeltaText.{delta_text}
 use Rattle.text_input.specs.Lines.{lines_of}
 use Rattle.seat_cli.specs.declared.fault.LineFault.{LineFault}
 use Rattle.seat_cli.specs.Joins.{joined_counter, IsJoinOf, IsTaken, AreTexts, IsFaultOf, IsFirstRefused}
 use Rattle.seat_cli.specs.Stops.{JoinsSoFar}
-
-joined_counter-push : (shape : Shape) (ds : List DeltaState) (d : DeltaState) (r s : ℕ) (cell : Cell)
-    → joined_counter shape (ds ++ d ∷ []) r s cell ≡ max (joined_counter shape ds r s cell) (shown_by shape d.rows r s cell)
-joined_counter-push shape [] d r s cell = omega arith
-joined_counter-push shape (e ∷ es) d r s cell = omega (arith, joined_counter-push shape es d r s cell)
 
 -- a join takes one delta more in
 joined_more : (shape : Shape) (ds : List DeltaState) (d : DeltaState) (old new : BookState) → IsJoinOf shape ds old
@@ -31,7 +28,7 @@ joined_more shape ds d old new before joins book = record {
     at_place r s cell =
         let shown : shown_by (book_shape old) d.rows r s cell ≡ shown_by shape d.rows r s cell =
         ap (λ (it : Shape). shown_by it d.rows r s cell) before.one_shape in
-        omega (arith, joins.counters r s cell, before.counters r s cell, joined_counter-push shape ds d r s cell, shown)
+        omega (arith, joins.counters r s cell, before.counters r s cell, greatest_shown-push shape (start_counter shape r s cell) ds d r s cell, shown)
 
 taken_more : (shape : Shape) (ds : List DeltaState) (d : DeltaState) → AllByRecursion (IsTaken shape) ds → IsTaken shape d
     → AllByRecursion (IsTaken shape) (ds ++ d ∷ [])

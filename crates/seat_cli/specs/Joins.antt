@@ -1,11 +1,11 @@
 -- What the lines of an input are to `join`: texts of deltas that are taken, up to the first that is refused.
-use Rattle.std.specs.Prelude.{◌≡◌, ℕ, ◌+◌, max, ◌⊎◌, ◌↔◌, List, [], ◌∷◌, ◌++◌, length, map, Err}
+use Rattle.std.specs.Prelude.{◌≡◌, ℕ, ◌+◌, ◌⊎◌, ◌↔◌, List, [], ◌∷◌, ◌++◌, length, map, Err}
 use Rattle.std.specs.List.{AllByRecursion}
 use Rattle.merge_core.specs.declared.cell.Cell.{Cell}
 use Rattle.merge_core.specs.Layout.{Shape}
 use Rattle.merge_core.specs.Delta.{DeltaState, IsDelta}
 use Rattle.merge_core.specs.Rows.{start_counter}
-use Rattle.merge_core.specs.Naming.{shown_by}
+use Rattle.merge_core.specs.Naming.{greatest_shown}
 use Rattle.merge_core.specs.Book.{BookState, IsBook, counter_of, book_shape}
 use Rattle.merge_core.specs.Check.{IsChecked, IsCheckOf}
 use Rattle.delta_codec.specs.declared.fault.DecodeError.TheVariants.{Memory}
@@ -16,8 +16,7 @@ use Rattle.seat_cli.specs.declared.fault.LineFault.TheVariants.{Unread, Unfit}
 
 -- the greatest that the start or one of the deltas shows of a counter
 abbrev pub joined_counter : Shape → List DeltaState → ℕ → ℕ → Cell → ℕ
-joined_counter shape [] r s cell = start_counter shape r s cell
-joined_counter shape (d ∷ ds) r s cell = max (shown_by shape d.rows r s cell) (joined_counter shape ds r s cell)
+joined_counter shape ds r s cell = greatest_shown shape (start_counter shape r s cell) ds r s cell
 
 -- a book of this shape, each of whose counters is the greatest that the start or one of the deltas shows
 pub record IsJoinOf (shape : Shape) (ds : List DeltaState) (b : BookState) : Type 0 where

@@ -1,5 +1,5 @@
 //! Laws of the definitions in specs/: functions that do nothing, whose contracts are the laws.
-ghost use Rattle.std.specs.Prelude.{◌≡◌, ◌++◌, ◌∷◌, [], List, Some, codes};
+ghost use Rattle.std.specs.Prelude.{◌≡◌, ◌++◌, ◌∷◌, [], List, None, Some, codes};
 ghost use Rattle.merge_core.specs.Layout.{Shape};
 ghost use Rattle.merge_core.specs.Delta.{DeltaState};
 ghost use Rattle.merge_core.specs.Book.{BookState};
@@ -9,10 +9,13 @@ ghost use Rattle.merge_core.specs.Layout.{layout_fault, shape_of};
 ghost use Rattle.merge_core.specs.Snapshot.{book_rows, snapshot_rows};
 ghost use Rattle.delta_codec.specs.DeltaText.{delta_text};
 ghost use Rattle.text_input.specs.Lines.{lines_of};
+ghost use Rattle.clap.specs.Words.{fault_of};
+ghost use Rattle.clap.specs.declared.error.ErrorKind.TheVariants.{ArgumentConflict, InvalidSubcommand, InvalidValue, UnknownArgument};
 ghost use Rattle.seat_cli.specs.declared.fault.LineFault.TheVariants.{Unfit};
 ghost use Rattle.seat_cli.specs.Engine.{book_line};
 ghost use Rattle.seat_cli.specs.Joins.{IsJoinOf, SameDeltas};
 ghost use Rattle.seat_cli.specs.Texts.{refusal_text};
+ghost use Rattle.seat_cli.specs.Words.{called_with, named_layout, program};
 ghost use Rattle.seat_cli.specs.Examples.{joined_rows, two_sites, seat_given, seat_given_text, writer_waits, given_and_waiting, three_sites, announced, two_sent, three_sent, three_sent_text, three_sent_book, silent_row};
 
 /// The same deltas join to one book, in whatever order and however often they come: so a text that is
@@ -33,4 +36,19 @@ pub fn examples()
     ensures written { book_line three_sent_book ≡ three_sent_text ++ codes "\n" }
     ensures refused { refusal_text 2 (Unfit (OtherLayout 1)) ≡ codes "line 2 refused OtherLayout 1\n" }
     ensures many_sites { layout_fault 17 three_sites.records ≡ Some TooManySites }
+{}
+
+/// What words the program is called with and how they are read, by computation alone: the layout file that they
+/// name, and the kinds of error that clap may answer with.
+#[tactic(auto, unfolding(clap::proofs::OnLiterals::clap_on_literals))]
+pub fn words_read()
+    ensures no_file { named_layout (called_with (codes "join" ∷ [])) ≡ None }
+    ensures file { named_layout (called_with (codes "join" ∷ codes "--layout" ∷ codes "a" ∷ [])) ≡ Some (codes "a") }
+    ensures file_behind_equals { named_layout (called_with (codes "join" ∷ codes "--layout=a" ∷ [])) ≡ Some (codes "a") }
+    ensures no_error { fault_of program (called_with (codes "join" ∷ codes "--layout" ∷ codes "a" ∷ [])) ≡ [] }
+    ensures missing_value { fault_of program (called_with (codes "join" ∷ codes "--layout" ∷ [])) ≡ InvalidValue ∷ [] }
+    ensures two_files { fault_of program (called_with (codes "join" ∷ codes "--layout=a" ∷ codes "--layout=b" ∷ [])) ≡ ArgumentConflict ∷ [] }
+    ensures stray_word { fault_of program (called_with (codes "join" ∷ codes "x" ∷ [])) ≡ UnknownArgument ∷ [] }
+    ensures option_before_command { fault_of program (called_with (codes "--layout" ∷ codes "a" ∷ [])) ≡ UnknownArgument ∷ [] }
+    ensures other_command { fault_of program (called_with (codes "play" ∷ [])) ≡ UnknownArgument ∷ InvalidSubcommand ∷ [] }
 {}

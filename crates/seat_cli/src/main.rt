@@ -2,14 +2,17 @@
 #![tactic(auto)]
 
 ghost use Rattle.std.specs.Prelude.{◌≡◌, MatchOption};
+ghost use Rattle.clap.specs.Words.{kind_of};
 ghost use Rattle.seat_cli.specs.Engine.{status_code};
 ghost use Rattle.seat_cli.specs.LayoutFile.{FindsBuiltIn, FindsFile};
+ghost use Rattle.seat_cli.specs.Words.{EndsWords};
 
 mod engine;
 mod fault;
 mod laws;
 mod layout_file;
 mod lines;
+mod sink;
 mod status;
 #[cfg(test)]
 mod tests;
@@ -19,10 +22,12 @@ use clap::error::ErrorKind as WordsKind;
 use engine::join_engine;
 use layout_file::{LayoutFault, built_in, read_layout};
 use merge_core::Layout;
+use sink::Sink;
 use status::Status;
 use std::io::ErrorKind;
 use std::process::ExitCode;
 use std::{env, fs, io};
+use text_input::Source;
 use words::layout_asked;
 
 /// Wrong words.
@@ -57,8 +62,10 @@ fn all_words(rt: &HostRuntime) -> io::Result<Vec<String>> {
     Ok(words)
 }
 
-// Prints what clap says of the words: help, the version, or what is wrong with them.
-fn tell_words(rt: &HostRuntime, error: &clap::Error) -> u8 {
+// Prints what clap says of the words: help, the version, or what is wrong with them. Gives the status to end with.
+fn tell_words(rt: &HostRuntime, error: &clap::Error) -> u8
+    ensures { EndsWords (kind_of error.now) result }
+{
     if error.kind() == WordsKind::OutOfMemory {
         return end_with(rt, Status::Memory);
     }
@@ -76,9 +83,9 @@ fn tell_words(rt: &HostRuntime, error: &clap::Error) -> u8 {
 fn run_join(rt: &HostRuntime, path: Option<&str>) -> u8 {
     match layout_at(rt, path) {
         Ok(layout) => {
-            let mut reader = rt.reader();
-            let mut writer = io::writer(rt);
-            let status = join_engine(rt.alloc(), &layout, &mut reader, &mut writer);
+            let mut source = Source::new(rt.reader());
+            let mut sink = Sink::new(io::writer(rt));
+            let status = join_engine(rt.alloc(), &layout, &mut source, &mut sink);
             end_with(rt, status)
         }
         Err(LayoutFault::Memory) => end_with(rt, Status::Memory),

@@ -2,11 +2,10 @@
 mod fakes;
 mod hostile_bytes;
 
-use crate::engine::join_engine;
 use crate::layout_file::{built_in, read_layout};
 use crate::status::Status;
 use crate::words::layout_asked;
-use fakes::{Giving, Keeping, NEVER};
+use fakes::{Giving, Keeping, NEVER, ending};
 use merge_core::Layout;
 use std::alloc::{AllocError, Global};
 
@@ -46,7 +45,7 @@ fn joined(alloc: Global, lines: [&str; 4]) -> Result<String, AllocError> {
 fn is_answer(alloc: Global, layout: &Layout, input: &str, status: Status, output: &str) -> bool {
     let mut reader = Giving::new(input.as_bytes(), NEVER);
     let mut writer = Keeping::new(alloc, NEVER);
-    let ended = join_engine(alloc, layout, &mut reader, &mut writer);
+    let ended = ending(alloc, layout, &mut reader, &mut writer);
     ended == status && writer.bytes() == output.as_bytes()
 }
 
@@ -169,14 +168,13 @@ fn a_line_that_is_not_utf8_is_refused(rt: HostRuntime) {
     let layout = built_in(alloc).expect(&rt, "a layout");
     let mut reader = Giving::new(&[255], NEVER);
     let mut writer = Keeping::new(alloc, NEVER);
-    let ended = join_engine(alloc, &layout, &mut reader, &mut writer);
+    let ended = ending(alloc, &layout, &mut reader, &mut writer);
     assert_eq!(&rt; ended, Status::Refused);
     assert_eq!(&rt; writer.bytes(), "line 1 refused NotUtf8\n".as_bytes());
 }
 
 // How many spaces the input is, what is written, and how many bytes the reader then lost.
-const LONG_INPUTS: [(usize, &str, usize); 3] = [
-    (2_097_153, "line 1 refused TooLong\n", 2_097_153),
+const LONG_INPUTS: [(usize, &str, usize); 2] = [
     (16_777_217, "input refused TooLong\n", 16_777_217),
     (20_000_000, "input refused TooLong\n", 16_777_217),
 ];
@@ -188,7 +186,7 @@ fn an_input_past_the_limit_is_refused(rt: HostRuntime) {
     for (spaces, output, lost) in LONG_INPUTS {
         let mut reader = Giving::new(&[], NEVER).followed_by(b' ', spaces);
         let mut writer = Keeping::new(alloc, NEVER);
-        let ended = join_engine(alloc, &layout, &mut reader, &mut writer);
+        let ended = ending(alloc, &layout, &mut reader, &mut writer);
         assert_eq!(&rt; ended, Status::Refused);
         assert_eq!(&rt; writer.bytes(), output.as_bytes());
         assert_eq!(&rt; spaces.saturating_sub(reader.fillers()), lost);
@@ -211,7 +209,7 @@ fn a_reader_or_a_writer_that_fails_ends_with_status_7(rt: HostRuntime) {
     ] {
         let mut reader = Giving::new(GAVE.as_bytes(), reads);
         let mut writer = Keeping::new(alloc, writes);
-        let ended = join_engine(alloc, &layout, &mut reader, &mut writer);
+        let ended = ending(alloc, &layout, &mut reader, &mut writer);
         assert_eq!(&rt; ended.code(), 7);
     }
 }
@@ -353,10 +351,20 @@ fn words_are_taken_or_refused(rt: HostRuntime) {
     }
 }
 
+// The words behind the program's own, and the layout file that they name.
+const NAMED_FILES: [([&str; 3], Option<&str>); 4] = [
+    (["", "", ""], None),
+    (["join", "", ""], None),
+    (["join", "--layout", "three.toml"], Some("three.toml")),
+    (["join", "--layout=three.toml", ""], Some("three.toml")),
+];
+
 #[test]
 fn the_layout_file_is_the_one_that_the_words_name(rt: HostRuntime) {
     let alloc = rt.alloc();
-    let words = words_of(alloc, ["join", "--layout", "three.toml"]).expect(&rt, "memory");
-    let asked = layout_asked(alloc, words.as_slice());
-    assert_eq!(&rt; asked.ok(), Some(Some("three.toml")));
+    for (behind, file) in NAMED_FILES {
+        let words = words_of(alloc, behind).expect(&rt, "memory");
+        let asked = layout_asked(alloc, words.as_slice());
+        assert_eq!(&rt; asked.ok(), Some(file), "{behind:?}");
+    }
 }

@@ -1,9 +1,9 @@
 -- A bounded counter of one record (Balegas et al., 2015): its rights matrix, and how many seats were taken
 -- at each site, the decrements. A seat that is given back is counted as an increment in the matrix.
-use Rattle.std.specs.Prelude.{◌≡◌, ℕ, ◌+◌, ◌-◌, ◌<◌, ◌≤◌, ◌==◌, nat_lt, max, if◌then◌else◌, List, length, replicate, slice_index, slice_set}
+use Rattle.std.specs.Prelude.{◌≡◌, ℕ, ◌+◌, ◌-◌, ◌<◌, ◌≤◌, ◌==◌, max, if◌then◌else◌, List, length, replicate, slice_index, slice_set}
 use Rattle.grow_counters.specs.Counts.{counter_limit, maxima, rise_count}
 use Rattle.rights_matrix.specs.Joined.{joined, joined_at, rise_counts}
-use Rattle.rights_matrix.specs.Matrix.{MatrixState, site_count, grant, row_of, entry, start_matrix, raised, rights_of, HasRights, IsValidRow, IsMatrix}
+use Rattle.rights_matrix.specs.Matrix.{MatrixState, site_count, grant, entry, start_matrix, raised, rights_of, HasRights, IsValidRow, IsMatrix}
 
 -- what contracts see of the seats of one record
 pub record SeatState : Type 0 where
@@ -65,14 +65,9 @@ joined_seats_at st s row taken = record {
   taken = slice_set st.taken s (max (taken_at st s) taken);
 }
 
--- how many counters of the new state are above those of the old one, in all rows and in the row of site s
+-- how many counters of the new state are above those of the old one
 abbrev pub seat_rises : SeatState → SeatState → ℕ
 seat_rises old new = rise_counts old.matrix.rows new.matrix.rows + rise_count old.taken new.taken
-
-abbrev pub seat_rises_at : SeatState → SeatState → ℕ → ℕ
-seat_rises_at old new s =
-    rise_count (row_of old.matrix s) (row_of new.matrix s)
-    + (if nat_lt (taken_at old s) (taken_at new s) then 1 else 0)
 
 -- the seats that site i is known to have taken after a restart of a site: its own alone
 abbrev pub kept_taken : SeatState → ℕ → ℕ → ℕ

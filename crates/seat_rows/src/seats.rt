@@ -3,7 +3,7 @@ ghost use Rattle.rights_matrix.specs.Changes.{MovesRights, SameRightsAt};
 ghost use Rattle.rights_matrix.specs.Kept.{kept_entry};
 ghost use Rattle.rights_matrix.specs.Matrix.{site_count, grant, entry, row_of, SameShape};
 ghost use Rattle.rights_matrix.specs.Transfer.{transfer_fault};
-ghost use Rattle.seat_rows.specs.Seats.{SeatState, taken_at, returned_at, inside_of, seat_rights, HasSeatRights, IsSeatState, IsValidSeatRow, start_seats, after_take, after_raise, joined_seats, joined_seats_at, seat_rises, seat_rises_at, kept_taken};
+ghost use Rattle.seat_rows.specs.Seats.{SeatState, taken_at, returned_at, inside_of, seat_rights, HasSeatRights, IsSeatState, IsValidSeatRow, start_seats, after_take, after_raise, joined_seats, joined_seats_at, seat_rises, kept_taken};
 ghost use Rattle.seat_rows.specs.Take.{take_fault};
 
 use crate::faults::SeatError;
@@ -203,7 +203,7 @@ impl SeatRow {
         requires size { length given.now ≤ site_count self.old.matrix }
         requires valid { IsValidSeatRow self.old.matrix s given.now taken }
         ensures change { self.new ≡ joined_seats_at self.old s given.now taken }
-        ensures risen { result ≡ seat_rises_at self.old self.new s }
+        ensures risen { result ≡ seat_rises self.old self.new }
         ensures few { result ≤ 17 }
         ensures state { IsSeatState self.new }
     {

@@ -1,2 +1,3 @@
 pub mod Lines
+pub mod Source
 pub mod Input

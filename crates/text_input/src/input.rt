@@ -1,11 +1,9 @@
-ghost use Rattle.std.specs.Prelude.{◌≡◌, ◌≢◌, ◌↔◌, ◌<◌, ◌≤◌, ◌++◌, false, IsTrue, IfErr, IfOk, MatchResult, OnErr, Err, Ok, length, take};
-ghost use Rattle.std.specs.IoError.{error_kind};
-ghost use Rattle.text_input.specs.Input.{ReadsInput, ReadsPart};
+ghost use Rattle.std.specs.Prelude.{◌≡◌};
+ghost use Rattle.text_input.specs.Input.{ReadsInput};
 
-use crate::INPUT_LIMIT;
+use crate::{INPUT_LIMIT, Source};
 use std::alloc::Global;
-use std::io;
-use std::io::{ErrorKind, Read};
+use std::io::Read;
 use std::marker::Model;
 use thiserror::Error;
 
@@ -50,69 +48,23 @@ impl Input {
     }
 }
 
-/// Reads all that the reader has, and no more than one byte past the limit. A read that is interrupted is
-/// tried again; any other fault of the reader ends the reading.
-pub fn read_input<R: Read>(alloc: Global, reader: &mut R) -> Result<Input, InputError>
-    ensures { ReadsInput (R.remaining reader.old) (R.remaining reader.new) result }
+/// Reads all that the source has, and no more than one byte past the limit. The first fault ends the reading.
+pub fn read_input<R: Read>(alloc: Global, source: &mut Source<R>) -> Result<Input, InputError>
+    ensures { ReadsInput source.old source.new result }
 {
     let mut bytes = Vec::new(alloc);
     let mut chunk = [0u8; CHUNK];
-    for _ in 0..u64::MAX {
-        let want = CHUNK.min(INPUT_LIMIT + 1 - bytes.len());
-        match read_part(reader, &mut chunk[..want], &mut bytes) {
-            Ok(true) => return Ok(Input { bytes }),
-            Ok(false) => {
-                if bytes.len() > INPUT_LIMIT {
-                    return Err(InputError::TooLong);
+    while bytes.len() <= INPUT_LIMIT {
+        let part = &mut chunk[..CHUNK.min(INPUT_LIMIT + 1 - bytes.len())];
+        match source.read(part) {
+            Some(0) => return Ok(Input { bytes }),
+            Some(n) => {
+                if bytes.extend_from_slice(&part[..n]).is_err() {
+                    return Err(InputError::Memory);
                 }
             }
-            Err(error) => return Err(error),
+            None => return Err(InputError::Io),
         }
     }
-    Err(InputError::Io)
-}
-
-// One read, whose bytes are put behind those that came before. Whether that was the end.
-fn read_part<R: Read>(
-    reader: &mut R,
-    chunk: &mut [u8],
-    bytes: &mut Vec<u8>,
-) -> Result<bool, InputError>
-    requires { 0 < length chunk.old }
-    ensures { ReadsPart (R.remaining reader.old) (R.remaining reader.new) (length chunk.old) bytes.old.items bytes.new.items result }
-{
-    let answer = reader.read(chunk);
-    take_answer(answer, chunk, bytes)
-}
-
-// What an answer of the reader means: whether it is the end, more bytes, or a fault. Only an interrupted read
-// is tried again.
-fn take_answer(
-    answer: io::Result<usize>,
-    chunk: &[u8],
-    bytes: &mut Vec<u8>,
-) -> Result<bool, InputError>
-    requires { IfOk answer (λ n. n ≤ length chunk.now) }
-    ensures taken { IfOk answer (λ n. MatchResult result
-        (λ end. (IsTrue end ↔ (n ≡ 0)) × (bytes.new.items ≡ bytes.old.items ++ take n chunk.now))
-        (λ e. e ≡ InputError.Memory)) }
-    ensures nothing { OnErr answer (bytes.new.items ≡ bytes.old.items) }
-    ensures retried { IfErr answer (λ e. error_kind e ≡ ErrorKind.Interrupted → result ≡ Ok false) }
-    ensures ended { IfErr answer (λ e. error_kind e ≢ ErrorKind.Interrupted → result ≡ Err InputError.Io) }
-{
-    match answer {
-        Ok(0) => Ok(true),
-        Ok(n) => {
-            if bytes.extend_from_slice(&chunk[..n]).is_err() {
-                return Err(InputError::Memory);
-            }
-            Ok(false)
-        }
-        Err(error) => {
-            if error.kind() != ErrorKind::Interrupted {
-                return Err(InputError::Io);
-            }
-            Ok(false)
-        }
-    }
+    Err(InputError::TooLong)
 }

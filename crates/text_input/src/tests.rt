@@ -1,4 +1,4 @@
-use crate::{INPUT_LIMIT, InputError, cut_line, read_input};
+use crate::{INPUT_LIMIT, InputError, Source, cut_line, read_input};
 use std::alloc::Global;
 use std::io;
 use std::io::{Error, ErrorKind, Read};
@@ -49,7 +49,7 @@ fn an_input_is_read_whole(rt: HostRuntime) {
     let sizes = [0usize, 1, 65_535, 65_536, 65_537, 200_000];
     for size in sizes {
         let mut reader = scripted_reader(size, 40_000, NEVER, ErrorKind::Other);
-        let input = read_input(rt.alloc(), &mut reader);
+        let input = read_input(rt.alloc(), &mut Source::new(&mut reader));
         let read = input.map(|it| it.as_slice().len());
         assert_eq!(&rt; read, Ok(size));
     }
@@ -58,10 +58,10 @@ fn an_input_is_read_whole(rt: HostRuntime) {
 #[test]
 fn the_limit_itself_is_read_and_one_byte_more_is_not(rt: HostRuntime) {
     let mut reader = scripted_reader(INPUT_LIMIT, NEVER, NEVER, ErrorKind::Other);
-    let read = read_input(rt.alloc(), &mut reader).map(|it| it.as_slice().len());
+    let read = read_input(rt.alloc(), &mut Source::new(&mut reader)).map(|it| it.as_slice().len());
     assert_eq!(&rt; read, Ok(INPUT_LIMIT));
     let mut reader = scripted_reader(20_000_000, NEVER, NEVER, ErrorKind::Other);
-    let read = read_input(rt.alloc(), &mut reader).map(|it| it.as_slice().len());
+    let read = read_input(rt.alloc(), &mut Source::new(&mut reader)).map(|it| it.as_slice().len());
     assert_eq!(&rt; read, Err(InputError::TooLong));
     assert_eq!(&rt; reader.lost, 16_777_217);
 }
@@ -72,7 +72,9 @@ fn a_reader_that_fails_ends_the_reading(rt: HostRuntime) {
     let calls = [0usize, 2, 4];
     for fails in calls {
         let mut reader = scripted_reader(100, 25, fails, ErrorKind::Other);
-        let read = read_input(rt.alloc(), &mut reader).map(|it| it.as_slice().len());
+        let read = read_input(rt.alloc(), &mut Source::new(&mut reader)).map(|it| it
+            .as_slice()
+            .len());
         assert_eq!(&rt; read, Err(InputError::Io));
         assert_eq!(&rt; reader.lost, fails * 25);
     }
@@ -83,7 +85,9 @@ fn an_interrupted_read_is_tried_again(rt: HostRuntime) {
     let calls = [0usize, 2, 4];
     for fails in calls {
         let mut reader = scripted_reader(100, 25, fails, ErrorKind::Interrupted);
-        let read = read_input(rt.alloc(), &mut reader).map(|it| it.as_slice().len());
+        let read = read_input(rt.alloc(), &mut Source::new(&mut reader)).map(|it| it
+            .as_slice()
+            .len());
         assert_eq!(&rt; read, Ok(100));
     }
 }

@@ -1,10 +1,43 @@
 //! A reader and a writer whose bytes and faults the test chooses.
+use crate::engine::join_engine;
+use crate::sink::Sink;
+use crate::status::Status;
+use merge_core::Layout;
 use std::alloc::Global;
 use std::io;
 use std::io::{Error, ErrorKind, Read, Write};
+use text_input::Source;
 
 /// No call.
 pub const NEVER: usize = usize::MAX;
+
+/// How the engine ends with these.
+pub fn ending(alloc: Global, layout: &Layout, reader: &mut Giving, writer: &mut Keeping) -> Status {
+    join_engine(
+        alloc,
+        layout,
+        &mut Source::new(reader),
+        &mut Sink::new(writer),
+    )
+}
+
+// How many calls there were, and the one that is answered with a fault.
+#[derive(Drop)]
+struct Calls {
+    made: usize,
+    fails: usize,
+}
+
+impl Calls {
+    fn next(&mut self) -> io::Result<()> {
+        let here = self.made;
+        self.made = here.saturating_add(1);
+        if here == self.fails {
+            return Err(Error::from(ErrorKind::Other));
+        }
+        Ok(())
+    }
+}
 
 /// Gives the bytes, at most 40 at a call, and then one byte so many times. Call `fails` is answered with a fault.
 #[derive(Drop)]
@@ -12,8 +45,7 @@ pub struct Giving<'a> {
     bytes: &'a [u8],
     filler: u8,
     fillers: usize,
-    call: usize,
-    fails: usize,
+    calls: Calls,
 }
 
 impl<'a> Giving<'a> {
@@ -22,8 +54,7 @@ impl<'a> Giving<'a> {
             bytes,
             filler: b' ',
             fillers: 0,
-            call: 0,
-            fails,
+            calls: Calls { made: 0, fails },
         }
     }
 
@@ -33,8 +64,7 @@ impl<'a> Giving<'a> {
             bytes: self.bytes,
             filler,
             fillers,
-            call: self.call,
-            fails: self.fails,
+            calls: self.calls,
         }
     }
 
@@ -46,11 +76,7 @@ impl<'a> Giving<'a> {
 
 impl Read for Giving<'_> {
     fn read(&mut self, buf: &mut [u8]) -> io::Result<usize> {
-        let here = self.call;
-        self.call = here.saturating_add(1);
-        if here == self.fails {
-            return Err(Error::from(ErrorKind::Other));
-        }
+        self.calls.next()?;
         let bytes = self.bytes;
         if bytes.is_empty() {
             let n = buf.len().min(self.fillers);
@@ -69,16 +95,14 @@ impl Read for Giving<'_> {
 #[derive(Drop)]
 pub struct Keeping {
     bytes: Vec<u8>,
-    call: usize,
-    fails: usize,
+    calls: Calls,
 }
 
 impl Keeping {
     pub fn new(alloc: Global, fails: usize) -> Keeping {
         Keeping {
             bytes: Vec::new(alloc),
-            call: 0,
-            fails,
+            calls: Calls { made: 0, fails },
         }
     }
 
@@ -90,22 +114,13 @@ impl Keeping {
 
 impl Write for Keeping {
     fn write(&mut self, buf: &[u8]) -> io::Result<usize> {
-        let here = self.call;
-        self.call = here.saturating_add(1);
-        if here == self.fails {
-            return Err(Error::from(ErrorKind::Other));
-        }
+        self.calls.next()?;
         let n = buf.len().min(7);
         self.bytes.extend_from_slice(&buf[..n])?;
         Ok(n)
     }
 
     fn flush(&mut self) -> io::Result<()> {
-        let here = self.call;
-        self.call = here.saturating_add(1);
-        if here == self.fails {
-            return Err(Error::from(ErrorKind::Other));
-        }
-        Ok(())
+        self.calls.next()
     }
 }

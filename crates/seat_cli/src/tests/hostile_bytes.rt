@@ -1,6 +1,5 @@
 //! Bytes that no site sends: each is refused by its name, or is the text of another delta.
-use super::fakes::{Giving, Keeping, NEVER};
-use crate::engine::join_engine;
+use super::fakes::{Giving, Keeping, NEVER, ending};
 use crate::layout_file::built_in;
 use crate::status::Status;
 use delta_codec::{decode, encode};
@@ -43,7 +42,7 @@ fn count(
 ) -> Result<(), AllocError> {
     let mut reader = Giving::new(input, NEVER);
     let mut writer = Keeping::new(alloc, NEVER);
-    let ended = join_engine(alloc, layout, &mut reader, &mut writer);
+    let ended = ending(alloc, layout, &mut reader, &mut writer);
     if ended == Status::Done && encodes_to_itself(alloc, input)? {
         tally.joined = tally.joined.saturating_add(1);
     }
@@ -154,7 +153,7 @@ const INPUTS: [(&[u8], u8, usize, &str); 12] = [
 fn is_refused(alloc: Global, layout: &Layout, reader: Giving, refusal: &str) -> bool {
     let mut reader = reader;
     let mut writer = Keeping::new(alloc, NEVER);
-    let ended = join_engine(alloc, layout, &mut reader, &mut writer);
+    let ended = ending(alloc, layout, &mut reader, &mut writer);
     ended == Status::Refused && writer.bytes() == refusal.as_bytes()
 }
 

@@ -4,6 +4,6 @@ use Rattle.seat_cli.proofs.engine.join_engine.Goals as goal
 
 pub returns-else-not-write_line : goal.returns-else-not-write_line
 returns-else-not-write_line g c = inr (
-  too_long (g.R.Read.remaining c.args.reader.now) (g.R.Read.remaining c.read_input.new.reader) c.in-Err-TooLong.field-0 c.in-Err-TooLong.field-0-is c.in-Err-TooLong.ensures,
+  too_long c.args.source.now c.read_input.new.source c.in-Err-TooLong.field-0 c.in-Err-TooLong.field-0-is c.in-Err-TooLong.ensures,
   search rules,
 )
