@@ -15,4 +15,9 @@ pub mod ReaderLemmas
 pub mod SnapshotLemmas
 pub mod HelpLemmas
 pub mod TestLemmas
+pub mod ListSumLemmas
+pub mod BookLemmas
+pub mod FailingLemmas
+pub mod BookRiseLemmas
+pub mod BookSnapshotLemmas
 pub mod LawLemmas

@@ -7,3 +7,4 @@ pub mod Replies
 pub mod Sound
 pub mod Serving
 pub mod Laws
+pub mod Books

@@ -1,5 +1,5 @@
 //! Laws of the definitions in specs/: functions that do nothing, whose contracts are the laws.
-ghost use Rattle.std.specs.Prelude.{◌≡◌, ◌↔◌, ℕ, ◌<◌, IsTrue, List, length, Some};
+ghost use Rattle.std.specs.Prelude.{◌≡◌, ◌↔◌, ℕ, ◌<◌, IsTrue, List, length, Some, None, All};
 ghost use Rattle.merge_core.specs.declared.cell.Cell.{Cell};
 ghost use Rattle.merge_core.specs.declared.delta.Row.{Row};
 ghost use Rattle.merge_core.specs.Layout.{LayoutState, shape_of};
@@ -12,11 +12,17 @@ ghost use Rattle.admission_core.specs.declared.reply.Reply.TheVariants.{Refused}
 ghost use Rattle.admission_core.specs.declared.reply.Plan.{Plan};
 ghost use Rattle.admission_core.specs.Account.{Account, Origin, begin, start_origin};
 ghost use Rattle.admission_core.specs.Knowledge.{known, hears_all, resumed};
-ghost use Rattle.admission_core.specs.View.{View, plan_of, problem_in};
-ghost use Rattle.admission_core.specs.Merging.{is_placed, is_valid, snapshot_of};
+ghost use Rattle.admission_core.specs.View.{View, rights_of, first_unfinished, plan_of, problem_in};
+ghost use Rattle.admission_core.specs.Merging.{is_placed, is_valid, first_failing, raised_by, snapshot_of};
 ghost use Rattle.admission_core.specs.Serving.{Step, replay, reply_of};
 ghost use Rattle.admission_core.specs.Sound.{IsOrigin};
-ghost use Rattle.merge_core.specs.Book.{HasCell};
+ghost use Rattle.admission_core.specs.Books.{ShowsBook};
+ghost use Rattle.merge_core.specs.Book.{BookState, HasCell, seats_at, notices_at, book_shape, IsBook, book_rises};
+ghost use Rattle.merge_core.specs.Changes.{JoinsRows};
+ghost use Rattle.merge_core.specs.Check.{IsFirstNot, IsChecked};
+ghost use Rattle.merge_core.specs.Snapshot.{snapshot_rows};
+ghost use Rattle.seat_rows.specs.Seats.{seat_rights};
+ghost use Rattle.writer_notices.specs.Notices.{IsOpen, IsLeastOpen};
 ghost use Rattle.admission_core.specs.Laws.{CountsUnits, CountsSessions, KnowTheSame, NameTheSame, IsFirstUnfinished, MayAsk, DifferInNotices, IsFeasible, IsResumed, KeepsDurable};
 
 /// An account may begin at the start of each site, and wherever a stop leaves an account.
@@ -69,4 +75,16 @@ pub fn plan_law()
 pub fn durable_law()
     ensures kept { (o : Origin) → IsOrigin o → (steps : List Step) → KeepsDurable (replay (begin o) steps) }
     ensures resumed { (o : Origin) → IsOrigin o → (steps : List Step) → IsResumed (replay (begin o) steps) }
+{}
+
+/// Where a view shows a book, the model says of it what the book's own crates say.
+pub fn book_law()
+    ensures rights { (b : BookState) → (v : View) → (r : ℕ) → IsBook b → ShowsBook b v → r < length b.records → v.site < b.sites → rights_of v r ≡ seat_rights (seats_at b r) v.site }
+    ensures writers { (b : BookState) → (v : View) → (r s : ℕ) → IsBook b → ShowsBook b v → r < length b.records → ((first_unfinished v r ≡ Some s) ↔ IsLeastOpen (notices_at b r) s) }
+    ensures no_writer { (b : BookState) → (v : View) → (r : ℕ) → IsBook b → ShowsBook b v → r < length b.records → ((first_unfinished v r ≡ None) ↔ ((s : ℕ) → ¬ IsOpen (notices_at b r) s)) }
+    ensures told { (b : BookState) → (v : View) → IsBook b → ShowsBook b v → (snapshot_of v).rows ≡ snapshot_rows b }
+    ensures misplaced { (b : BookState) → (v : View) → (rows : List Row) → (i : ℕ) → ShowsBook b v → ((first_failing (is_placed v) rows ≡ Some i) ↔ IsFirstNot (IsPlaced (book_shape b)) rows i) }
+    ensures invalid { (b : BookState) → (v : View) → (rows : List Row) → (i : ℕ) → ShowsBook b v → All (IsPlaced (book_shape b)) rows → ((first_failing (is_valid v) rows ≡ Some i) ↔ IsFirstNot (IsValid (book_shape b)) rows i) }
+    ensures checked { (b : BookState) → (v : View) → (rows : List Row) → ShowsBook b v → (IsChecked (book_shape b) rows ↔ ((first_failing (is_placed v) rows ≡ None) × (first_failing (is_valid v) rows ≡ None))) }
+    ensures raised { (b new : BookState) → (v : View) → (rows : List Row) → IsBook b → IsBook new → ShowsBook b v → JoinsRows b new rows → raised_by v rows ≡ book_rises b new }
 {}

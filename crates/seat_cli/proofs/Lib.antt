@@ -1,3 +1,4 @@
+mod EndingLemmas
 mod EngineLemmas
 mod ExampleLemmas
 mod JoinLaws

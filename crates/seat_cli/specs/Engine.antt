@@ -57,10 +57,3 @@ EndsJoin shape source source_after sink sink_after Memory =
     LosesSome source source_after (input_limit + 1) × (source_after.fault ≡ source.fault) × (sink_after.fault ≡ sink.fault)
 EndsJoin shape source source_after sink sink_after Io =
     LosesSome source source_after (input_limit + 1) × (HasFault source_after.fault ⊎ HasFault sink_after.fault)
-
--- the status that the program ends with
-abbrev pub status_code : Status → ℕ
-status_code Done = 0
-status_code Refused = 4
-status_code Memory = 6
-status_code Io = 7

@@ -1,3 +1,4 @@
+pub mod Endings
 pub mod Engine
 pub mod Examples
 pub mod Joins

@@ -1,12 +1,12 @@
 //! The program: delta texts in, the text of the joined book out.
 #![tactic(auto)]
 
-ghost use Rattle.std.specs.Prelude.{◌≡◌, MatchOption};
+ghost use Rattle.std.specs.Prelude.{MatchOption};
 ghost use Rattle.clap.specs.Words.{kind_of};
-ghost use Rattle.seat_cli.specs.Engine.{status_code};
 ghost use Rattle.seat_cli.specs.LayoutFile.{FindsBuiltIn, FindsFile};
 ghost use Rattle.seat_cli.specs.Words.{EndsWords};
 
+mod ending;
 mod engine;
 mod fault;
 mod laws;
@@ -19,12 +19,12 @@ mod tests;
 mod words;
 
 use clap::error::ErrorKind as WordsKind;
-use engine::join_engine;
+use ending::{end_with, run_join};
 use layout_file::{LayoutFault, built_in, read_layout};
 use merge_core::Layout;
 use sink::Sink;
 use status::Status;
-use std::io::ErrorKind;
+use std::io::{ErrorKind, Write};
 use std::process::ExitCode;
 use std::{env, fs, io};
 use text_input::Source;
@@ -32,8 +32,6 @@ use words::layout_asked;
 
 /// Wrong words.
 const WRONG_WORDS: u8 = 2;
-/// No layout.
-const NO_LAYOUT: u8 = 3;
 
 fn main(rt: HostRuntime) -> ExitCode {
     ExitCode::from(run(&rt))
@@ -41,19 +39,25 @@ fn main(rt: HostRuntime) -> ExitCode {
 
 // Does what the words ask for, and gives the status to end with.
 fn run(rt: &HostRuntime) -> u8 {
+    let mut errors = Sink::new(rt.stderr());
     let words = match all_words(rt) {
         Ok(words) => words,
         Err(error) => {
             if error.kind() == ErrorKind::OutOfMemory {
-                return end_with(rt, Status::Memory);
+                return end_with(&mut errors, Status::Memory);
             }
-            let _ = eprintln!(rt; "error: a word is not UTF-8");
+            let _ = errors.write_line("error: a word is not UTF-8\n");
             return WRONG_WORDS;
         }
     };
     match layout_asked(rt.alloc(), words.as_slice()) {
-        Ok(path) => run_join(rt, path),
-        Err(error) => tell_words(rt, &error),
+        Ok(path) => {
+            let layout = layout_at(rt, path);
+            let mut source = Source::new(rt.reader());
+            let mut sink = Sink::new(io::writer(rt));
+            run_join(rt.alloc(), layout, &mut source, &mut sink, &mut errors)
+        }
+        Err(error) => tell_words(rt, &error, &mut errors),
     }
 }
 
@@ -63,11 +67,11 @@ fn all_words(rt: &HostRuntime) -> io::Result<Vec<String>> {
 }
 
 // Prints what clap says of the words: help, the version, or what is wrong with them. Gives the status to end with.
-fn tell_words(rt: &HostRuntime, error: &clap::Error) -> u8
+fn tell_words<E: Write>(rt: &HostRuntime, error: &clap::Error, errors: &mut Sink<E>) -> u8
     ensures { EndsWords (kind_of error.now) result }
 {
     if error.kind() == WordsKind::OutOfMemory {
-        return end_with(rt, Status::Memory);
+        return end_with(errors, Status::Memory);
     }
     let printed = error.print(rt);
     if error.use_stderr() {
@@ -75,25 +79,7 @@ fn tell_words(rt: &HostRuntime, error: &clap::Error) -> u8
     }
     match printed {
         Ok(()) => Status::Done.code(),
-        Err(_) => end_with(rt, Status::Io),
-    }
-}
-
-// Joins standard input into standard output, under the layout of this file.
-fn run_join(rt: &HostRuntime, path: Option<&str>) -> u8 {
-    match layout_at(rt, path) {
-        Ok(layout) => {
-            let mut source = Source::new(rt.reader());
-            let mut sink = Sink::new(io::writer(rt));
-            let status = join_engine(rt.alloc(), &layout, &mut source, &mut sink);
-            end_with(rt, status)
-        }
-        Err(LayoutFault::Memory) => end_with(rt, Status::Memory),
-        Err(fault) => {
-            let name = fault.name();
-            let _ = eprintln!(rt; "layout refused {name}");
-            NO_LAYOUT
-        }
+        Err(_) => end_with(errors, Status::Io),
     }
 }
 
@@ -116,20 +102,4 @@ fn layout_at(rt: &HostRuntime, path: Option<&str>) -> Result<Layout, LayoutFault
             Err(LayoutFault::NotRead)
         }
     }
-}
-
-// Tells of the statuses that have a word on standard error, and gives the status to end with.
-fn end_with(rt: &HostRuntime, status: Status) -> u8
-    ensures { result ≡ status_code status }
-{
-    match status {
-        Status::Memory => {
-            let _ = eprintln!(rt; "memory");
-        }
-        Status::Io => {
-            let _ = eprintln!(rt; "io");
-        }
-        Status::Done | Status::Refused => {}
-    }
-    status.code()
 }

@@ -44,8 +44,8 @@ impl<W: Write> Sink<W> {
         self.write(line) && self.flush()
     }
 
-    // Writes the text. Whether that succeeded.
-    fn write(&mut self, text: &str) -> bool
+    /// Writes the text. Whether that succeeded.
+    pub fn write(&mut self, text: &str) -> bool
         ensures held { self.new.holds ≡ true }
         ensures written { MatchBool result
             (Appends self.old.contents self.new.contents text.now × (self.new.fault ≡ self.old.fault))

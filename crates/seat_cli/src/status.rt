@@ -1,5 +1,5 @@
 ghost use Rattle.std.specs.Prelude.{◌≡◌};
-ghost use Rattle.seat_cli.specs.Engine.{status_code};
+ghost use Rattle.seat_cli.specs.Endings.{status_code};
 
 /// How an engine ended.
 #[derive(Clone, Copy, Debug, PartialEq, Eq)]

@@ -1,10 +1,13 @@
-//! The engine with fake readers and writers, layout files, and words.
+//! The engine with fake readers and writers; in the modules below hostile bytes, how the program ends, layout
+//! files, and words.
+mod endings;
 mod fakes;
 mod hostile_bytes;
+mod layout_files;
+mod words;
 
 use crate::layout_file::{built_in, read_layout};
 use crate::status::Status;
-use crate::words::layout_asked;
 use fakes::{Giving, Keeping, NEVER, ending};
 use merge_core::Layout;
 use std::alloc::{AllocError, Global};
@@ -211,160 +214,5 @@ fn a_reader_or_a_writer_that_fails_ends_with_status_7(rt: HostRuntime) {
         let mut writer = Keeping::new(alloc, writes);
         let ended = ending(alloc, &layout, &mut reader, &mut writer);
         assert_eq!(&rt; ended.code(), 7);
-    }
-}
-
-// The name of what is wrong with a layout file.
-fn fault_of(alloc: Global, text: &str) -> &'static str {
-    match read_layout(alloc, text.as_bytes()) {
-        Ok(_) => "none",
-        Err(fault) => fault.name(),
-    }
-}
-
-const LAYOUT_FILES: [(&str, &str); 27] = [
-    (
-        "sites = 2\n[[record]]\nname = \"a\"\nseats = 2\nhome = 0\nproblem = 1\n",
-        "none",
-    ),
-    (
-        "record = [{problem = 1, home = 1, seats = 65535, name = \"a-1\"}]\nsites = 16",
-        "none",
-    ),
-    ("sites = \n", "NotToml"),
-    ("sites = 2\nsites = 2\n", "NotToml"),
-    ("", "WrongKeys"),
-    ("sites = 2\n", "WrongKeys"),
-    ("record = []\n", "WrongKeys"),
-    ("sites = 2\nrecord = []\nother = 1\n", "WrongKeys"),
-    ("sites = \"2\"\nrecord = []\n", "WrongKeys"),
-    ("sites = 2\nrecord = 1\n", "WrongKeys"),
-    ("sites = 2\nrecord = [1]\n", "WrongKeys"),
-    ("sites = -1\nrecord = []\n", "WrongKeys"),
-    ("sites = 65537\nrecord = []\n", "WrongKeys"),
-    (
-        "sites = 2\n[[record]]\nname = 1\nseats = 2\nhome = 0\nproblem = 1\n",
-        "WrongKeys",
-    ),
-    (
-        "sites = 2\n[[record]]\nname = \"a\"\nseats = 2\nhome = 0\n",
-        "WrongKeys",
-    ),
-    (
-        "sites = 2\n[[record]]\nname = \"a\"\nseats = 2\nhome = 0\nproblem = 1\nother = 1\n",
-        "WrongKeys",
-    ),
-    ("sites = 0\nrecord = []\n", "TooFewSites"),
-    ("sites = 17\nrecord = []\n", "TooManySites"),
-    ("sites = 65536\nrecord = []\n", "TooManySites"),
-    ("sites = 2\nrecord = []\n", "NoRecords"),
-    (
-        "sites = 2\n[[record]]\nname = \"A\"\nseats = 2\nhome = 0\nproblem = 1\n",
-        "BadName",
-    ),
-    (
-        "sites = 2\n[[record]]\nname = \"a\"\nseats = 0\nhome = 9\nproblem = 1\n[[record]]\nname = \"a\"\nseats = 2\nhome = 0\nproblem = 1\n",
-        "SameName",
-    ),
-    (
-        "sites = 2\n[[record]]\nname = \"a\"\nseats = 0\nhome = 0\nproblem = 1\n",
-        "BadSeats",
-    ),
-    (
-        "sites = 2\n[[record]]\nname = \"a\"\nseats = 65536\nhome = 0\nproblem = 1\n",
-        "BadSeats",
-    ),
-    (
-        "sites = 2\n[[record]]\nname = \"a\"\nseats = 2\nhome = 2\nproblem = 1\n",
-        "BadHome",
-    ),
-    (
-        "sites = 2\n[[record]]\nname = \"a\"\nseats = 2\nhome = 65536\nproblem = 1\n",
-        "BadHome",
-    ),
-    (
-        "sites = 2\n[[record]]\nname = \"a\"\nseats = 2\nhome = 0\nproblem = 3\n",
-        "BadProblem",
-    ),
-];
-
-#[test]
-fn each_fault_of_a_layout_file_has_its_name(rt: HostRuntime) {
-    for (text, name) in LAYOUT_FILES {
-        assert_eq!(&rt; fault_of(rt.alloc(), text), name, "{text}");
-    }
-}
-
-#[test]
-fn too_many_records_and_no_utf8_have_their_names(rt: HostRuntime) {
-    let alloc = rt.alloc();
-    let mut text = String::from_str(alloc, "sites = 2\n").expect(&rt, "memory");
-    for _ in 0..257 {
-        let record = "[[record]]\nname = \"a\"\nseats = 2\nhome = 0\nproblem = 1\n";
-        text.push_str(record).expect(&rt, "memory");
-    }
-    assert_eq!(&rt; fault_of(alloc, text.as_str()), "TooManyRecords");
-    let fault = read_layout(alloc, &[255]).err().map(|fault| fault.name());
-    assert_eq!(&rt; fault, Some("NotToml"));
-}
-
-// The words behind the program's own, and the status that they end with: 0 where they are taken.
-const WORDS: [([&str; 3], u8); 14] = [
-    (["", "", ""], 0),
-    (["join", "", ""], 0),
-    (["join", "--layout", "three.toml"], 0),
-    (["join", "--layout=three.toml", ""], 0),
-    (["--help", "", ""], 0),
-    (["join", "--help", ""], 0),
-    (["--version", "", ""], 0),
-    (["--layout", "three.toml", ""], 2),
-    (["join", "--layout", ""], 2),
-    (["join", "three.toml", ""], 2),
-    (["join", "--sites", "3"], 2),
-    (["play", "", ""], 2),
-    (["help", "", ""], 2),
-    (["--", "", ""], 2),
-];
-
-// The words of the program, without those that are empty here.
-fn words_of(alloc: Global, behind: [&str; 3]) -> Result<Vec<String>, AllocError> {
-    let mut words = Vec::new(alloc);
-    words.push(String::from_str(alloc, "seat_cli")?)?;
-    for word in behind {
-        if !word.is_empty() {
-            words.push(String::from_str(alloc, word)?)?;
-        }
-    }
-    Ok(words)
-}
-
-#[test]
-fn words_are_taken_or_refused(rt: HostRuntime) {
-    let alloc = rt.alloc();
-    for (behind, status) in WORDS {
-        let words = words_of(alloc, behind).expect(&rt, "memory");
-        let ended = match layout_asked(alloc, words.as_slice()) {
-            Ok(_) => 0,
-            Err(error) => error.exit_code(),
-        };
-        assert_eq!(&rt; ended, i32::from(status), "{behind:?}");
-    }
-}
-
-// The words behind the program's own, and the layout file that they name.
-const NAMED_FILES: [([&str; 3], Option<&str>); 4] = [
-    (["", "", ""], None),
-    (["join", "", ""], None),
-    (["join", "--layout", "three.toml"], Some("three.toml")),
-    (["join", "--layout=three.toml", ""], Some("three.toml")),
-];
-
-#[test]
-fn the_layout_file_is_the_one_that_the_words_name(rt: HostRuntime) {
-    let alloc = rt.alloc();
-    for (behind, file) in NAMED_FILES {
-        let words = words_of(alloc, behind).expect(&rt, "memory");
-        let asked = layout_asked(alloc, words.as_slice());
-        assert_eq!(&rt; asked.ok(), Some(file), "{behind:?}");
     }
 }
