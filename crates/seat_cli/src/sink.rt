@@ -53,7 +53,7 @@ impl<W: Write> Sink<W> {
     {
         self.holds = true;
         let answer = self.writer.write_all(text.as_bytes());
-        self.is_done(answer)
+        self.keep_fault(answer)
     }
 
     // Hands on what was written. Whether that succeeded.
@@ -64,13 +64,13 @@ impl<W: Write> Sink<W> {
         ensures held { self.new.holds ≡ not result }
     {
         let answer = self.writer.flush();
-        let done = self.is_done(answer);
+        let done = self.keep_fault(answer);
         self.holds = !done;
         done
     }
 
-    // Whether the writer's answer tells of no fault; a fault is kept.
-    fn is_done(&mut self, answer: io::Result<()>) -> bool
+    // Keeps the fault that the writer's answer tells of. Whether it tells of none.
+    fn keep_fault(&mut self, answer: io::Result<()>) -> bool
         ensures same { (self.new.contents ≡ self.old.contents) × (self.new.holds ≡ self.old.holds) }
         ensures done { IfOk answer (λ _. (result ≡ true) × (self.new.fault ≡ self.old.fault)) }
         ensures failed { IfErr answer (λ e. (result ≡ false) × (self.new.fault ≡ Some (error_kind e))) }

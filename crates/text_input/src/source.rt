@@ -35,13 +35,12 @@ impl<R: Read> Source<R> {
         }
     }
 
-    /// Reads what comes at once, into a part that has room: how many bytes, and 0 at the end alone. A read that
-    /// is interrupted is tried again. Any other fault is kept, and `None` tells of it.
+    /// Reads what comes at once: how many bytes, and 0 at the end, or where the part has no room. A read that is
+    /// interrupted is tried again. Any other fault is kept, and `None` tells of it.
     pub fn read(&mut self, part: &mut [u8]) -> Option<usize>
-        requires { 0 < length part.old }
         ensures read { IfSome result (λ n. (n ≤ length part.new)
             × Consumes self.old.remaining self.new.remaining (take n part.new)
-            × (n ≡ 0 → IsAtEnd self.new.remaining)
+            × (n ≡ 0 → 0 < length part.new → IsAtEnd self.new.remaining)
             × (self.new.fault ≡ self.old.fault)) }
         ensures failed { IfNone result (Keeps self.old.remaining self.new.remaining × HasFault self.new.fault) }
     {
@@ -57,10 +56,9 @@ impl<R: Read> Source<R> {
 
 // Reads until a read is not interrupted, or tells the kind of the fault that it met.
 fn read_again<R: Read>(reader: &mut R, part: &mut [u8]) -> Result<usize, ErrorKind>
-    requires { 0 < length part.old }
     ensures read { IfOk result (λ n. (n ≤ length part.new)
         × Consumes (R.remaining reader.old) (R.remaining reader.new) (take n part.new)
-        × (n ≡ 0 → IsAtEnd (R.remaining reader.new))) }
+        × (n ≡ 0 → 0 < length part.new → IsAtEnd (R.remaining reader.new))) }
     ensures failed { IfErr result (λ kind. Keeps (R.remaining reader.old) (R.remaining reader.new) × IsNoInterruption (Some kind)) }
 {
     for _ in 0..u64::MAX {

@@ -22,7 +22,7 @@ returns-in-Some-eq0 g c =
     c.in-Some-eq0.ensures.read.1 in (
       lost_at_end c.args.source.now c.loop-chunk.source c.read.new.self 16777217 16777216 c.loop-chunk.bytes.items c.read.new.part
           c.loop-chunk.invariant.0 none (search rules),
-      c.in-Some-eq0.ensures.read.2 c.in-Some-eq0.field-0-test,
+      c.in-Some-eq0.ensures.read.2 c.in-Some-eq0.field-0-test (search rules),
       c.in-Some-eq0.ensures.read.3 ∙ c.loop-chunk.invariant.1,
     )
 
