@@ -1,12 +1,12 @@
 -- What a restart leaves of a record, and of a book.
-use Rattle.std.proofs.Common.{◌≡◌, ◌≢◌, ℕ, zero, suc, ◌+◌, ◌<◌, ◌≤◌, ◌⊎◌, inl, inr, ◌==◌, ◌||◌, List, [], ◌∷◌, length, get_or, set, map, refl, sym, ◌∙◌, subst, arith, if◌then◌else◌}
+use Rattle.std.proofs.Common.{◌≡◌, ◌≢◌, ℕ, zero, suc, ◌+◌, ◌<◌, ◌≤◌, ◌⊎◌, inl, inr, ◌==◌, ◌||◌, List, [], ◌∷◌, length, get_or, set, map, refl, sym, ap, ◌∙◌, subst, arith, if◌then◌else◌}
 use Rattle.std.proofs.lemmas.Bool.{cases_eq, cases_lt, ne_eqb}
 use Rattle.std.proofs.lemmas.Bool.Decides.{nat_tests}
 use Rattle.std.proofs.lemmas.List.{get_or_past, get_or-set_same, get_or-set_other, length-set, get_or_default}
 use Rattle.rights_matrix.specs.Matrix.{MatrixState, entry, SameShape}
 use Rattle.rights_matrix.specs.Kept.{kept_entry}
 use Rattle.seat_rows.specs.Seats.{taken_at, kept_taken, IsSeatState}
-use Rattle.writer_notices.specs.Notices.{IsNotices, IsKept}
+use Rattle.writer_notices.specs.Notices.{NoticeState, IsNotices}
 use Rattle.merge_core.specs.declared.cell.Cell.{Cell}
 use Rattle.merge_core.specs.declared.cell.Cell.TheVariants.{Out, Taken, Ann, Fin}
 use Rattle.merge_core.specs.declared.record.RecordState.{RecordState}
@@ -24,7 +24,7 @@ kept_cell m site s j = at_place (cases_eq j s)
     at_place (inr apart) = rw (ne_eqb j s apart, ne_eqb s j (λ e. apart (sym e))) refl
 
 -- the seats and notices of a record after a restart
-pub KeepsOwnIn-kept : (site : ℕ) (old new : RecordState) → SameShape old.seats.matrix new.seats.matrix → ((i j : ℕ) → entry new.seats.matrix i j ≡ kept_entry old.seats.matrix site i j) → ((i : ℕ) → taken_at new.seats i ≡ kept_taken old.seats site i) → IsKept site old.notices new.notices → KeepsOwnIn site old new
+pub KeepsOwnIn-kept : (site : ℕ) (old new : RecordState) → SameShape old.seats.matrix new.seats.matrix → ((i j : ℕ) → entry new.seats.matrix i j ≡ kept_entry old.seats.matrix site i j) → ((i : ℕ) → taken_at new.seats i ≡ kept_taken old.seats site i) → new.notices ≡ old.notices → KeepsOwnIn site old new
 KeepsOwnIn-kept site old new same entries taken notices = record { shape = shapes; counters = at_cell }
   where
     shapes : shape_in new ≡ shape_in old
@@ -33,15 +33,15 @@ KeepsOwnIn-kept site old new same entries taken notices = record { shape = shape
     at_cell : (s : ℕ) (cell : Cell) → counter_in (row_in new s) cell ≡ (if keeps_counter site s cell then counter_in (row_in old s) cell else start_in old s cell)
     at_cell s (Out j) = entries s j ∙ kept_cell old.seats.matrix site s j
     at_cell s Taken = taken s
-    at_cell s Ann = notices.announced s
-    at_cell s Fin = notices.finished s
+    at_cell s Ann = ap (λ (n : NoticeState). get_or n.announced s 0) notices
+    at_cell s Fin = ap (λ (n : NoticeState). get_or n.finished s 0) notices
 
-pub IsRecord-kept : (sites site : ℕ) (old new : RecordState) → IsRecord sites old → SameShape old.seats.matrix new.seats.matrix → IsSeatState new.seats → IsNotices new.notices → IsKept site old.notices new.notices → IsRecord sites new
-IsRecord-kept sites site old new is same seats notices kept = record {
+pub IsRecord-kept : (sites site : ℕ) (old new : RecordState) → IsRecord sites old → SameShape old.seats.matrix new.seats.matrix → IsSeatState new.seats → new.notices ≡ old.notices → IsRecord sites new
+IsRecord-kept sites site old new is same seats kept = record {
   seats = seats;
-  notices = notices;
+  notices = subst (λ (n : NoticeState). IsNotices n) (sym kept) is.notices;
   seat_sites = same.sites ∙ is.seat_sites;
-  notice_sites = kept.same_sites ∙ is.notice_sites;
+  notice_sites = ap (λ (n : NoticeState). length n.announced) kept ∙ is.notice_sites;
 }
 
 -- nothing is kept where nothing is known

@@ -30,13 +30,13 @@ pub record JoinsAll (old new : BookState) (deltas : List DeltaState) : Type 0 wh
   pub shape : book_shape new ≡ book_shape old
   pub counters : (r s : ℕ) (cell : Cell) → counter_of new r s cell ≡ greatest_shown (book_shape old) (counter_of old r s cell) deltas r s cell
 
--- which counters a restart of a site keeps: its own row, and the rights that were sent to it. Every other
--- counter starts again (this project's own rule)
+-- which counters a restart of a site keeps: its own row, the rights that were sent to it, and every writer's
+-- notices. Every other counter starts again (this project's own rule)
 abbrev pub keeps_counter : ℕ → ℕ → Cell → Bool
 keeps_counter site s (Out j) = (s == site) || (j == site)
 keeps_counter site s Taken = s == site
-keeps_counter site s Ann = s == site
-keeps_counter site s Fin = s == site
+keeps_counter site s Ann = true
+keeps_counter site s Fin = true
 
 -- what a restart of a site leaves
 pub record KeepsOwn (site : ℕ) (old new : BookState) : Type 0 where

@@ -83,3 +83,13 @@ record_shape r = record { seats = r.seats; home = r.home }
 
 abbrev pub shape_of : LayoutState → Shape
 shape_of l = record { sites = l.sites; records = map record_shape l.records }
+
+-- the same records at another number of sites
+abbrev pub at_sites : ℕ → LayoutState → LayoutState
+at_sites n l = record l { sites = n }
+
+-- a layout is an earlier one of another's growth: the same records at fewer sites, every home among them
+pub record IsEarlier (old new : LayoutState) : Type 0 where
+  pub same_records : old.records ≡ new.records
+  pub fewer_sites : old.sites < new.sites
+  pub homes : All (λ r. r.home < old.sites) old.records

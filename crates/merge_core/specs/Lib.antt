@@ -1,11 +1,15 @@
 pub mod Layout
 pub mod Delta
 pub mod Rows
+pub mod Sums
+pub mod Tests
 pub mod Naming
 pub mod Book
 pub mod Check
 pub mod Changes
 pub mod Order
+pub mod Moved
+pub mod Thin
 pub mod Snapshot
 pub mod Start
 pub mod Joined

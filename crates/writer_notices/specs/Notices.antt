@@ -2,7 +2,6 @@
 -- counters (Shapiro et al., 2011) that carry the second problem of Courtois, Heymans and Parnas (1971).
 use Rattle.std.specs.Prelude.{◌≡◌, ℕ, ◌+◌, ◌-◌, ◌<◌, ◌≤◌, List, length, max, nat_le, if◌then◌else◌, slice_index, slice_set, Option, Some, None}
 use Rattle.grow_counters.specs.Counts.{counter_limit, rise_count, maxima}
-use Rattle.writer_notices.specs.Keeping.{kept_notice}
 use Rattle.writer_notices.specs.declared.notices.NoticeError.{NoticeError}
 use Rattle.writer_notices.specs.declared.notices.NoticeError.TheVariants.{CounterFull, TooManyWriters}
 
@@ -62,9 +61,3 @@ joined_at n s ann fin =
 -- how many counters of the new state are above those of the old one
 abbrev pub notice_rises : NoticeState → NoticeState → ℕ
 notice_rises old new = rise_count old.announced new.announced + rise_count old.finished new.finished
-
--- what a restart of a site leaves
-pub record IsKept (site : ℕ) (old new : NoticeState) : Type 0 where
-  pub same_sites : length new.announced ≡ length old.announced
-  pub announced : (s : ℕ) → slice_index new.announced s ≡ kept_notice site old.announced s
-  pub finished : (s : ℕ) → slice_index new.finished s ≡ kept_notice site old.finished s

@@ -1,6 +1,3 @@
-ghost use Rattle.std.specs.Prelude.{◌≡◌, ℕ, ◌<◌, ◌≤◌, List, length, slice_index};
-ghost use Rattle.writer_notices.specs.Keeping.{kept_notice};
-
 use grow_counters::{COUNTER_LIMIT, Counts};
 use std::alloc::{AllocError, Global};
 use std::marker::Model;
@@ -43,7 +40,7 @@ impl Model for Notices {
 impl Notices {
     ghost use Rattle.std.specs.Prelude.{◌≡◌, ℕ, ◌<◌, ◌≤◌, length, replicate, slice_index, IfOk, MatchResult, MatchOption, Some, None};
     ghost use Rattle.grow_counters.specs.Counts.{counter_limit};
-    ghost use Rattle.writer_notices.specs.Notices.{NoticeState, IsNotices, open_count, IsOpen, IsLeastOpen, announce_fault, announced_at, finished_at, joined, joined_at, notice_rises, IsKept};
+    ghost use Rattle.writer_notices.specs.Notices.{NoticeState, IsNotices, open_count, IsOpen, IsLeastOpen, announce_fault, announced_at, finished_at, joined, joined_at, notice_rises};
 
     /// The notices of `n` sites, at most 16, at which no writer was announced.
     pub fn new(alloc: Global, n: u16) -> Result<Notices, AllocError>
@@ -63,7 +60,6 @@ impl Notices {
         ensures count { result ≡ length self.now.announced }
         ensures valid { IsNotices self.now }
     {
-        let _ = &self.finished;
         self.announced.len() as u16
     }
 
@@ -161,26 +157,5 @@ impl Notices {
         let announced = self.announced.raise_to(usize::from(s), ann);
         let finished = self.finished.raise_to(usize::from(s), fin);
         u64::from(announced) + u64::from(finished)
-    }
-
-    /// What a restart of site `s` leaves: its own counters; all others go back to 0. Linear in the sites.
-    pub fn keep(&mut self, s: u16)
-        ensures kept { IsKept s self.old self.new }
-        ensures valid { IsNotices self.new }
-    {
-        keep_one(&mut self.announced, usize::from(s));
-        keep_one(&mut self.finished, usize::from(s));
-    }
-}
-
-// Sets every counter but the one at `site` to 0.
-fn keep_one(counters: &mut Counts, site: usize)
-    ensures size { length counters.new ≡ length counters.old }
-    ensures kept { (s : ℕ) → slice_index counters.new s ≡ kept_notice site counters.old s }
-{
-    for s in 0..counters.len() {
-        if s != site {
-            counters.reset(s, 0);
-        }
     }
 }

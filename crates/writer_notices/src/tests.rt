@@ -24,9 +24,9 @@ fn writers_are_announced_and_finished(rt: HostRuntime) -> Result<(), Fail> {
     Ok(())
 }
 
-// What is heard is merged, is kept by its own site alone, and stops at the limit of a counter.
+// What is told is merged, and a counter stops at its limit.
 #[test]
-fn notices_merge_and_are_kept(rt: HostRuntime) -> Result<(), Fail> {
+fn notices_merge(rt: HostRuntime) -> Result<(), Fail> {
     let mut it = Notices::new(rt.alloc(), 2)?;
     assert_eq!(rt; it.sites(), 2);
     assert_eq!(rt; it.join_row(0, COUNTER_LIMIT, COUNTER_LIMIT), 2);
@@ -39,7 +39,14 @@ fn notices_merge_and_are_kept(rt: HostRuntime) -> Result<(), Fail> {
     assert_eq!(rt; it.sites(), 2);
     assert_eq!(rt; it.join(&other), 1);
     assert_eq!(rt; it.unfinished(), Some(1));
-    it.keep(0);
-    assert_eq!(rt; it.unfinished(), None);
+    Ok(())
+}
+
+#[test]
+fn refusals_have_texts(rt: HostRuntime) -> Result<(), Fail> {
+    let full = format!(in rt.alloc(); "{}", NoticeError::CounterFull)?;
+    assert_eq!(rt; full.as_str(), "the counter would pass its limit");
+    let many = format!(in rt.alloc(); "{}", NoticeError::TooManyWriters)?;
+    assert_eq!(rt; many.as_str(), "the site has too many unfinished writers");
     Ok(())
 }

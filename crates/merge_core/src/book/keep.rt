@@ -10,8 +10,8 @@ impl Book {
     ghost use Rattle.merge_core.specs.Book.{IsBook};
     ghost use Rattle.merge_core.specs.Changes.{KeepsOwn};
 
-    /// What a restart of `site` leaves: the site's own rows and the rights that were sent to it. Linear in
-    /// the counters.
+    /// What a restart of `site` leaves: the site's own rows, the rights that were sent to it, and all notices.
+    /// Linear in the counters.
     pub fn keep(&mut self, site: u16)
         requires { site < self.old.sites }
         ensures counters { KeepsOwn site self.old self.new }
@@ -42,5 +42,4 @@ fn keep_record(sites: u16, it: &mut RecordState, site: u16)
     ensures valid { IsRecord sites it.new }
 {
     it.seats.keep(site);
-    it.notices.keep(site);
 }
