@@ -1,5 +1,5 @@
 -- A row joined to a book: its counters, its validity, and the rows that were not touched.
-use Rattle.std.proofs.Common.{◌∷◌, zero, suc, map, ◌≡◌, ◌≢◌, ℕ, ◌<◌, ◌≤◌, ◌⊎◌, inl, inr, ◌==◌, cond, max, List, [], length, get_or, slice_index_or, refl, sym, ap, ◌∙◌, arith, eq-eqb}
+use Rattle.std.proofs.Common.{◌∷◌, zero, suc, map, ◌≡◌, ◌≢◌, ℕ, ◌<◌, ◌≤◌, ◌⊎◌, inl, inr, ◌==◌, cond, max, List, [], length, get_or, slice_index_or, refl, sym, ap, ◌∙◌, subst, arith, eq-eqb}
 use Rattle.std.proofs.lemmas.List.{length-set, get_or-set_same, get_or-set_other, length-map}
 use Rattle.std.proofs.lemmas.Bool.{cases_eq, ne_eqb}
 use Rattle.grow_counters.specs.Counts.{maxima}
@@ -12,10 +12,11 @@ use Rattle.merge_core.specs.declared.cell.Cell.TheVariants.{Out, Taken, Ann, Fin
 use Rattle.merge_core.specs.declared.delta.Row.{Row}
 use Rattle.merge_core.specs.declared.record.RecordState.{RecordState}
 use Rattle.merge_core.specs.Layout.{RecordShape}
-use Rattle.merge_core.specs.Rows.{no_record, grant, counter_in, counters_of, IsPlaced, IsValid}
+use Rattle.merge_core.specs.Rows.{no_record, grant, counter_in, counters_of}
 use Rattle.merge_core.specs.Book.{BookState, nothing_known, record_at, row_in, counter_of, shape_in, book_shape, IsRecord, IsBook}
 use Rattle.merge_core.specs.Joined.{joined_record, with_row}
-use Rattle.merge_core.proofs.BookLemmas.{record_at-same, record_at-other}
+use Rattle.merge_core.proofs.TestLemmas.{IsPlaced, IsValid}
+use Rattle.merge_core.proofs.BookLemmas.{with_record, record_at-same, record_at-other, read_record}
 use Rattle.merge_core.proofs.ShownLemmas.{stands_at}
 use Rattle.merge_core.proofs.RiseLemmas.{HasSite}
 
@@ -86,10 +87,10 @@ counter_of-with_row b p r s c book placed = at_place (cases_eq p.r r)
     below = omega (arith, length-map b.records shape_in, placed.record_there)
 
     has : HasSite (record_at b p.r) p.s
-    has = HasSite-book b p.r p.s book below placed.site_there
+    has = HasSite-book b p.r p.s book below (omega (arith, placed.own_there, placed.few_sites))
 
     fits : length p.out ≤ length (row_of (record_at b p.r).seats.matrix p.s)
-    fits = let it = book.records p.r below in omega (arith, placed.all_sites, it.seat_sites, it.seats.matrix.square p.s has.in_rows)
+    fits = let it = book.records p.r below in omega (arith, placed.few_sites, it.seat_sites, it.seats.matrix.square p.s has.in_rows)
 
     at_place : (p.r ≡ r) ⊎ (p.r ≢ r) → counter_of (with_row b p) r s c ≡ cond (stands_at p r s) (max (counter_of b r s c) (counter_in (counters_of p) c)) (counter_of b r s c)
     at_place (inl same) = rw (← same, eq-eqb p.r p.r refl, record_at-same b p.r (joined_record (record_at b p.r) p) below) (counter-joined (record_at b p.r) p s c has fits)
@@ -106,3 +107,35 @@ IsRecord-joined sites it new p change is seats notices = record {
   seat_sites = ap (λ (x : RecordState). site_count x.seats.matrix) change ∙ length-set it.seats.matrix.rows p.s _ ∙ is.seat_sites;
   notice_sites = ap (λ (x : RecordState). length x.notices.announced) change ∙ length-set it.notices.announced p.s _ ∙ is.notice_sites;
 }
+
+-- what a record must have for a row to be joined to it
+pub record IsJoinable (it : RecordState) (p : Row) : Type 0 where
+  pub site : p.s < site_count it.seats.matrix
+  pub size : length p.out ≤ site_count it.seats.matrix
+  pub seats : IsValidSeatRow it.seats.matrix p.s p.out p.taken
+  pub seat_state : IsSeatState it.seats
+  pub notice_site : p.s < length it.notices.announced
+
+-- the record that was read at a row's place
+pub joinable_read : (b : BookState) (r : ℕ) (it : RecordState) (p : Row) → r ≡ p.r → r < length b.records → it ≡ get_or b.records r it → IsBook b → IsPlaced (book_shape b) p → IsValid (book_shape b) p → IsJoinable it p
+joinable_read b r it p at_row below read book placed valid =
+    subst (λ (x : RecordState). IsJoinable x p) (sym there)
+    (record {
+      site = omega (arith, placed.own_there, placed.few_sites, is.seat_sites);
+      size = omega (arith, placed.few_sites, is.seat_sites);
+      seats = IsValidSeatRow-row b p valid;
+      seat_state = is.seats;
+      notice_site = omega (arith, placed.own_there, placed.few_sites, is.notice_sites);
+    })
+  where
+    is : IsRecord b.sites (record_at b p.r)
+    is = book.records p.r (omega arith)
+
+    there : it ≡ record_at b p.r
+    there = read_record b r it below read ∙ ap (record_at b) at_row
+
+-- what is written over the record that was read is the book joined with the row
+pub with_row-written : (b : BookState) (r : ℕ) (it new : RecordState) (p : Row) → r ≡ p.r → r < length b.records → it ≡ get_or b.records r it → new ≡ joined_record it p → with_record b r new ≡ with_row b p
+with_row-written b r it new p at_row below read change =
+    ap (with_record b r) (change ∙ ap (λ (x : RecordState). joined_record x p) (read_record b r it below read ∙ ap (record_at b) at_row))
+    ∙ ap (λ k. with_record b k (joined_record (record_at b p.r) p)) at_row

@@ -1,3 +1,6 @@
+pub mod SumLemmas
+pub mod ListSumLemmas
+pub mod TestLemmas
 pub mod RowLemmas
 pub mod UnitLemmas
 pub mod ShownLemmas
@@ -10,5 +13,7 @@ pub mod JoinLemmas
 pub mod MergeLemmas
 pub mod KnownLemmas
 pub mod SameLemmas
+pub mod RaisedLemmas
 pub mod LawLemmas
+pub mod MovedLemmas
 pub mod SnapshotLemmas

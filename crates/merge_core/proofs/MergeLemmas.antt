@@ -8,11 +8,12 @@ use Rattle.merge_core.specs.declared.cell.Cell.TheVariants.{Out, Taken, Ann, Fin
 use Rattle.merge_core.specs.declared.delta.Row.{Row}
 use Rattle.merge_core.specs.Layout.{Shape}
 use Rattle.merge_core.specs.Delta.{IsRising}
-use Rattle.merge_core.specs.Rows.{grant, start_counter, counter_in, counters_of, IsPlaced}
+use Rattle.merge_core.specs.Rows.{grant, start_counter, counter_in, counters_of}
 use Rattle.merge_core.specs.Naming.{shown_by, ReachesUnit, RowsName}
 use Rattle.merge_core.specs.Book.{BookState, nothing_known, record_at, counter_of, Names, shape_in, book_shape, book_rises, IsBook}
 use Rattle.merge_core.specs.Order.{IsBelow, IsLeastWith}
 use Rattle.merge_core.specs.Joined.{joined_record, with_row}
+use Rattle.merge_core.proofs.TestLemmas.{IsPlaced}
 use Rattle.merge_core.proofs.BookLemmas.{book_shape-same}
 use Rattle.merge_core.proofs.ShownLemmas.{stands_at, shown_by-push, shown_by-absent, all_apart}
 use Rattle.merge_core.proofs.RiseLemmas.{AgreeAt, record_rises-onward, records_rise-onward, records_rise-written}
@@ -120,7 +121,8 @@ agree old now rows i p book rising below read placed joined = record {
     same_length =
         let x = joined.book.records p.r in_now in
         let y = book.records p.r (omega (arith, records, in_now)) in
-        omega (arith, sites, placed.site_there, x.seat_sites, y.seat_sites, x.seats.matrix.square p.s (omega (arith, placed.site_there, x.seat_sites)), y.seats.matrix.square p.s (omega (arith, sites, placed.site_there, y.seat_sites)))
+        let there : p.s < now.sites = omega (arith, placed.own_there, placed.few_sites) in
+        omega (arith, sites, x.seat_sites, y.seat_sites, x.seats.matrix.square p.s (omega (arith, x.seat_sites)), y.seats.matrix.square p.s (omega (arith, sites, y.seat_sites)))
 
 -- the counters that rise with one row more
 pub book_rises-step : (old now : BookState) (rows : List Row) (i : ℕ) (p : Row) → IsBook old → IsRising rows → i < length rows → p ≡ get_or rows i p → IsPlaced (book_shape now) p → IsJoinedWith old now (take i rows) → book_rises old (with_row now p) ≡ book_rises old now + book_rises now (with_row now p)
@@ -130,7 +132,7 @@ book_rises-step old now rows i p book rising below read placed joined =
     sym (length-map now.records shape_in) ∙ ap (λ (shape : Shape). length shape.records) joined.shape ∙ length-map old.records shape_in in
     let sites : now.sites ≡ old.sites = ap (λ (shape : Shape). shape.sites) joined.shape in
     let in_old : p.r < length old.records = omega arith in
-    let site_there : p.s < now.sites = placed.site_there in
+    let site_there : p.s < now.sites = omega (arith, placed.own_there, placed.few_sites) in
     let x = HasSite-book old p.r p.s book in_old (omega arith) in
     let y = HasSite-book now p.r p.s joined.book in_now site_there in
     let st = joined_record (record_at now p.r) p in

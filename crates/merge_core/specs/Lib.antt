@@ -10,7 +10,6 @@ pub mod Changes
 pub mod Order
 pub mod Moved
 pub mod Thin
-pub mod Snapshot
 pub mod Start
 pub mod Joined
 pub mod Kept

@@ -1,6 +1,5 @@
--- The rows of counters: what each starts as, and which rows a site may show.
-use Rattle.std.specs.Prelude.{◌≡◌, ◌≢◌, ℕ, ◌-◌, ◌<◌, ◌≤◌, ◌==◌, List, length, slice_index, slice_index_or, if◌then◌else◌}
-use Rattle.grow_counters.specs.Counts.{counter_limit}
+-- The rows of counters: how a counter is read, and what each starts as.
+use Rattle.std.specs.Prelude.{ℕ, ◌==◌, List, slice_index, slice_index_or, if◌then◌else◌}
 use Rattle.merge_core.specs.declared.cell.Cell.{Cell}
 use Rattle.merge_core.specs.declared.cell.Cell.TheVariants.{Out, Taken, Ann, Fin}
 use Rattle.merge_core.specs.declared.delta.Row.{Row}
@@ -38,19 +37,3 @@ start_counter shape r s (Out j) = if j == s then grant shape r s else 0
 start_counter shape r s Taken = 0
 start_counter shape r s Ann = 0
 start_counter shape r s Fin = 0
-
--- a row's place is in the layout: its record, its site, and a counter for each site
-pub record IsPlaced (shape : Shape) (p : Row) : Type 0 where
-  pub record_there : p.r < length shape.records
-  pub site_there : p.s < shape.sites
-  pub all_sites : length p.out ≡ shape.sites
-
--- what a site can have done: no seat came back that was not taken, no writer finished that was not
--- announced, and no counter is past its limit
-pub record IsValid (shape : Shape) (p : Row) : Type 0 where
-  pub kept_grant : grant shape p.r p.s ≤ slice_index p.out p.s
-  pub left_after_taken : slice_index p.out p.s - grant shape p.r p.s ≤ p.taken
-  pub few_taken : p.taken ≤ counter_limit
-  pub few_moved : (j : ℕ) → j ≢ p.s → slice_index p.out j ≤ counter_limit
-  pub finished_after_announced : p.fin ≤ p.ann
-  pub few_announced : p.ann ≤ counter_limit

@@ -11,10 +11,10 @@ use crate::record::RecordState;
 use crate::{Delta, Row};
 
 impl Book {
-    ghost use Rattle.std.specs.Prelude.{◌≡◌, ℕ, ◌≤◌, All};
-    ghost use Rattle.merge_core.specs.declared.cell.Cell.{Cell};
-    ghost use Rattle.merge_core.specs.Rows.{IsPlaced, IsValid};
-    ghost use Rattle.merge_core.specs.Book.{IsBook, book_shape, book_rises};
+    ghost use Rattle.std.specs.Prelude.{◌≡◌, ◌≤◌, All, IsTrue};
+    ghost use Rattle.merge_core.specs.Tests.{is_placed, is_valid};
+    ghost use Rattle.merge_core.specs.Book.{IsBook, counter_of, book_shape, book_rises};
+    ghost use Rattle.merge_core.specs.Moved.{raised_by};
     ghost use Rattle.merge_core.specs.Check.{IsChecked};
     ghost use Rattle.merge_core.specs.Changes.{JoinsRows, JoinsAll};
     ghost use Rattle.merge_core.specs.Order.{IsUnionWith, IsLeastWith, NamesKnown};
@@ -27,7 +27,7 @@ impl Book {
         ensures counters { JoinsRows self.old self.new delta.now.rows }
         ensures names { IsUnionWith self.old delta.now.rows self.new }
         ensures least { IsLeastWith self.old delta.now.rows self.new }
-        ensures risen { result ≡ book_rises self.old self.new }
+        ensures risen { result ≡ raised_by (book_shape self.old) (counter_of self.old) delta.now.rows }
         ensures book { IsBook self.new }
     {
         let _ = &self.sites;
@@ -53,8 +53,8 @@ impl Book {
 
     // Takes one row in, and answers how many counters rose.
     fn join_row(&mut self, row: &Row) -> u64
-        requires placed { IsPlaced (book_shape self.old) row.now }
-        requires valid { IsValid (book_shape self.old) row.now }
+        requires placed { IsTrue (is_placed (book_shape self.old) row.now) }
+        requires valid { IsTrue (is_valid (book_shape self.old) row.now) }
         ensures change { self.new ≡ with_row self.old row.now }
         ensures risen { result ≡ book_rises self.old self.new }
         ensures few { result ≤ 19 }
