@@ -1,10 +1,15 @@
 -- The laws of the join of books.
-use Rattle.std.proofs.Common.{◌≡◌, ℕ, ◌⊎◌, inl, inr, List}
+use Rattle.std.proofs.Common.{◌≡◌, ◌↔◌, ℕ, ◌⊎◌, inl, inr, max, List, sym, ap, ◌∙◌, subst}
 use Rattle.merge_core.specs.declared.cell.Cell.{Cell}
+use Rattle.merge_core.specs.declared.delta.Row.{Row}
+use Rattle.merge_core.specs.Layout.{Shape}
 use Rattle.merge_core.specs.Delta.{DeltaState}
-use Rattle.merge_core.specs.Book.{BookState, IsBook, Names, book_shape}
+use Rattle.merge_core.specs.Naming.{ReachesUnit, shown_by}
+use Rattle.merge_core.specs.Changes.{JoinsRows}
+use Rattle.merge_core.specs.Book.{BookState, IsBook, Names, book_shape, counter_of}
 use Rattle.merge_core.specs.Order.{IsBelow, NamesSame, NamesKnown, IsUnion, IsJoin, KnowsSame}
 use Rattle.merge_core.proofs.SameLemmas.{same_from_names}
+use Rattle.merge_core.proofs.UnitLemmas.{ReachesUnit-max}
 
 below_trans : (a b c : BookState) → IsBelow a b → IsBelow b c → IsBelow a c
 below_trans a b c first second r s cell k names = second r s cell k (first r s cell k names)
@@ -45,3 +50,17 @@ equal_from_known a b x y ds es book_x book_y shape knows_x knows_y same =
       λ names. (knows_y r s cell k).1 ((same r s cell k).0 ((knows_x r s cell k).0 names)),
       λ names. (knows_x r s cell k).1 ((same r s cell k).1 ((knows_y r s cell k).0 names)),
     ))
+
+-- a book joined with all that another one tells is the join of the two
+pub IsJoin-told : (a b j : BookState) (rows : List Row) → book_shape b ≡ book_shape a → ((r s : ℕ) (cell : Cell) → shown_by (book_shape b) rows r s cell ≡ counter_of b r s cell) → JoinsRows a j rows → IsJoin a b j
+IsJoin-told a b j rows shape told joins = IsJoin-union a b j (λ r s cell k. at r s cell k)
+  where
+    greater : (r s : ℕ) (cell : Cell) → counter_of j r s cell ≡ max (counter_of a r s cell) (counter_of b r s cell)
+    greater r s cell =
+        joins.counters r s cell
+        ∙ ap (max (counter_of a r s cell)) (ap (λ (at : Shape). shown_by at rows r s cell) (sym shape) ∙ told r s cell)
+
+    at : (r s : ℕ) (cell : Cell) (k : ℕ) → Names j r s cell k ↔ (Names a r s cell k ⊎ Names b r s cell k)
+    at r s cell k =
+        subst (λ (n : ℕ). ReachesUnit n k ↔ (ReachesUnit (counter_of a r s cell) k ⊎ ReachesUnit (counter_of b r s cell) k)) (sym (greater r s cell))
+        (ReachesUnit-max (counter_of a r s cell) (counter_of b r s cell) k)

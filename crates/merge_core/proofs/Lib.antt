@@ -14,6 +14,9 @@ pub mod MergeLemmas
 pub mod KnownLemmas
 pub mod SameLemmas
 pub mod RaisedLemmas
+pub mod ThinLemmas
+pub mod ThinLaws
+pub mod GrowthLemmas
 pub mod LawLemmas
 pub mod MovedLemmas
 pub mod SnapshotLemmas

@@ -4,6 +4,7 @@ use Rattle.merge_core.specs.declared.cell.Cell.{Cell}
 use Rattle.merge_core.specs.declared.cell.Cell.TheVariants.{Out, Taken, Ann, Fin}
 use Rattle.merge_core.specs.declared.delta.Row.{Row}
 use Rattle.merge_core.specs.Delta.{DeltaState}
+use Rattle.merge_core.specs.Layout.{Shape}
 use Rattle.merge_core.specs.Naming.{greatest_shown, shown_by}
 use Rattle.merge_core.specs.Rows.{start_counter}
 use Rattle.merge_core.specs.Book.{BookState, counter_of, book_shape}
@@ -42,3 +43,8 @@ keeps_counter site s Fin = true
 pub record KeepsOwn (site : ℕ) (old new : BookState) : Type 0 where
   pub shape : book_shape new ≡ book_shape old
   pub counters : (r s : ℕ) (cell : Cell) → counter_of new r s cell ≡ (if keeps_counter site s cell then counter_of old r s cell else start_counter (book_shape old) r s cell)
+
+-- the book under a layout of more sites: the same counters, and 0 for the sites that came
+pub record IsWidened (wider : Shape) (old new : BookState) : Type 0 where
+  pub shape : book_shape new ≡ wider
+  pub counters : (r s : ℕ) (cell : Cell) → counter_of new r s cell ≡ counter_of old r s cell

@@ -84,6 +84,12 @@ record_shape r = record { seats = r.seats; home = r.home }
 abbrev pub shape_of : LayoutState → Shape
 shape_of l = record { sites = l.sites; records = map record_shape l.records }
 
+-- one shape is an earlier one of another's growth: the same records at fewer sites
+pub record IsEarlierShape (old new : Shape) : Type 0 where
+  pub same_records : new.records ≡ old.records
+  pub some_sites : 1 ≤ old.sites
+  pub fewer_sites : old.sites < new.sites
+
 -- the same records at another number of sites
 abbrev pub at_sites : ℕ → LayoutState → LayoutState
 at_sites n l = record l { sites = n }

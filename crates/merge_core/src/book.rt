@@ -9,6 +9,7 @@ use writer_notices::NoticeError;
 
 mod equality;
 mod genesis;
+mod growth;
 mod join;
 mod keep;
 mod snapshot;

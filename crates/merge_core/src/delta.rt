@@ -1,13 +1,16 @@
 ghost use Rattle.std.specs.Prelude.{◌≡◌, IfOk};
 
+use crate::layout::MOST_SITES;
 use grow_counters::Counts;
 use std::alloc::{AllocError, Global};
 use std::marker::Model;
 use thiserror::Error;
 
 mod order;
+mod thin;
 
 use order::{are_rows, copied};
+use thin::thin_rows;
 
 /// Why a list of rows is no delta.
 #[derive(Clone, Copy, Debug, PartialEq, Eq, Error)]
@@ -70,6 +73,7 @@ impl Model for Delta {
 impl Delta {
     ghost use Rattle.std.specs.Prelude.{◌≡◌, IfOk, MatchResult};
     ghost use Rattle.merge_core.specs.Delta.{IsDelta};
+    ghost use Rattle.merge_core.specs.Thin.{thin_rows};
 
     /// The delta with this label and these rows, if they are one. Takes no memory; linear in the rows.
     pub fn new(from: u16, rows: Vec<Row>) -> Result<Delta, DeltaError>
@@ -78,7 +82,7 @@ impl Delta {
             (λ _. ¬ IsDelta (record { from = from; rows = rows.items })) }
         ensures value { IfOk result (λ d. d ≡ record { from = from; rows = rows.items }) }
     {
-        if from >= 16 || !are_rows(rows.as_slice()) {
+        if from >= MOST_SITES || !are_rows(rows.as_slice()) {
             return Err(DeltaError::BadDelta);
         }
         Ok(Delta { from, rows })
@@ -98,6 +102,18 @@ impl Delta {
         ensures valid { IsDelta self.now }
     {
         self.rows.as_slice()
+    }
+
+    /// The rows for which `last` has no equal row, with the same label: what a site that took `last` has to
+    /// be told. Linear in both.
+    pub fn thin(&self, alloc: Global, last: &Delta) -> Result<Delta, AllocError>
+        ensures { IfOk result (λ d. d ≡ record { from = self.now.from; rows = thin_rows self.now.rows last.now.rows }) }
+    {
+        let rows = thin_rows(alloc, self.rows.as_slice(), last.rows.as_slice())?;
+        Ok(Delta {
+            from: self.from,
+            rows,
+        })
     }
 
     /// An equal delta.

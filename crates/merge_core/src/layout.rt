@@ -14,6 +14,9 @@ pub const MOST_RECORDS: usize = 256;
 /// The greatest number of seats of a record.
 pub const MOST_SEATS: u32 = 65_535;
 
+/// The greatest number of bytes of a record's name.
+pub const MOST_NAME_BYTES: usize = 16;
+
 /// Why sites and records are no layout. The kinds are tried in this order, each over all records.
 #[derive(Clone, Copy, Debug, PartialEq, Eq, Error)]
 pub enum LayoutError {

@@ -29,6 +29,7 @@ impl Book {
         ensures checked { IfOk result (λ d. IsChecked (book_shape self.now) d.rows) }
         ensures counters { IfOk result (λ d. (r s : ℕ) (cell : Cell) → shown_by (book_shape self.now) d.rows r s cell ≡ counter_of self.now r s cell) }
         ensures names { IfOk result (λ d. (r s : ℕ) (cell : Cell) (k : ℕ) → RowsName (book_shape self.now) d.rows r s cell k ↔ Names self.now r s cell k) }
+        ensures book { IfOk result (λ _. IsBook self.now) }
     {
         let rows = self.all_moved(alloc)?;
         match Delta::new(from, rows) {

@@ -3,6 +3,7 @@ ghost use Rattle.std.specs.List.{AllByRecursion};
 ghost use Rattle.merge_core.specs.Delta.{IsRow, IsRising, ComesBefore};
 
 use super::Row;
+use crate::layout::{MOST_RECORDS, MOST_SITES};
 use std::alloc::{AllocError, Global};
 
 /// Whether the rows rise strictly and each is a row of some layout. Linear in the rows.
@@ -40,7 +41,8 @@ pub fn copied(alloc: Global, rows: &[Row]) -> Result<Vec<Row>, AllocError>
     Ok(copy)
 }
 
-fn comes_before(p: &Row, q: &Row) -> bool
+/// Whether row `p` stands before row `q`: by record, then by site.
+pub fn comes_before(p: &Row, q: &Row) -> bool
     ensures { IsTrue result ↔ ComesBefore p.now q.now }
 {
     p.r < q.r || (p.r == q.r && p.s < q.s)
@@ -50,10 +52,14 @@ fn is_row(row: &Row) -> bool
     ensures { IsTrue result ↔ IsRow row.now }
 {
     let out = row.out.as_slice();
+    // Read, so that it is known that they fit 64 bits.
     let _taken = row.taken;
     let _ann = row.ann;
     let _fin = row.fin;
-    if row.r >= 256 || row.s >= 16 || out.is_empty() || out.len() > 16 {
+    if usize::from(row.r) >= MOST_RECORDS || row.s >= MOST_SITES {
+        return false;
+    }
+    if out.is_empty() || out.len() > usize::from(MOST_SITES) {
         return false;
     }
     true

@@ -2,7 +2,7 @@ ghost use Rattle.std.specs.Prelude.{◌≡◌};
 ghost use Rattle.std.specs.List.{list_all};
 ghost use Rattle.merge_core.specs.Layout.{is_name_byte, is_record_name, has_name, names_differ, has_good_name, has_good_seats, has_good_home, has_good_problem, layout_fault};
 
-use super::{LayoutError, MOST_RECORDS, MOST_SEATS, MOST_SITES, RecordSpec};
+use super::{LayoutError, MOST_NAME_BYTES, MOST_RECORDS, MOST_SEATS, MOST_SITES, RecordSpec};
 
 /// What is wrong with the sites and records, if anything: the first kind in the order of [`LayoutError`].
 pub fn fault_of(sites: u16, records: &[RecordSpec]) -> Option<LayoutError>
@@ -50,7 +50,7 @@ fn is_name(name: &str) -> bool
     match name.as_bytes() {
         [] => false,
         [first, rest @ ..] => first.is_ascii_lowercase()
-            && rest.len() <= 15
+            && rest.len() < MOST_NAME_BYTES
             && all_name_bytes(rest),
     }
 }
