@@ -60,8 +60,8 @@ each_row : (b : BookState) (P : Row → Type 0) → IsBook b → ((r s : ℕ) �
 each_row b P book each =
     each_moved (book_shape b) (counter_of b) P
     (λ r s below site.
-        let inside : r < length b.records = omega (arith, length-map b.records shape_in) in
-        subst P (sym (told_row-book b r s book inside site)) (each r s inside site))
+    let inside : r < length b.records = omega (arith, length-map b.records shape_in) in
+    subst P (sym (told_row-book b r s book inside site)) (each r s inside site))
 
 -- ---- each row has its place, and its numbers fit
 

@@ -137,8 +137,8 @@ impl Model for Layout {
 }
 
 impl Layout {
-    ghost use Rattle.std.specs.Prelude.{◌≡◌, IfOk, MatchResult, None, Some};
-    ghost use Rattle.merge_core.specs.Layout.{IsLayout, layout_fault};
+    ghost use Rattle.std.specs.Prelude.{◌≡◌, ◌≢◌, IfOk, MatchOption, MatchResult, None, Some};
+    ghost use Rattle.merge_core.specs.Layout.{IsLayout, layout_fault, at_sites};
 
     /// The layout of these records at so many sites, or the first kind of fault that some of them has.
     /// Takes no memory. Compares each pair of names.
@@ -169,6 +169,16 @@ impl Layout {
         ensures layout { IsLayout self.now }
     {
         self.records.as_slice()
+    }
+
+    /// The same records at so many sites, if that is a layout: every home has to be one of the sites.
+    pub fn at_sites(&self, alloc: Global, sites: u16) -> Result<Option<Layout>, AllocError>
+        ensures { IfOk result (λ found. MatchOption found
+            (layout_fault sites self.now.records ≢ None)
+            (λ l. l ≡ at_sites sites self.now)) }
+    {
+        let records = copied(alloc, self.records.as_slice())?;
+        Ok(Layout::new(sites, records).ok())
     }
 
     /// An equal layout.

@@ -6,7 +6,8 @@ pub use cell::Cell;
 pub use check::CheckError;
 pub use delta::{Delta, DeltaError, Row};
 pub use layout::{
-    Layout, LayoutError, MOST_NAME_BYTES, MOST_RECORDS, MOST_SEATS, MOST_SITES, RecordName, RecordSpec,
+    Layout, LayoutError, MOST_NAME_BYTES, MOST_RECORDS, MOST_SEATS, MOST_SITES, RecordName,
+    RecordSpec,
 };
 
 mod book;

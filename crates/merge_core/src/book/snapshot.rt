@@ -62,7 +62,13 @@ impl Book {
     }
 
     // Adds the row of site `s` for record `r`, if it has left its start.
-    fn push_if_moved(&self, alloc: Global, rows: &mut Vec<Row>, r: u16, s: u16) -> Result<(), AllocError>
+    fn push_if_moved(
+        &self,
+        alloc: Global,
+        rows: &mut Vec<Row>,
+        r: u16,
+        s: u16,
+    ) -> Result<(), AllocError>
         requires record { r < length self.now.records }
         requires site { s < self.now.sites }
         ensures { OnOk result (rows.new.items ≡ rows.old.items ++ row_if (has_moved (book_shape self.now) (counter_of self.now) r s) (told_row self.now.sites (counter_of self.now) r s)) }
