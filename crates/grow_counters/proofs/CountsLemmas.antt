@@ -3,7 +3,7 @@ use Rattle.std.proofs.Common.{◌≡◌, ℕ, zero, suc, ◌+◌, ◌<◌, ◌�
 use Rattle.std.proofs.lemmas.List.{length-set, ext_get_or, get_or_past, get_or_default}
 use Rattle.std.proofs.lemmas.Bool.{cases_lt, lt-ltb}
 use Rattle.std.proofs.lemmas.Bool.Decides.{nat_tests}
-use Rattle.grow_counters.specs.Counts.{maxima, rise_count}
+use Rattle.grow_counters.specs.Counts.{maxima, rise_count, IsWithin, IsLeastAbove}
 
 pub length-maxima : (xs ys : List ℕ) → length (maxima xs ys) ≡ length xs
 length-maxima xs [] = refl
@@ -15,6 +15,14 @@ get_or-maxima xs [] k fits = omega arith
 get_or-maxima [] (y ∷ ys) k fits = omega arith
 get_or-maxima (x ∷ xs) (y ∷ ys) zero fits = refl
 get_or-maxima (x ∷ xs) (y ∷ ys) (suc k) fits = get_or-maxima xs ys k (omega arith)
+
+-- the maxima are the least state above both
+pub IsLeastAbove-maxima : (xs ys : List ℕ) → length ys ≤ length xs → IsLeastAbove xs ys (maxima xs ys)
+IsLeastAbove-maxima xs ys fits = record {
+  above_first = λ k. omega (arith, get_or-maxima xs ys k fits);
+  above_second = λ k. omega (arith, get_or-maxima xs ys k fits);
+  least = λ other above below k. omega (arith, get_or-maxima xs ys k fits, above k, below k);
+}
 
 -- as many counters rise as there are at most
 pub rise_count_le : (xs ys : List ℕ) → rise_count xs ys ≤ length xs
