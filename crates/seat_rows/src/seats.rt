@@ -121,7 +121,7 @@ impl SeatRow {
         requires enough { HasSeatRights self.now i }
         ensures { result ≡ seat_rights self.now i }
     {
-        self.cached.get(i) as u64
+        self.cached(i) as u64
     }
 
     /// How many seats are taken at site `i` and not given back.
