@@ -1,9 +1,9 @@
 -- Laws of the merge of counters and of how many rise.
-use Rattle.std.proofs.Common.{◌≡◌, ℕ, zero, suc, ◌+◌, ◌<◌, ◌≤◌, max, List, [], ◌∷◌, length, get_or, set, cond, ltb, refl, sym, ap, ◌∙◌, ◌⊎◌, inl, inr, arith, below_more, get_or-set_same, get_or-set_other}
-use Rattle.std.proofs.lemmas.List.{length-set, ext_get_or, get_or_past, get_or_default}
+use Rattle.std.proofs.Common.{◌≡◌, ℕ, zero, suc, ◌+◌, ◌<◌, ◌≤◌, max, List, [], ◌∷◌, length, get_or, set, take, cond, ltb, refl, sym, ap, ◌∙◌, ◌⊎◌, inl, inr, arith, below_more, get_or-set_same, get_or-set_other}
+use Rattle.std.proofs.lemmas.List.{length-set, length-take-le, ext_get_or, get_or_past, get_or_default}
 use Rattle.std.proofs.lemmas.Bool.{cases_lt, lt-ltb}
 use Rattle.std.proofs.lemmas.Bool.Decides.{nat_tests}
-use Rattle.grow_counters.specs.Counts.{maxima, rise_count}
+use Rattle.grow_counters.specs.Counts.{maxima, rise_count, IsWithin, IsLeastAbove}
 
 pub length-maxima : (xs ys : List ℕ) → length (maxima xs ys) ≡ length xs
 length-maxima xs [] = refl
@@ -15,6 +15,14 @@ get_or-maxima xs [] k fits = omega arith
 get_or-maxima [] (y ∷ ys) k fits = omega arith
 get_or-maxima (x ∷ xs) (y ∷ ys) zero fits = refl
 get_or-maxima (x ∷ xs) (y ∷ ys) (suc k) fits = get_or-maxima xs ys k (omega arith)
+
+-- the maxima are the least state above both
+pub IsLeastAbove-maxima : (xs ys : List ℕ) → length ys ≤ length xs → IsLeastAbove xs ys (maxima xs ys)
+IsLeastAbove-maxima xs ys fits = record {
+  above_first = λ k. omega (arith, get_or-maxima xs ys k fits);
+  above_second = λ k. omega (arith, get_or-maxima xs ys k fits);
+  least = λ other above below k. omega (arith, get_or-maxima xs ys k fits, above k, below k);
+}
 
 -- as many counters rise as there are at most
 pub rise_count_le : (xs ys : List ℕ) → rise_count xs ys ≤ length xs
@@ -66,3 +74,26 @@ rise_count-raised xs i had n inside read above =
     let at_zero : had ≡ get_or xs i 0 = read ∙ get_or_default xs i had 0 inside in
     let rises : get_or xs i 0 < n = omega arith in
     rw (rise_count-set xs xs i n inside inside refl, rise_count-same xs, lt-ltb _ _ rises) refl
+
+-- a list joined so far, and one counter more
+pub get_or-maxima-take : (xs ys : List ℕ) (j : ℕ) → j < length ys → length ys ≤ length xs → get_or (maxima xs (take j ys)) j 0 ≡ get_or xs j 0
+get_or-maxima-take xs ys j inside fits =
+    let size : length (take j ys) ≡ j = length-take-le j ys (omega arith) in
+    let none : get_or (take j ys) j 0 ≡ 0 = get_or_past (take j ys) j 0 (omega arith) in
+    omega (arith, none, get_or-maxima xs (take j ys) j (omega arith))
+
+pub maxima-take_more : (xs ys : List ℕ) (j : ℕ) → j < length ys → length ys ≤ length xs → maxima xs (take (j + 1) ys) ≡ set (maxima xs (take j ys)) j (max (get_or xs j 0) (get_or ys j 0))
+maxima-take_more [] [] j inside fits = absurd (omega arith)
+maxima-take_more [] (y ∷ ys) j inside fits = absurd (omega arith)
+maxima-take_more (x ∷ xs) [] j inside fits = absurd (omega arith)
+maxima-take_more (x ∷ xs) (y ∷ ys) zero inside fits = refl
+maxima-take_more (x ∷ xs) (y ∷ ys) (suc j) inside fits =
+    let more : suc j + 1 ≡ suc (j + 1) = omega arith in
+    rw more (ap (λ zs. max x y ∷ zs) (maxima-take_more xs ys j (omega arith) (omega arith)))
+
+pub rise_count-take_more : (xs ys : List ℕ) (j : ℕ) → j < length ys → length ys ≤ length xs → rise_count xs (maxima xs (take (j + 1) ys)) ≡ rise_count xs (maxima xs (take j ys)) + cond (ltb (get_or xs j 0) (get_or ys j 0)) 1 0
+rise_count-take_more xs ys j inside fits =
+    let size : length (maxima xs (take j ys)) ≡ length xs = length-maxima xs (take j ys) in
+    let one : rise_count xs (set (maxima xs (take j ys)) j (max (get_or xs j 0) (get_or ys j 0))) ≡ rise_count xs (maxima xs (take j ys)) + cond (ltb (get_or xs j 0) (max (get_or xs j 0) (get_or ys j 0))) 1 0 =
+    rise_count-set xs (maxima xs (take j ys)) j (max (get_or xs j 0) (get_or ys j 0)) (omega arith) (omega arith) (get_or-maxima-take xs ys j inside fits) in
+    rw (maxima-take_more xs ys j inside fits, one) (grind (arith, nat_tests))

@@ -1,5 +1,5 @@
-ghost use Rattle.std.specs.Prelude.{◌≡◌, ℕ, ◌+◌, ◌^◌, ◌<◌, ◌≤◌, ◌↔◌, max, List, length, replicate, slice_index, slice_set, All, if◌then◌else◌, IsTrue, IfOk, MatchResult};
-ghost use Rattle.grow_counters.specs.Counts.{maxima, rise_count, IsWithin};
+ghost use Rattle.std.specs.Prelude.{◌≡◌, ℕ, ◌+◌, ◌^◌, ◌<◌, ◌≤◌, ◌↔◌, ◌==◌, max, List, length, replicate, slice_index, slice_set, All, if◌then◌else◌, IsTrue, IfOk, MatchResult};
+ghost use Rattle.grow_counters.specs.Counts.{maxima, rise_count, kept_count, IsWithin, IsLeastAbove};
 
 use std::alloc::{AllocError, Global};
 use std::marker::Model;
@@ -91,11 +91,19 @@ impl Counts {
         ensures { IsTrue result ↔ IsWithin self.now other.now }
     {
         for i in 0..self.counters.len() {
-            if self.counters[i] > value_or_zero(&other.counters, i) {
+            if self.counters[i] > value_or_zero(other.counters.as_slice(), i) {
                 return false;
             }
         }
         true
+    }
+
+    /// Whether the counter at `i` may grow by `by` and is then at most `most`. The sum need not fit 64 bits.
+    pub fn has_room(&self, i: usize, by: u64, most: u64) -> bool
+        requires { i < length self.now }
+        ensures { IsTrue result ↔ (slice_index self.now i + by ≤ most) }
+    {
+        by <= most && self.get(i) <= most - by
     }
 
     /// Adds `by` to the counter at `i`, unless the sum would pass `most`.
@@ -108,11 +116,10 @@ impl Counts {
             (λ _. self.new ≡ slice_set self.old i (slice_index self.old i + by))
             (λ _. self.new ≡ self.old) }
     {
-        let had = self.counters[i];
-        if by > most || had > most - by {
+        if !self.has_room(i, by, most) {
             return Err(CounterError::CounterFull);
         }
-        self.counters[i] = had + by;
+        self.add(i, by);
         Ok(())
     }
 
@@ -148,10 +155,23 @@ impl Counts {
         self.counters[i] = value;
     }
 
+    /// Sets the counters at `from` and after it, up to `until`, back to 0, but leaves the one at `kept`: for a
+    /// restart alone, as [`Counts::reset`]. Linear in the number of counters between.
+    pub fn keep_one(&mut self, from: usize, until: usize, kept: usize)
+        requires { until ≤ length self.old }
+        ensures size { length self.new ≡ length self.old }
+        ensures counters { (k : ℕ) → slice_index self.new k ≡ kept_count self.old from until kept k }
+    {
+        for i in from..until {
+            self.drop_unless(i, kept);
+        }
+    }
+
     /// Raises each counter to the other's, and answers how many rose. Linear in the number of counters.
     pub fn join(&mut self, other: &Counts) -> u64
         requires { length other.now ≤ length self.old }
         ensures counters { self.new ≡ maxima self.old other.now }
+        ensures least { IsLeastAbove self.old other.now self.new }
         ensures risen { result ≡ rise_count self.old self.new }
     {
         self.join_slice(other.counters.as_slice())
@@ -162,6 +182,7 @@ impl Counts {
     pub fn join_slice(&mut self, other: &[u64]) -> u64
         requires { length other.now ≤ length self.old }
         ensures counters { self.new ≡ maxima self.old other.now }
+        ensures least { IsLeastAbove self.old other.now self.new }
         ensures risen { result ≡ rise_count self.old self.new }
     {
         let mut risen = 0;
@@ -170,11 +191,21 @@ impl Counts {
         }
         risen
     }
+
+    // Sets the counter at `i` back to 0 unless it is the one at `kept`.
+    fn drop_unless(&mut self, i: usize, kept: usize)
+        requires { i < length self.old }
+        ensures { self.new ≡ slice_set self.old i (if i == kept then slice_index self.old i else 0) }
+    {
+        if i != kept {
+            self.reset(i, 0);
+        }
+    }
 }
 
 // The number at `i`, or 0 past the end.
-fn value_or_zero(numbers: &Vec<u64>, i: usize) -> u64
-    ensures { result ≡ slice_index numbers.now.items i }
+fn value_or_zero(numbers: &[u64], i: usize) -> u64
+    ensures { result ≡ slice_index numbers.now i }
 {
     if i < numbers.len() { numbers[i] } else { 0 }
 }

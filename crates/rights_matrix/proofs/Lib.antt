@@ -1,4 +1,5 @@
 pub mod EntryLemmas
+pub mod GridLemmas
 pub mod JoinLemmas
 pub mod KeptLemmas
 pub mod MatrixLemmas

@@ -1,9 +1,10 @@
 -- What keeps a matrix valid.
-use Rattle.std.proofs.Common.{◌≡◌, ◌≢◌, ℕ, ◌*◌, ◌^◌, ◌<◌, ◌≤◌, ◌⊎◌, inl, inr, List, [], length, get_or, set, sum, sym, ap, ◌∙◌, arith}
-use Rattle.std.proofs.lemmas.List.{get_or_read, get_or-set_same, get_or-set_other, length-set}
+use Rattle.std.proofs.Common.{◌≡◌, ◌≢◌, ℕ, ◌+◌, ◌*◌, ◌^◌, ◌<◌, ◌≤◌, ◌⊎◌, inl, inr, List, [], length, get_or, set, sum, sym, ap, ◌∙◌, arith}
+use Rattle.std.proofs.lemmas.List.{get_or-set_same, get_or-set_other, length-set}
+use Rattle.std.proofs.lemmas.List.Sums.{sum_by-set}
 use Rattle.std.proofs.lemmas.Bool.{cases_eq}
 use Rattle.std.proofs.lemmas.Bool.Decides.{nat_tests}
-use Rattle.rights_matrix.specs.Matrix.{MatrixState, site_count, grant, row_of, entry, IsValidRow, IsMatrix}
+use Rattle.rights_matrix.specs.Matrix.{MatrixState, site_count, grant, row_of, entry, gained, given, IsValidRow, IsMatrix}
 use Rattle.rights_matrix.proofs.SumLemmas.{sum_by_below}
 
 -- a row of the right length and valid
@@ -49,16 +50,26 @@ entry_small m i j h below = at_place (cases_eq j i)
     at_place (inl same) = let own = valid.own in rw same (omega (arith, grant_small, own))
     at_place (inr other) = let sent = valid.sent j other in omega (arith, sent)
 
--- a row's sum fits 64 bits
-pub row_sum_small : (m : MatrixState) (i : ℕ) → IsMatrix m → i < site_count m → sum (row_of m i) < 2 ^ 64
+-- so that the sums are far below 64 bits
+pub row_sum_small : (m : MatrixState) (i : ℕ) → IsMatrix m → i < site_count m → sum (row_of m i) ≤ 32000000000000
 row_sum_small m i h below =
     let few : length (row_of m i) ≤ 16 = omega (arith, h.square i below, h.few_sites) in
     let bound : sum (row_of m i) ≤ length (row_of m i) * 2000000000000 = sum_by_below (λ x. x) 2000000000000 0 (row_of m i) (λ k l. entry_small m i k h below) in
     omega (arith, few, bound)
 
+pub gained_small : (m : MatrixState) (i : ℕ) → IsMatrix m → gained m i ≤ 32000000000000
+gained_small m i h =
+    let few : length m.rows ≤ 16 = h.few_sites in
+    let bound : gained m i ≤ length m.rows * 2000000000000 = sum_by_below (λ (row : List ℕ). get_or row i 0) 2000000000000 [] m.rows (λ k l. entry_small m k i h l) in
+    omega (arith, few, bound)
+
+pub given_small : (m : MatrixState) (i : ℕ) → IsMatrix m → i < site_count m → given m i ≤ 32000000000000
+given_small m i h below =
+    let whole : given m i + entry m i i ≡ sum (row_of m i) + 0 = sum_by-set (λ x. x) (row_of m i) i 0 0 (omega (arith, h.square i below)) in
+    omega (arith, whole, row_sum_small m i h below)
+
 -- the same, for a row as the code reads it
-pub read_row_sum_small : (m0 m : MatrixState) (i k : ℕ) (row : List ℕ) → m0 ≡ m → IsMatrix m0 → i < site_count m → k ≡ i → row ≡ get_or m0.rows k row → sum row < 2 ^ 64
-read_row_sum_small m0 m i k row is_m h inside place read =
+pub read_row_sum_small : (m0 m : MatrixState) (i : ℕ) (row : List ℕ) → m0 ≡ m → IsMatrix m0 → i < site_count m → row ≡ row_of m0 i → sum row ≤ 32000000000000
+read_row_sum_small m0 m i row is_m h inside read =
     let inside' : i < site_count m0 = rw is_m inside in
-    let row_is : row ≡ row_of m0 i = get_or_read m0.rows k row (omega arith) read [] ∙ ap (λ n. get_or m0.rows n []) place in
-    rw row_is (row_sum_small m0 i h inside')
+    rw read (row_sum_small m0 i h inside')

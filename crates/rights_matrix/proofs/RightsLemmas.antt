@@ -11,7 +11,7 @@ use Rattle.grow_counters.specs.Counts.{counter_limit}
 use Rattle.rights_matrix.specs.Changes.{MovesRights, MakesRights, SameRightsAt}
 use Rattle.rights_matrix.specs.Joined.{joined_at}
 use Rattle.rights_matrix.specs.Kept.{kept_entry}
-use Rattle.rights_matrix.specs.Transfer.{transfer_fault}
+use Rattle.rights_matrix.specs.Transfer.{refusal_of}
 use Rattle.rights_matrix.specs.Matrix.{MatrixState, site_count, row_of, entry, gained, given, rights_of, HasRights, IsMatrix, raised}
 
 -- the receiver gains what is sent, or what comes back
@@ -115,8 +115,8 @@ SameRightsAt-kept m rows site size width each = record {
     same_row = ext_get_or 0 (get_or rows site []) (row_of m site) width (λ k below. each site k ∙ in_row k)
 
 -- what the table of refusals says where it refuses nothing
-pub transfer_allowed : (m : MatrixState) (i j n taken : ℕ) → transfer_fault m i j n taken ≡ None → (j ≢ i) × (entry m i j + n ≤ counter_limit) × (n ≤ rights_of m i taken)
-transfer_allowed m i j n taken none = (grind (arith, nat_tests), grind (arith, nat_tests), grind (arith, nat_tests))
+pub transfer_allowed : (m : MatrixState) (i j n rights : ℕ) → refusal_of m i j n rights ≡ None → (j ≢ i) × (entry m i j + n ≤ counter_limit) × (n ≤ rights)
+transfer_allowed m i j n rights none = (grind (arith, nat_tests), grind (arith, nat_tests), grind (arith, nat_tests))
 
 -- after a transfer the giver's rights are still no negative number
 pub HasRights-transfer : (m : MatrixState) (i j n taken : ℕ) → IsMatrix m → i < site_count m → j < site_count m → j ≢ i → n ≤ rights_of m i taken → HasRights m i taken → HasRights (raised m i j n) i taken
@@ -134,31 +134,16 @@ HasRights-joined_at m s i taken row h in_s fits other has =
     let sent : given (joined_at m s row) i ≡ given m i = ap (λ (r : List ℕ). sum (set r i 0)) (get_or-set_other m.rows s i (maxima (row_of m s) row) [] other) in
     omega (arith, whole, here, sent)
 
--- the matrix after a write to entry (i, j), as the code makes it
-pub raised_read : (m0 m : MatrixState) (i k j l n : ℕ) (old new : List ℕ) → m0 ≡ m → i < site_count m → k ≡ i → l ≡ j → old ≡ get_or m0.rows k old → new ≡ set old l (get_or old l 0 + n) → record m0 { rows = set m0.rows k new } ≡ raised m i j n
-raised_read m0 m i k j l n old new is_m in_i is_i is_j read is_new =
-    let in_m0 : k < site_count m0 = rw (is_i, is_m) in_i in
-    let old_is : old ≡ get_or m0.rows k [] = get_or_read m0.rows k old in_m0 read [] in
-    rw (is_new, old_is, is_i, is_j, is_m) refl
+-- the same, for the fields of a matrix after a write to entry (i, j)
+pub moves_read : (m0 m : MatrixState) (i j n : ℕ) (rows : List (List ℕ)) → m0 ≡ m → IsMatrix m0 → i < site_count m → j < site_count m → j ≢ i → rows ≡ set m0.rows i (set (row_of m0 i) j (entry m0 i j + n)) → MovesRights m (record m0 { rows = rows }) i j n
+moves_read m0 m i j n rows is_m h in_i in_j other is_rows =
+    let moves : MovesRights m0 (raised m0 i j n) i j n = MovesRights-raised m0 i j n h (rw is_m in_i) (rw is_m in_j) other in
+    subst (λ (x : MatrixState). MovesRights x (record m0 { rows = rows }) i j n) is_m (rw is_rows moves)
 
-pub moves_read : (m0 m : MatrixState) (i k j l n taken : ℕ) (old new : List ℕ) → m0 ≡ m → IsMatrix m0 → i < site_count m → j < site_count m → transfer_fault m i j n taken ≡ None → k ≡ i → l ≡ j → old ≡ get_or m0.rows k old → new ≡ set old l (get_or old l 0 + n) → MovesRights m (record m0 { rows = set m0.rows k new }) i j n
-moves_read m0 m i k j l n taken old new is_m h in_i in_j none is_i is_j read is_new =
-    let e = raised_read m0 m i k j l n old new is_m in_i is_i is_j read is_new in
-    let h' : IsMatrix m = subst IsMatrix is_m h in
-    subst (λ (x : MatrixState). MovesRights m x i j n) (sym e) (MovesRights-raised m i j n h' in_i in_j (transfer_allowed m i j n taken none).0)
-
-pub enough_read : (m0 m : MatrixState) (i k j l n taken : ℕ) (old new : List ℕ) → m0 ≡ m → IsMatrix m0 → i < site_count m → j < site_count m → HasRights m i taken → transfer_fault m i j n taken ≡ None → k ≡ i → l ≡ j → old ≡ get_or m0.rows k old → new ≡ set old l (get_or old l 0 + n) → HasRights (record m0 { rows = set m0.rows k new }) i taken
-enough_read m0 m i k j l n taken old new is_m h in_i in_j has none is_i is_j read is_new =
-    let e = raised_read m0 m i k j l n old new is_m in_i is_i is_j read is_new in
-    let h' : IsMatrix m = subst IsMatrix is_m h in
-    let allowed = transfer_allowed m i j n taken none in
-    subst (λ (x : MatrixState). HasRights x i taken) (sym e) (HasRights-transfer m i j n taken h' in_i in_j allowed.0 allowed.2 has)
-
-pub makes_read : (m0 m : MatrixState) (i k n : ℕ) (old new : List ℕ) → m0 ≡ m → IsMatrix m0 → i < site_count m → k ≡ i → old ≡ get_or m0.rows k old → new ≡ set old k (get_or old k 0 + n) → MakesRights m (record m0 { rows = set m0.rows k new }) i n
-makes_read m0 m i k n old new is_m h in_i is_i read is_new =
-    let e = raised_read m0 m i k i k n old new is_m in_i is_i is_i read is_new in
-    let h' : IsMatrix m = subst IsMatrix is_m h in
-    subst (λ (x : MatrixState). MakesRights m x i n) (sym e) (MakesRights-raised m i n h' in_i)
+pub makes_read : (m0 m : MatrixState) (i n : ℕ) (rows : List (List ℕ)) → m0 ≡ m → IsMatrix m0 → i < site_count m → rows ≡ set m0.rows i (set (row_of m0 i) i (entry m0 i i + n)) → MakesRights m (record m0 { rows = rows }) i n
+makes_read m0 m i n rows is_m h in_i is_rows =
+    let makes : MakesRights m0 (raised m0 i i n) i n = MakesRights-raised m0 i n h (rw is_m in_i) in
+    subst (λ (x : MatrixState). MakesRights x (record m0 { rows = rows }) i n) is_m (rw is_rows makes)
 
 pub kept_read : (m0 m : MatrixState) (rows : List (List ℕ)) (site : ℕ) → m0 ≡ m → length rows ≡ site_count m0 → ((k : ℕ) → length (get_or rows k []) ≡ length (row_of m0 k)) → ((i j : ℕ) → get_or (get_or rows i []) j 0 ≡ kept_entry m0 site i j) → SameRightsAt m (record m0 { rows = rows }) site
 kept_read m0 m rows site is_m size widths each =

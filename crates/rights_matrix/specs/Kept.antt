@@ -6,7 +6,7 @@ use Rattle.rights_matrix.specs.Matrix.{MatrixState, entry, start_entry}
 abbrev pub kept_entry : MatrixState → ℕ → ℕ → ℕ → ℕ
 kept_entry m site i j = if (i == site) || (j == site) then entry m i j else start_entry m i j
 
--- the same for a row of another site, which starts with `start` at its own place
+-- row i of them, where `start` is its own entry at the start; the row of the site itself stays whole
 abbrev pub kept_counter : List ℕ → ℕ → ℕ → ℕ → ℕ → ℕ
-kept_counter row s site start j =
-    if j == site then slice_index row j else (if s == j then start else 0)
+kept_counter row i site start j =
+    if (i == site) || (j == site) then slice_index row j else (if i == j then start else 0)

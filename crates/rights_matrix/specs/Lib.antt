@@ -1,4 +1,5 @@
 pub mod Changes
+pub mod Grid
 pub mod Joined
 pub mod Kept
 pub mod Matrix

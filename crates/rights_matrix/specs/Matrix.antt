@@ -65,10 +65,14 @@ pub record IsValidRow (m : MatrixState) (s : ℕ) (row : List ℕ) : Type 0 wher
   pub own : slice_index row s ≤ grant m s + counter_limit
   pub sent : (j : ℕ) → j ≢ s → slice_index row j ≤ counter_limit
 
+-- the greatest number of sites (this project's own)
+abbrev pub most_sites : ℕ
+most_sites = 16
+
 -- what holds of every matrix; with a home site there is at least one row
 pub record IsMatrix (m : MatrixState) : Type 0 where
   pub home : m.home < site_count m
-  pub few_sites : site_count m ≤ 16
+  pub few_sites : site_count m ≤ most_sites
   pub few_seats : m.seats < 2 ^ 32
   pub square : (i : ℕ) → i < site_count m → length (row_of m i) ≡ site_count m
   pub valid : (i : ℕ) → i < site_count m → IsValidRow m i (row_of m i)

@@ -2,9 +2,10 @@
 #![tactic(auto)]
 
 pub use faults::TransferError;
-pub use rights::Rights;
+pub use rights::{MOST_SITES, Rights};
 
 mod faults;
+mod grid;
 mod rights;
 #[cfg(test)]
 mod tests;

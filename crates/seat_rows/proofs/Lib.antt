@@ -1,1 +1,2 @@
+pub mod BalanceLemmas
 pub mod SeatLemmas

@@ -1,17 +1,20 @@
 -- Seats, site by site.
-use Rattle.std.proofs.Common.{◌≡◌, ◌≢◌, ℕ, ◌+◌, ◌<◌, ◌≤◌, ◌⊎◌, inl, inr, List, length, get_or, set, max, refl, sym, ◌∙◌, arith}
+use Rattle.std.proofs.Common.{◌≡◌, ◌≢◌, ℕ, ◌+◌, ◌-◌, ◌<◌, ◌≤◌, ◌⊎◌, inl, inr, Bool, true, false, cond, ltb, List, [], length, get_or, set, take, max, refl, sym, ap, ◌∙◌, arith}
 use Rattle.std.proofs.lemmas.List.{get_or-set_same, get_or-set_other, length-set}
 use Rattle.std.proofs.lemmas.Bool.{cases_eq}
-use Rattle.grow_counters.specs.Counts.{maxima}
+use mir.Val.{bool_byte}
+use Rattle.grow_counters.specs.Counts.{counter_limit, maxima, rise_count}
 use Rattle.grow_counters.proofs.CountsLemmas.{length-maxima, get_or-maxima}
-use Rattle.grow_counters.specs.Counts.{counter_limit}
 use Rattle.rights_matrix.specs.Joined.{joined, joined_at}
-use Rattle.rights_matrix.specs.Matrix.{MatrixState, site_count, grant, SameShape}
+use Rattle.rights_matrix.specs.Matrix.{MatrixState, site_count, grant, entry, raised, IsMatrix, SameShape}
 use Rattle.rights_matrix.proofs.EntryLemmas.{entry-joined, entry-joined_at, entry-joined_at_other}
-use Rattle.rights_matrix.proofs.JoinLemmas.{IsMatrix-joined, IsMatrix-joined_at, length-joined_rows}
+use Rattle.rights_matrix.proofs.JoinLemmas.{IsMatrix-joined, IsMatrix-joined_at, length-joined_rows, joined_at-start, joined_at-more, rise_counts-more}
 use Rattle.rights_matrix.proofs.RightsLemmas.{HasRights-joined_at}
 use Rattle.rights_matrix.proofs.StartLemmas.{zero_row, HasRights-start}
-use Rattle.seat_rows.specs.Seats.{SeatState, taken_at, returned_at, HasSeatRights, IsSeatState, IsValidSeatRow, start_seats, after_take, joined_seats, joined_seats_at}
+use Rattle.seat_rows.specs.Seats.{SeatState, taken_at, returned_at, HasSeatRights, IsSeatState, IsValidSeatRow, start_seats, after_take, after_raise, joined_seats, joined_seats_at, seat_rises}
+
+abbrev seats_of : MatrixState → List ℕ → SeatState
+seats_of m t = record { matrix = m; taken = t }
 
 -- two copies of the seats of one record have a join
 pub IsSeatState-joined : (a b : SeatState) → IsSeatState a → IsSeatState b → SameShape a.matrix b.matrix → IsSeatState (joined_seats a b)
@@ -86,10 +89,6 @@ join_keeps a0 a b0 b matrix taken is_a is_b in_a in_b same is_matrix is_taken =
     let same' : SameShape a0.matrix b0.matrix = rw (is_a, is_b) same in
     rw (is_matrix, is_taken) (IsSeatState-joined a0 b0 in_a in_b same')
 
-pub join_row_keeps : (st0 st : SeatState) (s k taken : ℕ) (row : List ℕ) (matrix : MatrixState) (counts : List ℕ) → st0 ≡ st → IsSeatState st0 → s < site_count st.matrix → length row ≤ site_count st.matrix → IsValidSeatRow st.matrix s row taken → k ≡ s → matrix ≡ joined_at st0.matrix s row → counts ≡ set st0.taken k (max (get_or st0.taken k 0) taken) → IsSeatState (record { matrix = matrix; taken = counts })
-join_row_keeps st0 st s k taken row matrix counts is_st h inside fits valid place is_matrix is_counts =
-    rw (is_matrix, is_counts, place) (IsSeatState-joined_at st0 s taken row h (rw is_st inside) (rw is_st fits) (rw is_st valid))
-
 -- the counts after a join, site by site
 pub taken_at-joined : (a b : SeatState) (i : ℕ) → IsSeatState a → IsSeatState b → SameShape a.matrix b.matrix → taken_at (joined_seats a b) i ≡ max (taken_at a i) (taken_at b i)
 taken_at-joined a b i in_a in_b same =
@@ -121,3 +120,26 @@ HasSeatRights-joined_at st s i taken row h inside fits other has =
     let kept = HasRights-joined_at st.matrix s i (taken_at st i) row h.matrix inside fits other has in
     let same = taken_at-joined_at_other st s i taken row other in
     omega (arith, kept, same)
+
+-- A row and a count joined so far, and one counter more.
+
+pub joined_seats_at-start : (st now : SeatState) (s taken : ℕ) → now ≡ record st { taken = set st.taken s (max (taken_at st s) taken) } → now ≡ joined_seats_at st s [] taken
+joined_seats_at-start st now s taken is_now =
+    is_now ∙ ap (λ (m : MatrixState). seats_of m (set st.taken s (max (taken_at st s) taken))) (joined_at-start st.matrix s)
+
+pub joined_seats_at-more : (st now : SeatState) (s j by taken : ℕ) (row : List ℕ) → IsMatrix st.matrix → s < site_count st.matrix → j < length row → length row ≤ site_count st.matrix → now ≡ joined_seats_at st s (take j row) taken → by ≡ get_or row j 0 - entry now.matrix s j → after_raise now s j by ≡ joined_seats_at st s (take (j + 1) row) taken
+joined_seats_at-more st now s j by taken row h inside in_row fits is_now is_by =
+    let matrix : raised now.matrix s j by ≡ joined_at st.matrix s (take (j + 1) row) = joined_at-more st.matrix now.matrix s j by row h inside in_row fits (ap (λ (x : SeatState). x.matrix) is_now) is_by in
+    let counts : now.taken ≡ set st.taken s (max (taken_at st s) taken) = ap (λ (x : SeatState). x.taken) is_now in
+    ap (λ (m : MatrixState). seats_of m now.taken) matrix ∙ ap (λ (t : List ℕ). seats_of (joined_at st.matrix s (take (j + 1) row)) t) counts
+
+pub seat_rises-more : (st now : SeatState) (s j by taken : ℕ) (row : List ℕ) → IsMatrix st.matrix → s < site_count st.matrix → j < length row → length row ≤ site_count st.matrix → now ≡ joined_seats_at st s (take j row) taken → by ≡ get_or row j 0 - entry now.matrix s j → seat_rises st (joined_seats_at st s (take (j + 1) row) taken) ≡ seat_rises st now + cond (ltb 0 by) 1 0
+seat_rises-more st now s j by taken row h inside in_row fits is_now is_by =
+    let rises = rise_counts-more st.matrix now.matrix s j by row h inside in_row fits (ap (λ (x : SeatState). x.matrix) is_now) is_by in
+    let counts : rise_count st.taken now.taken ≡ rise_count st.taken (set st.taken s (max (taken_at st s) taken)) = ap (λ (x : SeatState). rise_count st.taken x.taken) is_now in
+    omega (arith, rises, counts)
+
+-- a test counts as 1 or 0
+pub bool_byte_is : (b : Bool) → (bool_byte b ≡ cond b 1 0) × (bool_byte b ≤ 1)
+bool_byte_is true = (refl, omega arith)
+bool_byte_is false = (refl, omega arith)

@@ -1,9 +1,9 @@
 -- A bounded counter of one record (Balegas et al., 2015): its rights matrix, and how many seats were taken
 -- at each site, the decrements. A seat that is given back is counted as an increment in the matrix.
-use Rattle.std.specs.Prelude.{◌≡◌, ℕ, ◌+◌, ◌-◌, ◌<◌, ◌≤◌, ◌==◌, max, if◌then◌else◌, List, length, replicate, slice_index, slice_set}
+use Rattle.std.specs.Prelude.{◌≡◌, ℕ, ◌+◌, ◌-◌, ◌<◌, ◌≤◌, ◌==◌, max, if◌then◌else◌, List, length, replicate, slice_index, slice_index_or, slice_set, ℤ, pos, ◌-ℤ◌}
 use Rattle.grow_counters.specs.Counts.{counter_limit, maxima, rise_count}
 use Rattle.rights_matrix.specs.Joined.{joined, joined_at, rise_counts}
-use Rattle.rights_matrix.specs.Matrix.{MatrixState, site_count, grant, entry, start_matrix, raised, rights_of, HasRights, IsValidRow, IsMatrix}
+use Rattle.rights_matrix.specs.Matrix.{MatrixState, site_count, grant, entry, start_matrix, raised, gained, spent, rights_of, HasRights, IsValidRow, IsMatrix}
 
 -- what contracts see of the seats of one record
 pub record SeatState : Type 0 where
@@ -28,6 +28,15 @@ seat_rights st i = rights_of st.matrix i (taken_at st i)
 -- the rights of site i are no negative number
 abbrev pub HasSeatRights : SeatState → ℕ → Type 0
 HasSeatRights st i = HasRights st.matrix i (taken_at st i)
+
+-- the same as an integer: below 0 where not all that was sent to site i is known here
+abbrev pub signed_rights : SeatState → ℕ → ℤ
+signed_rights st i = pos (gained st.matrix i) -ℤ pos (spent st.matrix i (taken_at st i))
+
+-- each of these numbers, one for each site, is what the formula adds up to (this project's own cache)
+pub record TellsRights (st : SeatState) (numbers : List ℤ) : Type 0 where
+  pub size : length numbers ≡ site_count st.matrix
+  pub each : (i : ℕ) → i < site_count st.matrix → slice_index_or numbers i (pos 0) ≡ signed_rights st i
 
 -- what holds of the seats of every record: no site gives back more than it took
 pub record IsSeatState (st : SeatState) : Type 0 where

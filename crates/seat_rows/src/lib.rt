@@ -4,6 +4,7 @@
 pub use faults::SeatError;
 pub use seats::SeatRow;
 
+mod balances;
 mod faults;
 mod seats;
 #[cfg(test)]

@@ -1,11 +1,13 @@
-ghost use Rattle.std.specs.Prelude.{◌≡◌, ℕ, ◌+◌, ◌-◌, ◌<◌, ◌≤◌, ◌==◌, if◌then◌else◌, length, slice_index, slice_set, None, Some, IfOk, OnOk, MatchResult};
+ghost use Rattle.std.specs.Prelude.{◌≡◌, ℕ, ◌+◌, ◌-◌, ◌*◌, ◌<◌, ◌≤◌, max, if◌then◌else◌, length, slice_index, slice_set, None, Some, IfOk, OnOk, MatchResult};
 ghost use Rattle.rights_matrix.specs.Changes.{MovesRights, SameRightsAt};
 ghost use Rattle.rights_matrix.specs.Kept.{kept_entry};
-ghost use Rattle.rights_matrix.specs.Matrix.{site_count, grant, entry, row_of, SameShape};
+ghost use Rattle.rights_matrix.specs.Matrix.{site_count, most_sites, grant, entry, start_entry, row_of, SameShape};
 ghost use Rattle.rights_matrix.specs.Transfer.{transfer_fault};
-ghost use Rattle.seat_rows.specs.Seats.{SeatState, taken_at, returned_at, inside_of, seat_rights, HasSeatRights, IsSeatState, IsValidSeatRow, start_seats, after_take, after_raise, joined_seats, joined_seats_at, seat_rises, kept_taken};
+ghost use Rattle.grow_counters.specs.Counts.{counter_limit, rise_count};
+ghost use Rattle.seat_rows.specs.Seats.{SeatState, taken_at, returned_at, inside_of, seat_rights, signed_rights, TellsRights, HasSeatRights, IsSeatState, IsValidSeatRow, start_seats, after_take, after_raise, joined_seats, joined_seats_at, seat_rises, kept_taken};
 ghost use Rattle.seat_rows.specs.Take.{take_fault};
 
+use crate::balances::Balances;
 use crate::faults::SeatError;
 use grow_counters::{COUNTER_LIMIT, Counts};
 use rights_matrix::{Rights, TransferError};
@@ -18,28 +20,36 @@ use std::marker::Model;
 pub struct SeatRow {
     rights: Rights,
     taken: Counts,
+    cached: Balances,
 }
 
-// Contracts see the matrix and the list of taken counts.
+// Contracts see the matrix and the list of taken counts. The cached numbers always tell the formula.
 impl Model for SeatRow {
     ghost Value = { SeatState };
 
     ghost view = { λ r. record { matrix = r.rights; taken = r.taken } };
 
-    ghost invariant = { λ r. IsSeatState (record { matrix = r.rights; taken = r.taken }) };
+    ghost invariant = { λ r. let st : SeatState = record { matrix = r.rights; taken = r.taken } in
+        (IsSeatState st) × (TellsRights st r.cached) };
 }
 
 impl SeatRow {
     /// The seats of `n` sites at the start: all at `home`, none taken.
     pub fn new(alloc: Global, n: u16, home: u16, seats: u32) -> Result<SeatRow, AllocError>
-        requires few { n ≤ 16 }
+        requires few { n ≤ most_sites }
         requires home { home < n }
         ensures start { IfOk result (λ row. row ≡ start_seats n home seats) }
         ensures state { IfOk result (λ row. IsSeatState row) }
     {
         let rights = Rights::new(alloc, n, home, seats)?;
         let taken = Counts::new(alloc, usize::from(n))?;
-        Ok(SeatRow { rights, taken })
+        let mut cached = Balances::new(alloc, usize::from(n))?;
+        recount(&rights, &taken, &mut cached);
+        Ok(SeatRow {
+            rights,
+            taken,
+            cached,
+        })
     }
 
     /// The number of sites, 1 to 16.
@@ -47,7 +57,6 @@ impl SeatRow {
         ensures count { result ≡ site_count self.now.matrix }
         ensures state { IsSeatState self.now }
     {
-        let _ = &self.taken;
         self.rights.sites()
     }
 
@@ -90,20 +99,29 @@ impl SeatRow {
     }
 
     /// The row of site `i` in the rights matrix.
-    pub fn row(&self, i: u16) -> &Counts
+    pub fn row(&self, i: u16) -> &[u64]
         requires { i < site_count self.now.matrix }
         ensures { result.now ≡ row_of self.now.matrix i }
     {
         self.rights.row(i)
     }
 
-    /// How many seats site `i` may still take by itself. Linear in the number of sites.
+    /// What site `i` ever got less what it sent and took, as far as it is known here: for a foreign site, whose
+    /// column is perhaps known in part, it may be below 0.
+    pub fn cached(&self, i: u16) -> i64
+        requires { i < site_count self.now.matrix }
+        ensures { result ≡ signed_rights self.now i }
+    {
+        self.cached.get(i)
+    }
+
+    /// How many seats site `i` may still take by itself.
     pub fn rights(&self, i: u16) -> u64
         requires site { i < site_count self.now.matrix }
         requires enough { HasSeatRights self.now i }
         ensures { result ≡ seat_rights self.now i }
     {
-        self.rights.rights(i, &self.taken)
+        self.cached(i) as u64
     }
 
     /// How many seats are taken at site `i` and not given back.
@@ -114,8 +132,7 @@ impl SeatRow {
         self.taken(i) - self.returned(i)
     }
 
-    /// Sends `n` rights from site `i` to site `j`, or refuses as [`Rights::transfer`] does. Linear in the
-    /// number of sites.
+    /// Sends `n` rights from site `i` to site `j`, or refuses as [`Rights::transfer`] does.
     pub fn transfer(&mut self, i: u16, j: u16, n: u64) -> Result<(), TransferError>
         requires from { i < site_count self.old.matrix }
         requires to { j < site_count self.old.matrix }
@@ -129,11 +146,15 @@ impl SeatRow {
         ensures enough { HasSeatRights self.new i }
         ensures state { IsSeatState self.new }
     {
-        self.rights.transfer(i, j, n, &self.taken)
+        let rights = self.rights(i);
+        self.rights.transfer_from(i, j, n, rights)?;
+        self.cached.lose(i, n);
+        self.cached.gain(j, n);
+        Ok(())
     }
 
     /// Takes `w` seats at site `i`. Refused where the counter would pass its limit, and then where the site
-    /// has fewer rights than `w`. Linear in the number of sites.
+    /// has fewer rights than `w`.
     pub fn take(&mut self, i: u16, w: u64) -> Result<(), SeatError>
         requires site { i < site_count self.old.matrix }
         requires enough { HasSeatRights self.old i }
@@ -152,6 +173,7 @@ impl SeatRow {
             return Err(fault);
         }
         self.taken.add(usize::from(i), w);
+        self.cached.lose(i, w);
         Ok(())
     }
 
@@ -166,6 +188,7 @@ impl SeatRow {
         ensures state { IsSeatState self.new }
     {
         self.rights.give_back(i, w);
+        self.cached.gain(i, w);
     }
 
     /// Forgets what was heard of other sites, for a restart of `site`: sets their taken counts to 0, and every
@@ -180,7 +203,9 @@ impl SeatRow {
         ensures state { IsSeatState self.new }
     {
         self.rights.keep(site);
-        keep_taken(&mut self.taken, usize::from(site));
+        let sites = self.taken.len();
+        self.taken.keep_one(0, sites, usize::from(site));
+        recount(&self.rights, &self.taken, &mut self.cached);
     }
 
     /// Raises each counter to the other copy's, and answers how many rose. Linear in the number of counters.
@@ -188,11 +213,12 @@ impl SeatRow {
         requires { SameShape self.old.matrix other.now.matrix }
         ensures change { self.new ≡ joined_seats self.old other.now }
         ensures risen { result ≡ seat_rises self.old self.new }
-        ensures few { result ≤ 272 }
+        ensures few { result ≤ most_sites * (most_sites + 1) }
         ensures state { IsSeatState self.new }
     {
         let in_matrix = self.rights.join(&other.rights);
         let in_taken = self.taken.join(&other.taken);
+        recount(&self.rights, &self.taken, &mut self.cached);
         in_matrix + in_taken
     }
 
@@ -204,12 +230,49 @@ impl SeatRow {
         requires valid { IsValidSeatRow self.old.matrix s given.now taken }
         ensures change { self.new ≡ joined_seats_at self.old s given.now taken }
         ensures risen { result ≡ seat_rises self.old self.new }
-        ensures few { result ≤ 17 }
+        ensures few { result ≤ most_sites + 1 }
         ensures state { IsSeatState self.new }
     {
-        let in_row = self.rights.join_row(s, given);
-        let rose = self.taken.raise_to(usize::from(s), taken);
-        in_row + u64::from(rose)
+        let mut risen = u64::from(self.raise_taken(s, taken));
+        for j in 0..given.len() {
+            risen += u64::from(self.raise_entry(s, j as u16, given[j]) > 0);
+        }
+        risen
+    }
+
+    // Raises the taken count of site `s` to at least `n`, and tells whether it rose.
+    fn raise_taken(&mut self, s: u16, n: u64) -> bool
+        requires site { s < site_count self.old.matrix }
+        requires limit { n ≤ counter_limit }
+        ensures change { self.new
+            ≡ record self.old { taken = slice_set self.old.taken s (max (taken_at self.old s) n) } }
+        ensures risen { rise_count self.old.taken self.new.taken ≡ (if result then 1 else 0) }
+        ensures state { IsSeatState self.new }
+    {
+        let by = n.saturating_sub(self.taken(s));
+        let rose = self.taken.raise_to(usize::from(s), n);
+        self.cached.lose(s, by);
+        rose
+    }
+
+    // Raises entry (`s`, `j`) to at least `n`, and answers by how much it rose.
+    fn raise_entry(&mut self, s: u16, j: u16, n: u64) -> u64
+        requires site { s < site_count self.old.matrix }
+        requires to { j < site_count self.old.matrix }
+        requires limit { n ≤ start_entry self.old.matrix s j + counter_limit }
+        requires returned { s ≡ j → n - grant self.old.matrix s ≤ taken_at self.old s }
+        ensures by { result ≡ n - entry self.old.matrix s j }
+        ensures change { self.new ≡ after_raise self.old s j result }
+        ensures state { IsSeatState self.new }
+    {
+        let by = self.rights.raise_to(s, j, n);
+        if s == j {
+            self.cached.gain(s, by);
+            return by;
+        }
+        self.cached.lose(s, by);
+        self.cached.gain(j, by);
+        by
     }
 
     // The seats given back at site `i`.
@@ -218,7 +281,6 @@ impl SeatRow {
         ensures value { result ≡ returned_at self.now i }
         ensures below { result ≤ taken_at self.now i }
     {
-        let _ = &self.taken;
         self.rights.get(i, i) - self.grant(i)
     }
 
@@ -228,7 +290,7 @@ impl SeatRow {
         requires enough { HasSeatRights self.now i }
         ensures { result ≡ take_fault self.now i w }
     {
-        if w > COUNTER_LIMIT || self.taken(i) > COUNTER_LIMIT - w {
+        if !self.taken.has_room(usize::from(i), w, COUNTER_LIMIT) {
             return Some(SeatError::CounterFull);
         }
         let rights = self.rights(i);
@@ -239,22 +301,14 @@ impl SeatRow {
     }
 }
 
-// Sets every count but the one at `site` to 0.
-fn keep_taken(taken: &mut Counts, site: usize)
-    ensures size { length taken.new ≡ length taken.old }
-    ensures counts { (i : ℕ) → slice_index taken.new i ≡ (if i == site then slice_index taken.old i else 0) }
+// Adds up the number of each site anew. Linear in the number of counters.
+fn recount(rights: &Rights, taken: &Counts, cached: &mut Balances)
+    requires counts { length taken.now ≡ site_count rights.now }
+    requires numbers { length cached.old ≡ site_count rights.now }
+    requires limit { (i : ℕ) → i < site_count rights.now → slice_index taken.now i ≤ counter_limit }
+    ensures { TellsRights (record { matrix = rights.now; taken = taken.now }) cached.new }
 {
-    for i in 0..taken.len() {
-        keep_count(taken, i, site);
-    }
-}
-
-// Sets the count at `i` to 0 unless `i` is the site.
-fn keep_count(taken: &mut Counts, i: usize, site: usize)
-    requires { i < length taken.old }
-    ensures { taken.new ≡ slice_set taken.old i (if i == site then slice_index taken.old i else 0) }
-{
-    if i != site {
-        taken.reset(i, 0);
+    for i in 0..rights.sites() {
+        cached.set(i, rights.balance(i) - taken.get(usize::from(i)) as i64);
     }
 }

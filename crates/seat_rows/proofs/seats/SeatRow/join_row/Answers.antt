@@ -1,10 +1,34 @@
-use Rattle.seat_rows.proofs.SeatLemmas.{join_row_keeps}
+use Rattle.std.proofs.Common.{◌≡◌, ◌+◌, take, ltb, sym, ap, subst, ◌∙◌, arith}
+use Rattle.rights_matrix.specs.Matrix.{MatrixState, IsMatrix}
+use Rattle.rights_matrix.proofs.JoinLemmas.{rise_counts-same}
+use Rattle.seat_rows.specs.Seats.{SeatState, joined_seats_at}
+use Rattle.seat_rows.proofs.SeatLemmas.{joined_seats_at-start, joined_seats_at-more, seat_rises-more, bool_byte_is}
 use Rattle.seat_rows.proofs.seats.SeatRow.join_row.Goals as goal
 
-pub invariant_of-self : goal.invariant_of-self
-invariant_of-self c =
-    join_row_keeps _ _ _ _ _ _ _ _ c.self.view_is c.self.invariant c.requires.site c.requires.size c.requires.valid c.from.ensures c.join_row-in_row.ensures.state c.raise_to-rose.ensures.counters
+pub loop-j-init : goal.loop-j-init
+loop-j-init c =
+    let same = ap (λ (x : SeatState). x.matrix) c.raise_taken.ensures.change in
+    let one = bool_byte_is c.raise_taken.result in
+    record {
+      state = joined_seats_at-start c.args.self.now c.raise_taken.new.self c.args.s c.args.taken c.raise_taken.ensures.change;
+      counted = rw same (omega (arith, rise_counts-same c.args.self.now.matrix.rows, one, c.raise_taken.ensures.risen, c.from-risen.ensures));
+      few = omega (arith, one.1, c.from-risen.ensures);
+      seats = c.raise_taken.ensures.state;
+    }
 
-pub returns-clause-state : goal.returns-clause-state
-returns-clause-state c =
-    join_row_keeps _ _ _ _ _ _ _ _ c.self.view_is c.self.invariant c.requires.site c.requires.size c.requires.valid c.from.ensures c.join_row-in_row.ensures.state c.raise_to-rose.ensures.counters
+pub loop-j-preserved : goal.loop-j-preserved
+loop-j-preserved c =
+    let st = c.args.self.now in
+    let i = c.loop-j.invariant in
+    let same = ap (λ (x : SeatState). x.matrix) c.raise_taken.ensures.change in
+    let matrix : IsMatrix st.matrix = subst (λ (m : MatrixState). IsMatrix m) same c.raise_taken.ensures.state.matrix in
+    let next = joined_seats_at-more st c.loop-j.self c.args.s c.loop-j.j c.raise_entry.result c.args.taken c.args.given.now matrix c.requires.site c.loop-j-test.true c.requires.size i.state c.raise_entry.ensures.by in
+    let count = seat_rises-more st c.loop-j.self c.args.s c.loop-j.j c.raise_entry.result c.args.taken c.args.given.now matrix c.requires.site c.loop-j-test.true c.requires.size i.state c.raise_entry.ensures.by in
+    let one = bool_byte_is (ltb 0 c.raise_entry.result) in
+    let step : c.raise_entry.new.self ≡ joined_seats_at st c.args.s (take (c.loop-j.j + 1) c.args.given.now) c.args.taken = c.raise_entry.ensures.change ∙ next in
+    record {
+      state = step;
+      counted = rw step (omega (arith, count, one, i.counted, c.from-risen-in-loop-j.ensures));
+      few = omega (arith, one.1, i.few, c.from-risen-in-loop-j.ensures);
+      seats = c.raise_entry.ensures.state;
+    }
