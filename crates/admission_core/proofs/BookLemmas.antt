@@ -7,7 +7,7 @@ use Rattle.writer_notices.specs.Notices.{IsOpen, IsLeastOpen}
 use Rattle.merge_core.specs.declared.cell.Cell.TheVariants.{Out, Taken, Ann, Fin}
 use Rattle.merge_core.specs.Layout.{Shape, shape_of, record_shape}
 use Rattle.merge_core.specs.Book.{BookState, record_at, seats_at, notices_at, counter_of, shape_in, book_shape, IsRecord, IsBook}
-use Rattle.admission_core.specs.Sums.{total, total_others}
+use Rattle.merge_core.specs.Sums.{total, total_others}
 use Rattle.admission_core.specs.View.{View, gained, rights_of, shows_writer, first_unfinished}
 use Rattle.admission_core.specs.Books.{ShowsBook}
 use Rattle.admission_core.proofs.SumLemmas.{total_same, total_others_same}
@@ -15,8 +15,8 @@ use Rattle.admission_core.proofs.LeastLemmas.{IsLeast, least_below-none, least_b
 use Rattle.admission_core.proofs.ListSumLemmas.{total-list, total_others-list}
 
 -- the layout of a view that shows a book has as many sites as the book ..
-pub layout_sites : (b : BookState) (v : View) → ShowsBook b v → v.sites ≡ v.layout.sites
-layout_sites b v shows = shows.sites ∙ sym (ap (λ (shape : Shape). shape.sites) shows.shape)
+pub layout_sites : (b : BookState) (v : View) → ShowsBook b v → v.layout.sites ≡ b.sites
+layout_sites b v shows = ap (λ (shape : Shape). shape.sites) shows.shape
 
 -- .. and as many records
 pub layout_records : (b : BookState) (v : View) → ShowsBook b v → length v.layout.records ≡ length b.records
@@ -27,8 +27,8 @@ layout_records b v shows =
 -- what the view's site gained
 gained_in : (b : BookState) (v : View) (r : ℕ) → IsBook b → ShowsBook b v → r < length b.records → gained v r ≡ sum_by (λ (row : List ℕ). get_or row v.site 0) (seats_at b r).matrix.rows
 gained_in b v r book shows inside =
-    total_same v.sites (λ j. v.counter r j (Out v.site)) (λ j. counter_of b r j (Out v.site)) (λ j below. shows.counters r j (Out v.site))
-    ∙ (ap (λ n. total n (λ j. counter_of b r j (Out v.site))) (shows.sites ∙ sym is.seat_sites)
+    total_same v.layout.sites (λ j. v.counter r j (Out v.site)) (λ j. counter_of b r j (Out v.site)) (λ j below. shows.counters r j (Out v.site))
+    ∙ (ap (λ n. total n (λ j. counter_of b r j (Out v.site))) ((layout_sites b v shows) ∙ sym is.seat_sites)
     ∙ total-list (λ (row : List ℕ). get_or row v.site 0) [] (seats_at b r).matrix.rows)
   where
     is : IsRecord b.sites (record_at b r)
@@ -48,10 +48,10 @@ rights_in b v r book shows inside here =
     size : length row ≡ b.sites
     size = is.seats.matrix.square v.site (omega (arith, is.seat_sites)) ∙ is.seat_sites
 
-    given : total_others v.sites v.site (λ j. v.counter r v.site (Out j)) ≡ sum (set row v.site 0)
+    given : total_others v.layout.sites v.site (λ j. v.counter r v.site (Out j)) ≡ sum (set row v.site 0)
     given =
-        total_others_same v.sites v.site (λ j. v.counter r v.site (Out j)) (λ j. get_or row j 0) (λ j below apart. shows.counters r v.site (Out j))
-        ∙ (ap (λ n. total_others n v.site (λ j. get_or row j 0)) (shows.sites ∙ sym size)
+        total_others_same v.layout.sites v.site (λ j. v.counter r v.site (Out j)) (λ j. get_or row j 0) (λ j below apart. shows.counters r v.site (Out j))
+        ∙ (ap (λ n. total_others n v.site (λ j. get_or row j 0)) ((layout_sites b v shows) ∙ sym size)
         ∙ total_others-list row v.site (omega (arith, size)))
 
 -- the model's test of a writer, by the notices
@@ -75,15 +75,15 @@ open_there b r s book inside open_here = at (cases_lt s b.sites)
 -- the least unfinished writer of the view is the book's
 pub writers_in : (b : BookState) (v : View) (r s : ℕ) → IsBook b → ShowsBook b v → r < length b.records → (first_unfinished v r ≡ Some s) ↔ IsLeastOpen (notices_at b r) s
 writers_in b v r s book shows inside = (
-  (λ e. found (least_below-some v.sites (shows_writer v r) s e)),
-  (λ is. least_below-found v.sites (shows_writer v r) s (record {
-    below = omega (arith, shows.sites, open_there b r s book inside is.has_writer);
+  (λ e. found (least_below-some v.layout.sites (shows_writer v r) s e)),
+  (λ is. least_below-found v.layout.sites (shows_writer v r) s (record {
+    below = omega (arith, (layout_sites b v shows), open_there b r s book inside is.has_writer);
     passes = shown_from b v r s shows is.has_writer;
     least = λ j lower. closed is j lower (cases_Bool (shows_writer v r j));
   })),
 )
   where
-    found : IsLeast v.sites (shows_writer v r) s → IsLeastOpen (notices_at b r) s
+    found : IsLeast v.layout.sites (shows_writer v r) s → IsLeastOpen (notices_at b r) s
     found is = record { has_writer = open_from b v r s shows is.passes; least = λ t open_here. at t open_here (cases_lt t s) }
       where
         at : (t : ℕ) → IsOpen (notices_at b r) t → (t < s) ⊎ (s ≤ t) → s ≤ t
@@ -98,11 +98,11 @@ writers_in b v r s book shows inside = (
 pub no_writers_in : (b : BookState) (v : View) (r : ℕ) → IsBook b → ShowsBook b v → r < length b.records → (first_unfinished v r ≡ None) ↔ ((s : ℕ) → ¬ IsOpen (notices_at b r) s)
 no_writers_in b v r book shows inside = (
   (λ none s open_here.
-      let gone = least_below-none v.sites (shows_writer v r) none s (omega (arith, shows.sites, open_there b r s book inside open_here)) in
+      let gone = least_below-none v.layout.sites (shows_writer v r) none s (omega (arith, (layout_sites b v shows), open_there b r s book inside open_here)) in
       false≢true (sym gone ∙ shown_from b v r s shows open_here)),
   (λ none. at none (first_unfinished v r) refl),
 )
   where
     at : ((s : ℕ) → ¬ IsOpen (notices_at b r) s) → (o : Option ℕ) → first_unfinished v r ≡ o → first_unfinished v r ≡ None
     at none None e = e
-    at none (Some s) e = absurd (none s (open_from b v r s shows (least_below-some v.sites (shows_writer v r) s e).passes))
+    at none (Some s) e = absurd (none s (open_from b v r s shows (least_below-some v.layout.sites (shows_writer v r) s e).passes))

@@ -9,15 +9,12 @@ pub mod HeardLemmas
 pub mod ServingLemmas
 pub mod StartLemmas
 pub mod MessageLemmas
+pub mod ToldLemmas
 pub mod UnitLemmas
 pub mod DurableLemmas
 pub mod ReaderLemmas
 pub mod SnapshotLemmas
 pub mod HelpLemmas
-pub mod TestLemmas
 pub mod ListSumLemmas
 pub mod BookLemmas
-pub mod FailingLemmas
-pub mod BookRiseLemmas
-pub mod BookSnapshotLemmas
 pub mod LawLemmas

@@ -4,7 +4,7 @@ use Rattle.std.specs.Prelude.{ℕ, ◌+◌, ◌==◌, Bool, ◌&&◌, List, [], 
 use Rattle.merge_core.specs.declared.cell.Cell.{Cell}
 use Rattle.merge_core.specs.declared.cell.Cell.TheVariants.{Out, Taken, Ann, Fin}
 use Rattle.merge_core.specs.declared.delta.Row.{Row}
-use Rattle.merge_core.specs.Layout.{LayoutState, shape_of}
+use Rattle.merge_core.specs.Layout.{LayoutState, shape_of, at_sites}
 use Rattle.merge_core.specs.Rows.{start_counter, no_record}
 use Rattle.admission_core.specs.declared.ask.Phase.{Phase}
 use Rattle.admission_core.specs.declared.ask.Phase.TheVariants.{Reader, Waiting, Writer}
@@ -33,21 +33,22 @@ pub data Heard : Type 0 where
   Merged : (rows : List Row) → Heard
   Restarted : Heard
 
--- where an account begins: the layout that the site knows, its number, and its durable part
+-- where an account begins: the layout that the site knows then, its number, and its durable part
 pub record Origin : Type 0 where
   pub layout : LayoutState
   pub site : ℕ
   pub base : DurablePart
 
--- an account; both lists stand newest first
+-- an account: where it began, how many sites it knows by now, and what was done and heard, newest first
 pub record Account : Type 0 where
   pub origin : Origin
+  pub sites : ℕ
   pub done : List Operation
   pub heard : List Heard
 
--- how many sites the account knows; everything below asks for it here
-abbrev pub sites_of : Origin → ℕ
-sites_of o = o.layout.sites
+-- the layout that the account knows by now: growth adds sites, and changes no record
+abbrev pub layout_of : Account → LayoutState
+layout_of a = at_sites a.sites a.origin.layout
 
 -- the seats of a record; one that is not there has none
 abbrev pub seats_in : LayoutState → ℕ → ℕ
@@ -60,7 +61,7 @@ start_origin layout i =
 
 -- the account that begins there
 abbrev pub begin : Origin → Account
-begin o = record { origin = o; done = []; heard = [] }
+begin o = record { origin = o; sites = o.layout.sites; done = []; heard = [] }
 
 -- Seats taken at a record (the weights of readers and writers are the project's own: the value that the
 -- bounded counter of Balegas et al., 2015, keeps from falling below 0 is the number of free seats)

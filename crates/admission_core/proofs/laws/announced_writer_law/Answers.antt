@@ -1,5 +1,4 @@
-use Rattle.admission_core.proofs.ReaderLemmas.{reader_held}
-use Rattle.admission_core.proofs.ReaderLemmas.{reader_not_held}
+use Rattle.admission_core.proofs.ReaderLemmas.{reader_held, reader_not_held}
 use Rattle.admission_core.proofs.laws.announced_writer_law.Goals as goal
 
 pub returns-clause-held : goal.returns-clause-held
