@@ -1,10 +1,16 @@
 -- The laws of one site, over every account that steps lead to.
-use Rattle.std.proofs.Common.{◌≡◌, ℕ, ◌≤◌, ◌⊎◌, inl, inr, refl, sym, ap, ◌∙◌, subst, arith}
+use Rattle.std.proofs.Common.{◌≡◌, ◌≢◌, ℕ, ◌<◌, ◌≤◌, ◌⊎◌, inl, inr, refl, sym, ap, ◌∙◌, subst, arith}
 use Rattle.std.proofs.lemmas.Bool.{cases_eq}
 use Rattle.merge_core.specs.declared.cell.Cell.{Cell}
-use Rattle.merge_core.specs.declared.cell.Cell.TheVariants.{Out}
+use Rattle.merge_core.specs.declared.cell.Cell.TheVariants.{Out, Ann, Fin}
 use Rattle.merge_core.specs.Layout.{shape_of}
 use Rattle.merge_core.specs.Rows.{start_counter}
+use Rattle.admission_core.specs.declared.ask.Ask.TheVariants.{Read}
+use Rattle.admission_core.specs.declared.ask.Call.TheVariants.{Ask as Asks}
+use Rattle.admission_core.specs.declared.reply.Reply.TheVariants.{Admitted}
+use Rattle.admission_core.specs.View.{view_of, problem_in}
+use Rattle.admission_core.specs.Serving.{reply_of}
+use Rattle.admission_core.proofs.NoticeLemmas.{none_admitted}
 use Rattle.admission_core.specs.Account.{Account, begin, own}
 use Rattle.admission_core.specs.Knowledge.{known, resumed, restarted, grown, durable_part}
 use Rattle.admission_core.specs.Sound.{IsSound, IsOrigin}
@@ -82,3 +88,6 @@ past_sites a is r s j past = at (cases_eq s a.origin.site)
         let mine : known a r s (Out j) ≡ own a r (Out j) = ap (λ x. known a r x (Out j)) e ∙ known_own a r (Out j) in
         omega (arith, mine, sound.no_others.none_sent r j past, least)
     at (inr ne) = omega (arith, known_other a r s (Out j) ne, sound.no_others.none_told_sent r s j past, least)
+
+pub none_admitted_reached : (a : Account) → IsReached a → (r h s : ℕ) → problem_in a.origin.layout r ≡ 2 → known a r s Fin < known a r s Ann → reply_of (view_of a) (Asks (Read r h)) ≢ Admitted
+none_admitted_reached a is r h s second unfinished = none_admitted a r h s (sound_reached a is) second unfinished

@@ -11,9 +11,11 @@ pub mod StartLemmas
 pub mod MessageLemmas
 pub mod ToldLemmas
 pub mod UnitLemmas
+pub mod NoticeLemmas
 pub mod DurableLemmas
 pub mod ReaderLemmas
 pub mod SnapshotLemmas
+pub mod ThinLemmas
 pub mod HelpLemmas
 pub mod ListSumLemmas
 pub mod BookLemmas

@@ -1,7 +1,7 @@
 -- A snapshot shows what the site knows.
-use Rattle.std.proofs.Common.{◌≡◌, ℕ, zero, suc, ◌+◌, ◌<◌, ◌≤◌, ◌⊎◌, inl, inr, Bool, true, false, not, ◌&&◌, cond, eqb, List, [], ◌∷◌, ◌++◌, length, refl, sym, ap, subst, ◌∙◌, arith}
+use Rattle.std.proofs.Common.{◌≡◌, ◌≢◌, ℕ, zero, suc, ◌+◌, ◌<◌, ◌≤◌, ◌⊎◌, inl, inr, Bool, true, false, not, ◌&&◌, cond, eqb, List, [], ◌∷◌, ◌++◌, length, refl, sym, ap, subst, ◌∙◌, arith}
 use Rattle.std.specs.List.{AllByRecursion}
-use Rattle.std.proofs.lemmas.Bool.{cases_eq, cases_Bool, eq-eqb, eqb-true, ltb-false, and_parts, and_from, not-false, cond-true, cond-false}
+use Rattle.std.proofs.lemmas.Bool.{cases_eq, cases_Bool, eq-eqb, ne_eqb, eqb-true, ltb-false, and_parts, and_from, and_left, and_right, not-false, cond-true, cond-false}
 use Rattle.merge_core.specs.declared.cell.Cell.{Cell}
 use Rattle.merge_core.specs.declared.cell.Cell.TheVariants.{Out, Taken, Ann, Fin}
 use Rattle.merge_core.specs.declared.delta.Row.{Row}
@@ -17,7 +17,7 @@ use Rattle.admission_core.proofs.RowLemmas.{number_of_cells-zero, records_number
 use Rattle.admission_core.proofs.ToldLemmas.{told_row-at, all_told}
 
 -- how many rows stand for a record and a site
-matches : ℕ → ℕ → List Row → ℕ
+unfoldable pub matches : ℕ → ℕ → List Row → ℕ
 matches r s [] = 0
 matches r s (p ∷ ps) = cond (eqb p.r r && eqb p.s s) 1 0 + matches r s ps
 
@@ -112,3 +112,77 @@ moved_show shape counter r s cell below there in_row =
 pub snapshot_shows : (v : View) (r s : ℕ) (cell : Cell) → r < length v.layout.records → s < v.layout.sites → HasCell v.layout.sites cell → shown_by (shape_of v.layout) (snapshot_of v).rows r s cell ≡ v.counter r s cell
 snapshot_shows v r s cell below there in_row =
     moved_show (shape_of v.layout) v.counter r s cell (omega (arith, below, records_number v.layout)) there in_row
+
+-- no two told rows are of one record and site
+matches_none : (r s : ℕ) (b : Bool) (p : Row) → (eqb p.r r && eqb p.s s) ≡ false → matches r s (row_if b p) ≡ 0
+unfolding matches
+matches_none r s true p e = omega (arith, cond-false {A = ℕ} (eqb p.r r && eqb p.s s) 1 0 e)
+matches_none r s false p e = refl
+
+matches_one : (r s : ℕ) (b : Bool) (p : Row) → matches r s (row_if b p) ≤ 1
+unfolding matches
+matches_one r s true p = at (cases_Bool (eqb p.r r && eqb p.s s))
+  where
+    at : ((eqb p.r r && eqb p.s s) ≡ true) ⊎ ((eqb p.r r && eqb p.s s) ≡ false) → cond (eqb p.r r && eqb p.s s) 1 0 + 0 ≤ 1
+    at (inl e) = omega (arith, cond-true {A = ℕ} (eqb p.r r && eqb p.s s) 1 0 e)
+    at (inr e) = omega (arith, cond-false {A = ℕ} (eqb p.r r && eqb p.s s) 1 0 e)
+matches_one r s false p = omega arith
+
+other_record : (shape : Shape) (counter : ℕ → ℕ → Cell → ℕ) (q r s m : ℕ) → q ≢ r → matches r s (moved_rows shape counter q m) ≡ 0
+unfolding matches
+other_record shape counter q r s zero apart = refl
+other_record shape counter q r s (suc m) apart =
+    omega (
+      arith,
+      matches-append r s (moved_rows shape counter q m) (row_if (has_moved shape counter q m) (told_row shape.sites counter q m)),
+      other_record shape counter q r s m apart,
+      matches_none r s (has_moved shape counter q m) (told_row shape.sites counter q m) (and_left (eqb q r) (eqb m s) (ne_eqb q r apart)),
+    )
+
+later_site : (shape : Shape) (counter : ℕ → ℕ → Cell → ℕ) (q r s m : ℕ) → m ≤ s → matches r s (moved_rows shape counter q m) ≡ 0
+unfolding matches
+later_site shape counter q r s zero past = refl
+later_site shape counter q r s (suc m) past =
+    omega (
+      arith,
+      matches-append r s (moved_rows shape counter q m) (row_if (has_moved shape counter q m) (told_row shape.sites counter q m)),
+      later_site shape counter q r s m (omega arith),
+      matches_none r s (has_moved shape counter q m) (told_row shape.sites counter q m) (and_right (eqb q r) (eqb m s) (ne_eqb m s (λ e. absurd (omega arith)))),
+    )
+
+one_of_record : (shape : Shape) (counter : ℕ → ℕ → Cell → ℕ) (q r s m : ℕ) → matches r s (moved_rows shape counter q m) ≤ 1
+unfolding matches
+one_of_record shape counter q r s zero = omega arith
+one_of_record shape counter q r s (suc m) = at (cases_eq m s) (one_of_record shape counter q r s m)
+  where
+    joined : matches r s (moved_rows shape counter q (suc m)) ≡ matches r s (moved_rows shape counter q m) + matches r s (row_if (has_moved shape counter q m) (told_row shape.sites counter q m))
+    joined = matches-append r s (moved_rows shape counter q m) (row_if (has_moved shape counter q m) (told_row shape.sites counter q m))
+
+    at : (m ≡ s) ⊎ (m ≡ s → ⊥) → matches r s (moved_rows shape counter q m) ≤ 1 → matches r s (moved_rows shape counter q (suc m)) ≤ 1
+    at (inl e) earlier =
+        omega (arith, joined, later_site shape counter q r s m (omega arith), matches_one r s (has_moved shape counter q m) (told_row shape.sites counter q m))
+    at (inr ne) earlier =
+        omega (arith, joined, earlier, matches_none r s (has_moved shape counter q m) (told_row shape.sites counter q m) (and_right (eqb q r) (eqb m s) (ne_eqb m s ne)))
+
+later_record : (shape : Shape) (counter : ℕ → ℕ → Cell → ℕ) (r s n : ℕ) → n ≤ r → matches r s (moved_below shape counter n) ≡ 0
+unfolding matches
+later_record shape counter r s zero past = refl
+later_record shape counter r s (suc n) past =
+    omega (
+      arith,
+      matches-append r s (moved_below shape counter n) (moved_rows shape counter n shape.sites),
+      later_record shape counter r s n (omega arith),
+      other_record shape counter n r s shape.sites (λ e. absurd (omega arith)),
+    )
+
+pub told_apart : (shape : Shape) (counter : ℕ → ℕ → Cell → ℕ) (r s n : ℕ) → matches r s (moved_below shape counter n) ≤ 1
+unfolding matches
+told_apart shape counter r s zero = omega arith
+told_apart shape counter r s (suc n) = at (cases_eq n r) (told_apart shape counter r s n)
+  where
+    joined : matches r s (moved_below shape counter (suc n)) ≡ matches r s (moved_below shape counter n) + matches r s (moved_rows shape counter n shape.sites)
+    joined = matches-append r s (moved_below shape counter n) (moved_rows shape counter n shape.sites)
+
+    at : (n ≡ r) ⊎ (n ≡ r → ⊥) → matches r s (moved_below shape counter n) ≤ 1 → matches r s (moved_below shape counter (suc n)) ≤ 1
+    at (inl e) earlier = omega (arith, joined, later_record shape counter r s n (omega arith), one_of_record shape counter n r s shape.sites)
+    at (inr ne) earlier = omega (arith, joined, earlier, other_record shape counter n r s shape.sites ne)

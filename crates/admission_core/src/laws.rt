@@ -1,7 +1,7 @@
 //! Laws of the definitions in specs/: functions that do nothing, whose contracts are the laws.
-ghost use Rattle.std.specs.Prelude.{◌≡◌, ◌↔◌, ℕ, ◌<◌, ◌≤◌, List, length, Some, None};
+ghost use Rattle.std.specs.Prelude.{◌≡◌, ◌≢◌, ◌↔◌, ℕ, ◌<◌, ◌≤◌, List, length, Some, None};
 ghost use Rattle.merge_core.specs.declared.cell.Cell.{Cell};
-ghost use Rattle.merge_core.specs.declared.cell.Cell.TheVariants.{Out};
+ghost use Rattle.merge_core.specs.declared.cell.Cell.TheVariants.{Out, Ann, Fin};
 ghost use Rattle.merge_core.specs.declared.delta.Row.{Row};
 ghost use Rattle.merge_core.specs.Layout.{LayoutState, shape_of};
 ghost use Rattle.merge_core.specs.Rows.{start_counter};
@@ -9,11 +9,11 @@ ghost use Rattle.merge_core.specs.Naming.{shown_by};
 ghost use Rattle.admission_core.specs.declared.ask.Ask.TheVariants.{Read};
 ghost use Rattle.admission_core.specs.declared.ask.Call.TheVariants.{Ask as Asks};
 ghost use Rattle.admission_core.specs.declared.reply.Refusal.TheVariants.{WriterAnnounced};
-ghost use Rattle.admission_core.specs.declared.reply.Reply.TheVariants.{Refused};
+ghost use Rattle.admission_core.specs.declared.reply.Reply.TheVariants.{Admitted, Refused};
 ghost use Rattle.admission_core.specs.declared.reply.Plan.{Plan};
 ghost use Rattle.admission_core.specs.Account.{Account, begin, start_origin};
 ghost use Rattle.admission_core.specs.Knowledge.{known, hears_all, durable_part, resumed, restarted, grown};
-ghost use Rattle.admission_core.specs.View.{View, rights_of, first_unfinished, plan_of, problem_in};
+ghost use Rattle.admission_core.specs.View.{View, view_of, rights_of, first_unfinished, plan_of, problem_in};
 ghost use Rattle.admission_core.specs.Merging.{snapshot_of};
 ghost use Rattle.admission_core.specs.Serving.{Step, after_step, reply_of};
 ghost use Rattle.admission_core.specs.Sound.{IsOrigin};
@@ -48,6 +48,12 @@ pub fn sites_law()
     ensures sent { (a : Account) → IsReached a → (r s j : ℕ) → a.sites ≤ j → known a r s (Out j) ≡ start_counter (shape_of a.origin.layout) r s (Out j) }
 {}
 
+/// No step takes a known announced or finished writer from a site, a restart or a growth neither.
+pub fn notices_law()
+    ensures announced { (a : Account) → (step : Step) → (r s : ℕ) → known a r s Ann ≤ known (after_step a step) r s Ann }
+    ensures finished { (a : Account) → (step : Step) → (r s : ℕ) → known a r s Fin ≤ known (after_step a step) r s Fin }
+{}
+
 /// What a site tells shows each counter of the layout as the site knows it.
 pub fn snapshot_law()
     ensures { (v : View) → (r s : ℕ) → (cell : Cell) → r < length v.layout.records → s < v.layout.sites → HasCell v.layout.sites cell → shown_by (shape_of v.layout) (snapshot_of v).rows r s cell ≡ v.counter r s cell }
@@ -60,9 +66,10 @@ pub fn equal_books_law()
     ensures merges { (a : Account) → (first second : List (List Row)) → NameTheSame (shape_of a.origin.layout) first second → (r s : ℕ) → (cell : Cell) → known (hears_all a first) r s cell ≡ known (hears_all a second) r s cell }
 {}
 
-/// Under problem 2 a reader whom nothing else refuses is told of the least site that shows an unfinished
-/// writer; under problem 1 notices change nothing for a reader.
+/// Under problem 2 no reader is admitted where some site shows an unfinished writer, and one whom nothing else
+/// refuses is told of the least such site; under problem 1 notices change nothing for a reader.
 pub fn announced_writer_law()
+    ensures none_admitted { (a : Account) → IsReached a → (r h s : ℕ) → problem_in a.origin.layout r ≡ 2 → known a r s Fin < known a r s Ann → reply_of (view_of a) (Asks (Read r h)) ≢ Admitted }
     ensures held { (v : View) → (r h s : ℕ) → problem_in v.layout r ≡ 2 → MayAsk v r h → IsFirstUnfinished v r s → reply_of v (Asks (Read r h)) ≡ Refused (WriterAnnounced s) }
     ensures not_held { (v w : View) → (r h : ℕ) → problem_in v.layout r ≡ 1 → DifferInNotices v w → reply_of w (Asks (Read r h)) ≡ reply_of v (Asks (Read r h)) }
 {}

@@ -75,14 +75,14 @@ seat_kept = Restart 1 ∷ Call 1 (Read 0 9) ∷ Call 1 (Leave 0 8) ∷ Call 1 (R
 abbrev pub seat_kept_replies : List WorldReply
 seat_kept_replies = Restarted ∷ Core (Refused (NoSeat 0)) ∷ Core (Left Reader) ∷ Core Admitted ∷ []
 
--- a restart forgets another site's writer
-abbrev pub writer_forgotten : List Event
-writer_forgotten =
+-- a restart forgets no site's writer
+abbrev pub writer_remembered : List Event
+writer_remembered =
     Call 1 (Announce 0 5) ∷ Call 0 (Read 0 1) ∷ Send 1 ∷ Take 0 0 ∷ Restart 0 ∷ Call 0 (Read 0 2) ∷ []
 
-abbrev pub writer_forgotten_replies : List WorldReply
-writer_forgotten_replies =
-    Core (Announced 1) ∷ Core Admitted ∷ Sent 0 ∷ Core (Merged 1) ∷ Restarted ∷ Core Admitted ∷ []
+abbrev pub writer_remembered_replies : List WorldReply
+writer_remembered_replies =
+    Core (Announced 1) ∷ Core Admitted ∷ Sent 0 ∷ Core (Merged 1) ∷ Restarted ∷ Core (Refused (WriterAnnounced 1)) ∷ []
 
 -- one site alone: a writer waits for a reader's seat, and withdraws
 abbrev pub writer_withdraws : List Event
