@@ -55,7 +55,7 @@ known_after a (Merge delta) r s cell =
     (λ clear. known_rises a (hears a delta.rows) r s cell refl (omega arith) (omega arith))
 known_after a Tell r s cell = omega arith
 
-known_grown : (a : Account) (n r s : ℕ) (cell : Cell) → IsNotice cell → known a r s cell ≤ known (grown n a) r s cell
+pub known_grown : (a : Account) (n r s : ℕ) (cell : Cell) → IsNotice cell → known a r s cell ≤ known (grown n a) r s cell
 known_grown a n r s cell is =
     known_rises a (grown n a) r s cell refl (omega arith) (omega (arith, kept_yes a.origin (told a) r s cell (notice_kept a.origin.site s cell is)))
 

@@ -1,5 +1,5 @@
 //! Laws of the definitions in specs/: functions that do nothing, whose contracts are the laws.
-ghost use Rattle.std.specs.Prelude.{◌≡◌, ◌≢◌, ◌⊎◌, ◌++◌, ◌∷◌, [], ℕ, ◌<◌, ◌≤◌, List, length};
+ghost use Rattle.std.specs.Prelude.{◌≡◌, ◌≢◌, ◌⊎◌, ◌++◌, ◌∷◌, [], ℕ, ◌<◌, ◌≤◌, List, length, slice_get, Some};
 ghost use Rattle.std.specs.List.{AllByRecursion};
 ghost use Rattle.merge_core.specs.declared.cell.Cell.{Cell};
 ghost use Rattle.merge_core.specs.declared.cell.Cell.TheVariants.{Ann, Fin};
@@ -14,11 +14,12 @@ ghost use Rattle.admission_core.specs.Knowledge.{known};
 ghost use Rattle.admission_core.specs.View.{problem_in, view_of, rights_of};
 ghost use Rattle.admission_core.specs.Serving.{reply_of};
 ghost use Rattle.admission_core.specs.Laws.{KnowTheSame, MayAsk, IsFirstUnfinished};
+ghost use Rattle.multi_site_world.specs.declared.event.Event.{Event};
 ghost use Rattle.multi_site_world.specs.declared.event.Event.TheVariants.{Call, Take, Thin};
 ghost use Rattle.multi_site_world.specs.declared.event.WorldReply.TheVariants.{Core};
-ghost use Rattle.multi_site_world.specs.World.{World, account_at, replies, run, start_world, world_reply};
-ghost use Rattle.multi_site_world.specs.Laws.{IsReachedWorld, IsConserved, IsWriterAlone, AreLogged, IsConsistentCut, WasSent, all_inside, IsMergedReply, IsOtherLayoutReply, gathering, AreTheOthers, IsNeverFull, AreGathered, MayGather};
-ghost use Rattle.multi_site_world.specs.Examples.{small_layout, seat_moves, seat_moves_replies, writer_announced, writer_announced_replies, reader_not_held, writer_helped, writer_helped_replies, writer_done, writer_done_replies, seat_kept, seat_kept_replies, writer_remembered, writer_remembered_replies, writer_withdraws, writer_withdraws_replies, stale_book, stale_book_replies, refusals, refusals_replies, writers_announced, writers_announced_replies, writers_limit, writers_limit_replies, seats_shared, seats_shared_replies, refusals_in_order, refusals_in_order_replies, used_site, seat_moves_message, other_layout_message, bad_row_message};
+ghost use Rattle.multi_site_world.specs.World.{World, account_at, happens, replies, run, start_world, world_reply};
+ghost use Rattle.multi_site_world.specs.Laws.{IsReachedWorld, KnowsRows, IsConserved, IsWriterAlone, AreLogged, IsConsistentCut, WasSent, all_inside, IsMergedReply, IsOtherLayoutReply, gathering, AreTheOthers, IsNeverFull, AreGathered, MayGather};
+ghost use Rattle.multi_site_world.specs.Examples.{small_layout, seat_moves, seat_moves_replies, writer_announced, writer_announced_replies, reader_not_held, writer_helped, writer_helped_replies, writer_done, writer_done_replies, seat_kept, seat_kept_replies, writer_remembered, writer_remembered_replies, layout_grows, layout_grows_replies, thin_taken, thin_taken_replies, writer_helped_messages, writer_withdraws, writer_withdraws_replies, stale_book, stale_book_replies, refusals, refusals_replies, writers_announced, writers_announced_replies, writers_limit, writers_limit_replies, seats_shared, seats_shared_replies, refusals_in_order, refusals_in_order_replies, used_site, seat_moves_message, other_layout_message, bad_row_message};
 
 /// Seats are conserved: in every reached world a record's seats are the rights of all sites, the weights inside
 /// and the seats in flight, and no site has spent more than it gained.
@@ -36,6 +37,18 @@ pub fn message_law()
     ensures message_answered { (w : World) → IsReachedWorld w → (i k : ℕ) → i < w.layout.sites → k < length w.sent → IsMergedReply (world_reply w (Take i k)) ⊎ IsOtherLayoutReply (world_reply w (Take i k)) }
     ensures thin_answered { (w : World) → IsReachedWorld w → (i k l : ℕ) → i < w.layout.sites → k < length w.sent → l < length w.sent → IsMergedReply (world_reply w (Thin i k l)) ⊎ IsOtherLayoutReply (world_reply w (Thin i k l)) }
     ensures rows_answered { (w : World) → IsReachedWorld w → (i : ℕ) → (delta : DeltaState) → i < w.layout.sites → AllByRecursion (WasSent w.sent) delta.rows → IsMergedReply (Core (reply_of (view_of (account_at w i)) (Merge delta))) ⊎ IsOtherLayoutReply (Core (reply_of (view_of (account_at w i)) (Merge delta))) }
+{}
+
+/// Where a site knows each row of an earlier message, a thin message leaves the counters that the whole one
+/// leaves.
+pub fn thin_law()
+    ensures { (w : World) → IsReachedWorld w → (i k l : ℕ) → (earlier : DeltaState) → slice_get w.sent l ≡ Some earlier → KnowsRows (account_at w i) earlier.rows → (r s : ℕ) → (cell : Cell) → known (account_at (happens w (Thin i k l)) i) r s cell ≡ known (account_at (happens w (Take i k)) i) r s cell }
+{}
+
+/// No event takes a known announced or finished writer from a site.
+pub fn notices_law()
+    ensures announced { (w : World) → (event : Event) → (i r s : ℕ) → known (account_at w i) r s Ann ≤ known (account_at (happens w event) i) r s Ann }
+    ensures finished { (w : World) → (event : Event) → (i r s : ℕ) → known (account_at w i) r s Fin ≤ known (account_at (happens w event) i) r s Fin }
 {}
 
 /// Each site has a log of its own, and nothing is known of an order between them. Where the logs' ends are a
@@ -74,6 +87,9 @@ pub fn examples()
     ensures writer_done { replies (writer_announced ++ (writer_helped ++ writer_done)) (start_world 3 (small_layout 3 3 2)) ≡ writer_announced_replies ++ (writer_helped_replies ++ writer_done_replies) }
     ensures seat_kept { replies (seat_moves ++ seat_kept) (start_world 2 (small_layout 2 2 1)) ≡ seat_moves_replies ++ seat_kept_replies }
     ensures writer_remembered { replies writer_remembered (start_world 3 (small_layout 3 3 2)) ≡ writer_remembered_replies }
+    ensures layout_grown { replies layout_grows (start_world 1 (small_layout 2 2 1)) ≡ layout_grows_replies }
+    ensures thin_merged { replies (writer_announced ++ (writer_helped ++ thin_taken)) (start_world 3 (small_layout 3 3 2)) ≡ writer_announced_replies ++ (writer_helped_replies ++ thin_taken_replies) }
+    ensures messages { (run (writer_announced ++ writer_helped) (start_world 3 (small_layout 3 3 2))).sent ≡ writer_helped_messages }
     ensures writer_withdraws { replies writer_withdraws (start_world 1 (small_layout 1 1 1)) ≡ writer_withdraws_replies }
     ensures stale_book { replies stale_book (start_world 3 (small_layout 3 3 2)) ≡ stale_book_replies }
     ensures refusals { replies refusals (start_world 2 (small_layout 2 2 1)) ≡ refusals_replies }
