@@ -8,7 +8,7 @@ use Rattle.grow_counters.specs.Counts.{counter_limit}
 use Rattle.writer_notices.specs.Notices.{most_writers}
 use Rattle.merge_core.specs.Rows.{grant}
 use Rattle.merge_core.specs.Sums.{total_others}
-use Rattle.admission_core.specs.Account.{Account, Operation, own, rise_of, record_of, phase_of, inside, writers_here}
+use Rattle.admission_core.specs.Account.{Account, Operation, seats_in, own, rise_of, record_of, phase_of, inside, writers_here}
 use Rattle.admission_core.specs.Knowledge.{known, told}
 use Rattle.admission_core.specs.View.{view_of, gained, spent, rights_of}
 use Rattle.admission_core.specs.Sound.{IsBalanced}
@@ -45,14 +45,14 @@ pub record Raises (a : Account) (operation : Operation) (r : ℕ) (out : ℕ →
   pub anns : own (does operation a) r Ann ≡ own a r Ann + ann
   pub fins : own (does operation a) r Fin ≡ own a r Fin + fin
 
-pub own_here : (a : Account) (operation : Operation) (cell : Cell) → own (does operation a) (record_of operation) cell ≡ own a (record_of operation) cell + rise_of a.origin (phase_of a) operation cell
+pub own_here : (a : Account) (operation : Operation) (cell : Cell) → own (does operation a) (record_of operation) cell ≡ own a (record_of operation) cell + rise_of (seats_in a.origin.layout) a.origin.site (phase_of a) operation cell
 own_here a operation cell =
     ap (λ x. own a (record_of operation) cell + x)
-    (cond-true (eqb (record_of operation) (record_of operation)) (rise_of a.origin (phase_of a) operation cell) 0 (eq-eqb (record_of operation) (record_of operation) refl))
+    (cond-true (eqb (record_of operation) (record_of operation)) (rise_of (seats_in a.origin.layout) a.origin.site (phase_of a) operation cell) 0 (eq-eqb (record_of operation) (record_of operation) refl))
 
 pub own_elsewhere : (a : Account) (operation : Operation) (r : ℕ) (cell : Cell) → eqb (record_of operation) r ≡ false → own (does operation a) r cell ≡ own a r cell + 0
 own_elsewhere a operation r cell e =
-    ap (λ x. own a r cell + x) (cond-false (eqb (record_of operation) r) (rise_of a.origin (phase_of a) operation cell) 0 e)
+    ap (λ x. own a r cell + x) (cond-false (eqb (record_of operation) r) (rise_of (seats_in a.origin.layout) a.origin.site (phase_of a) operation cell) 0 e)
 
 pub Raises-elsewhere : (a : Account) (operation : Operation) (r : ℕ) → eqb (record_of operation) r ≡ false → Raises a operation r (λ j. 0) 0 0 0
 Raises-elsewhere a operation r e = record {

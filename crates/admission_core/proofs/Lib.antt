@@ -12,11 +12,13 @@ pub mod MessageLemmas
 pub mod ToldLemmas
 pub mod UnitLemmas
 pub mod NoticeLemmas
+pub mod OrderLemmas
+pub mod StandsLemmas
 pub mod DurableLemmas
 pub mod ReaderLemmas
 pub mod SnapshotLemmas
 pub mod ThinLemmas
 pub mod HelpLemmas
 pub mod ListSumLemmas
-pub mod BookLemmas
 pub mod LawLemmas
+pub mod BookLemmas

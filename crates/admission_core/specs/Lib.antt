@@ -5,6 +5,7 @@ pub mod Merging
 pub mod Replies
 pub mod Sound
 pub mod Serving
+pub mod Order
 pub mod Reached
 pub mod Laws
 pub mod Books

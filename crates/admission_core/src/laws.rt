@@ -1,28 +1,32 @@
 //! Laws of the definitions in specs/: functions that do nothing, whose contracts are the laws.
-ghost use Rattle.std.specs.Prelude.{◌≡◌, ◌≢◌, ◌↔◌, ℕ, ◌<◌, ◌≤◌, List, length, Some, None};
+ghost use Rattle.std.specs.Prelude.{◌≡◌, ◌≢◌, ◌↔◌, ℕ, ◌+◌, ◌==◌, ◌&&◌, if◌then◌else◌, ◌<◌, ◌≤◌, List, length, Some, None};
 ghost use Rattle.merge_core.specs.declared.cell.Cell.{Cell};
 ghost use Rattle.merge_core.specs.declared.cell.Cell.TheVariants.{Out, Ann, Fin};
 ghost use Rattle.merge_core.specs.declared.delta.Row.{Row};
 ghost use Rattle.merge_core.specs.Layout.{LayoutState, shape_of};
 ghost use Rattle.merge_core.specs.Rows.{start_counter};
 ghost use Rattle.merge_core.specs.Naming.{shown_by};
+ghost use Rattle.admission_core.specs.declared.ask.Ask.{Ask as AskOf};
 ghost use Rattle.admission_core.specs.declared.ask.Ask.TheVariants.{Read};
+ghost use Rattle.admission_core.specs.declared.ask.Call.{Call as CallOf};
+ghost use Rattle.admission_core.specs.declared.ask.Phase.{Phase as PhaseOf};
 ghost use Rattle.admission_core.specs.declared.ask.Call.TheVariants.{Ask as Asks};
 ghost use Rattle.admission_core.specs.declared.reply.Refusal.TheVariants.{WriterAnnounced};
 ghost use Rattle.admission_core.specs.declared.reply.Reply.TheVariants.{Admitted, Refused};
 ghost use Rattle.admission_core.specs.declared.reply.Plan.{Plan};
-ghost use Rattle.admission_core.specs.Account.{Account, begin, start_origin};
+ghost use Rattle.admission_core.specs.Account.{Account, Origin, Session, begin, start_origin, seats_in, phase_of, sessions_of, inside, writers, writers_here, record_of, rise_of};
 ghost use Rattle.admission_core.specs.Knowledge.{known, hears_all, durable_part, resumed, restarted, grown};
 ghost use Rattle.admission_core.specs.View.{View, view_of, rights_of, first_unfinished, plan_of, problem_in};
 ghost use Rattle.admission_core.specs.Merging.{snapshot_of};
-ghost use Rattle.admission_core.specs.Serving.{Step, after_step, reply_of};
+ghost use Rattle.admission_core.specs.Serving.{Step, after, after_step, reason, operation_of, reply_of};
 ghost use Rattle.admission_core.specs.Sound.{IsOrigin};
 ghost use Rattle.admission_core.specs.Reached.{IsReached};
 ghost use Rattle.admission_core.specs.Books.{ShowsBook};
 ghost use Rattle.merge_core.specs.Book.{BookState, HasCell, seats_at, notices_at, IsBook};
-ghost use Rattle.seat_rows.specs.Seats.{seat_rights};
-ghost use Rattle.writer_notices.specs.Notices.{IsOpen, IsLeastOpen};
-ghost use Rattle.admission_core.specs.Laws.{CountsUnits, CountsSessions, KnowTheSame, NameTheSame, IsFirstUnfinished, MayAsk, DifferInNotices, IsFeasible, ShowTheSame, KeepTheSame};
+ghost use Rattle.seat_rows.specs.Seats.{seat_rights, inside_of, HasSeatRights};
+ghost use Rattle.writer_notices.specs.Notices.{open_count, IsOpen, IsLeastOpen};
+ghost use Rattle.admission_core.specs.Laws.{CountsUnits, CountsSessions, KnowTheSame, NameTheSame, IsFirstUnfinished, MayAsk, DifferInNotices, IsFeasible, ShowTheSame, KeepTheSame, StandsFor};
+ghost use Rattle.admission_core.specs.Order.{sessions_next};
 
 /// An account may begin at the start of each site, and wherever a stop leaves a reached account, under its
 /// layout or a later one.
@@ -88,9 +92,28 @@ pub fn durable_law()
     ensures resumed_grown { (a : Account) → IsReached a → (n : ℕ) → a.sites ≤ n → ShowTheSame (begin (resumed n a)) (grown n a) }
 {}
 
+/// What stands for an account answers as the account does, and two accounts that show the same show the same
+/// after each step.
+pub fn stands_law()
+    ensures reply { (v : View) → (order : List Session) → (a : Account) → StandsFor v order a → (call : CallOf) → reply_of v call ≡ reply_of (view_of a) call }
+    ensures step { (a b : Account) → ShowTheSame a b → (step : Step) → ShowTheSame (after_step a step) (after_step b step) }
+{}
+
+/// What an ask that nothing refuses leaves: the sessions in order, and the counters of the site's own row. A
+/// site begins with the sessions of its base, in their order.
+pub fn asked_law()
+    ensures base { (o : Origin) → IsOrigin o → sessions_of (begin o) ≡ o.base.sessions }
+    ensures sessions { (a : Account) → (ask : AskOf) → reason (view_of a) (Asks ask) ≡ None → sessions_of (after a (Asks ask)) ≡ sessions_next (operation_of (view_of a) ask) (sessions_of a) }
+    ensures counters { (a : Account) → (ask : AskOf) → reason (view_of a) (Asks ask) ≡ None → (r s : ℕ) → (cell : Cell) → let operation = operation_of (view_of a) ask in known (after a (Asks ask)) r s cell ≡ known a r s cell + (if (s == a.origin.site) && (record_of operation == r) then rise_of (seats_in a.origin.layout) a.origin.site (phase_of a) operation cell else 0) }
+{}
+
 /// Where a view shows a book, the model says of it what the book's own crates say.
 pub fn book_law()
     ensures rights { (b : BookState) → (v : View) → (r : ℕ) → IsBook b → ShowsBook b v → r < length b.records → v.site < b.sites → rights_of v r ≡ seat_rights (seats_at b r) v.site }
     ensures writers { (b : BookState) → (v : View) → (r s : ℕ) → IsBook b → ShowsBook b v → r < length b.records → ((first_unfinished v r ≡ Some s) ↔ IsLeastOpen (notices_at b r) s) }
+    ensures has_rights { (b : BookState) → (a : Account) → IsReached a → IsBook b → ShowsBook b (view_of a) → (r : ℕ) → r < length b.records → HasSeatRights (seats_at b r) a.origin.site }
+    ensures inside { (b : BookState) → (a : Account) → IsReached a → IsBook b → ShowsBook b (view_of a) → (r : ℕ) → r < length b.records → inside_of (seats_at b r) a.origin.site ≡ inside a r }
+    ensures open { (b : BookState) → (a : Account) → IsReached a → IsBook b → ShowsBook b (view_of a) → (r : ℕ) → r < length b.records → open_count (notices_at b r) a.origin.site ≡ writers_here a r }
+    ensures open_session { (b : BookState) → (a : Account) → IsReached a → IsBook b → ShowsBook b (view_of a) → (r h : ℕ) → (p : PhaseOf) → r < length b.records → phase_of a r h ≡ Some p → 1 ≤ writers p → IsOpen (notices_at b r) a.origin.site }
     ensures no_writer { (b : BookState) → (v : View) → (r : ℕ) → IsBook b → ShowsBook b v → r < length b.records → ((first_unfinished v r ≡ None) ↔ ((s : ℕ) → ¬ IsOpen (notices_at b r) s)) }
 {}
