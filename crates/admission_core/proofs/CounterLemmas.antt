@@ -5,9 +5,10 @@ use Rattle.merge_core.specs.declared.cell.Cell.{Cell}
 use Rattle.merge_core.specs.declared.cell.Cell.TheVariants.{Out, Taken, Ann, Fin}
 use Rattle.merge_core.specs.Layout.{shape_of}
 use Rattle.grow_counters.specs.Counts.{counter_limit}
+use Rattle.writer_notices.specs.Notices.{most_writers}
 use Rattle.merge_core.specs.Rows.{grant}
-use Rattle.admission_core.specs.Sums.{total_others}
-use Rattle.admission_core.specs.Account.{Account, Operation, sites_of, own, rise_of, record_of, phase_of, inside, writers_here}
+use Rattle.merge_core.specs.Sums.{total_others}
+use Rattle.admission_core.specs.Account.{Account, Operation, seats_in, own, rise_of, record_of, phase_of, inside, writers_here}
 use Rattle.admission_core.specs.Knowledge.{known, told}
 use Rattle.admission_core.specs.View.{view_of, gained, spent, rights_of}
 use Rattle.admission_core.specs.Sound.{IsBalanced}
@@ -19,17 +20,17 @@ known_own a r cell = cond-true (eqb a.origin.site a.origin.site) (own a r cell) 
 pub known_other : (a : Account) (r s : ℕ) (cell : Cell) → s ≢ a.origin.site → known a r s cell ≡ told a r s cell
 known_other a r s cell apart = cond-false (eqb s a.origin.site) (own a r cell) (told a r s cell) (ne_eqb s a.origin.site apart)
 
-pub gained_own : (a : Account) (r : ℕ) → a.origin.site < sites_of a.origin → gained (view_of a) r ≡ own a r (Out a.origin.site) + total_others (sites_of a.origin) a.origin.site (λ j. told a r j (Out a.origin.site))
+pub gained_own : (a : Account) (r : ℕ) → a.origin.site < a.sites → gained (view_of a) r ≡ own a r (Out a.origin.site) + total_others (a.sites) a.origin.site (λ j. told a r j (Out a.origin.site))
 gained_own a r below =
-    let n = sites_of a.origin in
+    let n = a.sites in
     let i = a.origin.site in
     total_split n i (λ j. known a r j (Out i)) below
     ∙ (ap (λ x. x + total_others n i (λ j. known a r j (Out i))) (known_own a r (Out i))
     ∙ ap (λ x. own a r (Out i) + x) (total_others_same n i (λ j. known a r j (Out i)) (λ j. told a r j (Out i)) (λ j lower apart. known_other a r j (Out i) apart)))
 
-pub spent_own : (a : Account) (r : ℕ) → spent (view_of a) r ≡ total_others (sites_of a.origin) a.origin.site (λ j. own a r (Out j)) + own a r Taken
+pub spent_own : (a : Account) (r : ℕ) → spent (view_of a) r ≡ total_others (a.sites) a.origin.site (λ j. own a r (Out j)) + own a r Taken
 spent_own a r =
-    let n = sites_of a.origin in
+    let n = a.sites in
     let i = a.origin.site in
     omega (arith, known_own a r Taken, total_others_same n i (λ j. known a r i (Out j)) (λ j. own a r (Out j)) (λ j lower apart. known_own a r (Out j)))
 
@@ -44,14 +45,14 @@ pub record Raises (a : Account) (operation : Operation) (r : ℕ) (out : ℕ →
   pub anns : own (does operation a) r Ann ≡ own a r Ann + ann
   pub fins : own (does operation a) r Fin ≡ own a r Fin + fin
 
-pub own_here : (a : Account) (operation : Operation) (cell : Cell) → own (does operation a) (record_of operation) cell ≡ own a (record_of operation) cell + rise_of a.origin (phase_of a) operation cell
+pub own_here : (a : Account) (operation : Operation) (cell : Cell) → own (does operation a) (record_of operation) cell ≡ own a (record_of operation) cell + rise_of (seats_in a.origin.layout) a.origin.site (phase_of a) operation cell
 own_here a operation cell =
     ap (λ x. own a (record_of operation) cell + x)
-    (cond-true (eqb (record_of operation) (record_of operation)) (rise_of a.origin (phase_of a) operation cell) 0 (eq-eqb (record_of operation) (record_of operation) refl))
+    (cond-true (eqb (record_of operation) (record_of operation)) (rise_of (seats_in a.origin.layout) a.origin.site (phase_of a) operation cell) 0 (eq-eqb (record_of operation) (record_of operation) refl))
 
 pub own_elsewhere : (a : Account) (operation : Operation) (r : ℕ) (cell : Cell) → eqb (record_of operation) r ≡ false → own (does operation a) r cell ≡ own a r cell + 0
 own_elsewhere a operation r cell e =
-    ap (λ x. own a r cell + x) (cond-false (eqb (record_of operation) r) (rise_of a.origin (phase_of a) operation cell) 0 e)
+    ap (λ x. own a r cell + x) (cond-false (eqb (record_of operation) r) (rise_of (seats_in a.origin.layout) a.origin.site (phase_of a) operation cell) 0 e)
 
 pub Raises-elsewhere : (a : Account) (operation : Operation) (r : ℕ) → eqb (record_of operation) r ≡ false → Raises a operation r (λ j. 0) 0 0 0
 Raises-elsewhere a operation r e = record {
@@ -61,13 +62,13 @@ Raises-elsewhere a operation r e = record {
   fins = own_elsewhere a operation r Fin e;
 }
 
-pub gained_step : (a : Account) (operation : Operation) (r : ℕ) (out : ℕ → ℕ) (taken ann fin : ℕ) → a.origin.site < sites_of a.origin → Raises a operation r out taken ann fin → gained (view_of (does operation a)) r ≡ gained (view_of a) r + out a.origin.site
+pub gained_step : (a : Account) (operation : Operation) (r : ℕ) (out : ℕ → ℕ) (taken ann fin : ℕ) → a.origin.site < a.sites → Raises a operation r out taken ann fin → gained (view_of (does operation a)) r ≡ gained (view_of a) r + out a.origin.site
 gained_step a operation r out taken ann fin below raises =
     omega (arith, gained_own (does operation a) r below, gained_own a r below, raises.outs a.origin.site)
 
-pub spent_step : (a : Account) (operation : Operation) (r : ℕ) (out : ℕ → ℕ) (taken ann fin : ℕ) → Raises a operation r out taken ann fin → spent (view_of (does operation a)) r ≡ spent (view_of a) r + (total_others (sites_of a.origin) a.origin.site out + taken)
+pub spent_step : (a : Account) (operation : Operation) (r : ℕ) (out : ℕ → ℕ) (taken ann fin : ℕ) → Raises a operation r out taken ann fin → spent (view_of (does operation a)) r ≡ spent (view_of a) r + (total_others (a.sites) a.origin.site out + taken)
 spent_step a operation r out taken ann fin raises =
-    let n = sites_of a.origin in
+    let n = a.sites in
     let i = a.origin.site in
     omega (
       arith,
@@ -80,14 +81,15 @@ spent_step a operation r out taken ann fin raises =
 
 -- what an operation has to leave so that a record's counters and sessions still agree
 pub record IsAllowed (a : Account) (operation : Operation) (r : ℕ) (out : ℕ → ℕ) (taken ann fin : ℕ) : Type 0 where
-  pub affordable : total_others (sites_of a.origin) a.origin.site out + taken ≤ rights_of (view_of a) r
+  pub affordable : total_others (a.sites) a.origin.site out + taken ≤ rights_of (view_of a) r
   pub seats : taken + inside a r ≡ out a.origin.site + inside (does operation a) r
   pub writers : ann + writers_here a r ≡ fin + writers_here (does operation a) r
   pub few_taken : own a r Taken + taken ≤ counter_limit
   pub few_moved : (j : ℕ) → j ≢ a.origin.site → own a r (Out j) + out j ≤ counter_limit
   pub few_announced : own a r Ann + ann ≤ counter_limit
+  pub few_writers : own a r Ann + ann ≤ own a r Fin + fin + most_writers
 
-pub balance_step : (a : Account) (operation : Operation) (r : ℕ) (out : ℕ → ℕ) (taken ann fin : ℕ) → a.origin.site < sites_of a.origin → IsBalanced a r → Raises a operation r out taken ann fin → IsAllowed a operation r out taken ann fin → IsBalanced (does operation a) r
+pub balance_step : (a : Account) (operation : Operation) (r : ℕ) (out : ℕ → ℕ) (taken ann fin : ℕ) → a.origin.site < a.sites → IsBalanced a r → Raises a operation r out taken ann fin → IsAllowed a operation r out taken ann fin → IsBalanced (does operation a) r
 balance_step a operation r out taken ann fin below balanced raises allowed =
     let after_seats : own (does operation a) r Taken + grant (shape_of a.origin.layout) r a.origin.site ≡ own (does operation a) r (Out a.origin.site) + inside (does operation a) r =
     omega (arith, balanced.seats, raises.takens, raises.outs a.origin.site, allowed.seats) in
@@ -97,6 +99,7 @@ balance_step a operation r out taken ann fin below balanced raises allowed =
       affordable = omega (arith, gained_step a operation r out taken ann fin below raises, spent_step a operation r out taken ann fin raises, balanced.affordable, allowed.affordable);
       seats = after_seats;
       writers = after_writers;
+      few_writers = omega (arith, after_writers, raises.anns, raises.fins, allowed.few_writers);
       fits = record {
         grant_kept = omega (arith, balanced.fits.grant_kept, raises.outs a.origin.site);
         returned_after_taken = omega (arith, after_seats);

@@ -9,7 +9,7 @@ use Rattle.admission_core.specs.declared.ask.Call.TheVariants.{Ask as Asks}
 use Rattle.admission_core.specs.declared.reply.Plan.{Plan}
 use Rattle.admission_core.specs.declared.reply.Refusal.TheVariants.{NoRecord, CounterFull, NoPlan}
 use Rattle.admission_core.specs.declared.reply.Reply.TheVariants.{Gave, Refused}
-use Rattle.admission_core.specs.Account.{Account, GaveSeats, sites_of, own, inside}
+use Rattle.admission_core.specs.Account.{Account, GaveSeats, own, inside}
 use Rattle.admission_core.specs.Knowledge.{known}
 use Rattle.admission_core.specs.View.{view_of, rights_of, plan_for, plan_of, first_unfinished}
 use Rattle.admission_core.specs.Replies.{Line, line, no_record_there, planned, help_lines}
@@ -25,13 +25,14 @@ use Rattle.admission_core.proofs.ReaderLemmas.{reason_behind, found}
 pub record IsHelped (a b : Account) (r w : ℕ) : Type 0 where
   pub same_origin : b.origin ≡ a.origin
   pub same_heard : b.heard ≡ a.heard
+  pub same_sites : b.sites ≡ a.sites
   pub no_rights : rights_of (view_of b) r ≡ 0
   pub same_inside : inside b r ≡ inside a r
   pub outs : (j : ℕ) → j ≢ w → own b r (Out j) ≡ own a r (Out j)
   pub anns : own b r Ann ≡ own a r Ann
   pub fins : own b r Fin ≡ own a r Fin
 
-gave_all : (a : Account) (r w : ℕ) → IsSound a → w < sites_of a.origin → w ≢ a.origin.site → IsHelped a (does (GaveSeats r w (rights_of (view_of a) r)) a) r w
+gave_all : (a : Account) (r w : ℕ) → IsSound a → w < a.sites → w ≢ a.origin.site → IsHelped a (does (GaveSeats r w (rights_of (view_of a) r)) a) r w
 gave_all a r w sound there apart =
     let n = rights_of (view_of a) r in
     let sent = λ (j : ℕ). cond (eqb j w) n 0 in
@@ -40,12 +41,13 @@ gave_all a r w sound there apart =
     record {
       same_origin = refl;
       same_heard = refl;
+      same_sites = refl;
       no_rights = omega (
         arith,
         (sound.balanced r).affordable,
         gained_step a operation r sent 0 0 0 sound.site_there raises,
         spent_step a operation r sent 0 0 0 raises,
-        total_others_only (sites_of a.origin) a.origin.site w n there apart,
+        total_others_only (a.sites) a.origin.site w n there apart,
         cond-false {A = ℕ} (eqb a.origin.site w) n 0 (ne_eqb a.origin.site w (λ e. apart (sym e))),
       );
       same_inside = refl;
@@ -58,6 +60,7 @@ nothing_left : (a : Account) (r w : ℕ) → rights_of (view_of a) r ≡ 0 → I
 nothing_left a r w none = record {
   same_origin = refl;
   same_heard = refl;
+  same_sites = refl;
   no_rights = none;
   same_inside = refl;
   outs = λ j other. refl;

@@ -3,7 +3,7 @@ use Rattle.std.proofs.Common.{◌≡◌, ◌≢◌, ℕ, zero, suc, ◌+◌, ◌
 use Rattle.std.proofs.lemmas.Bool.{cases_eq, cases_Bool, cases_lt, eqb-false, leb-true, ltb-true, lt-ltb, le-ltb, and_parts, or_parts, cond-true, cond-false}
 use Rattle.std.proofs.lemmas.Option.{same_Some}
 use Rattle.admission_core.specs.declared.reply.Plan.{Plan}
-use Rattle.admission_core.specs.Sums.{least_below, first_of_two}
+use Rattle.merge_core.specs.Sums.{least_below, first_of_two}
 use Rattle.admission_core.specs.Account.{seats_in}
 use Rattle.admission_core.specs.Laws.{IsFeasible}
 use Rattle.admission_core.specs.View.{View, rights_of, fair_share, next_site, plan_for, plan_of, first_unfinished, shows_writer}
@@ -80,7 +80,7 @@ next_there n i below two = at (cases_lt (i + 1) n)
         let e = cond-false {A = ℕ} (ltb (i + 1) n) (i + 1) 0 (le-ltb (i + 1) n last) in
         (omega (arith, e), λ same. absurd (omega (arith, e)))
 
-plan_for-fits : (v : View) (r : ℕ) (p : Plan) → v.site < v.sites → (o : Option ℕ) → ((w : ℕ) → o ≡ Some w → w < v.sites) → plan_for v r o ≡ Some p → IsFeasible v r p
+plan_for-fits : (v : View) (r : ℕ) (p : Plan) → v.site < v.layout.sites → (o : Option ℕ) → ((w : ℕ) → o ≡ Some w → w < v.layout.sites) → plan_for v r o ≡ Some p → IsFeasible v r p
 plan_for-fits v r p below (Some w) within e = at (cases_Bool ((eqb w v.site) || (eqb (rights_of v r) 0)))
   where
     all_rights : Plan
@@ -97,23 +97,23 @@ plan_for-fits v r p below (Some w) within e = at (cases_Bool ((eqb w v.site) || 
         let some = eqb-false (rights_of v r) 0 (or_parts (eqb w v.site) (eqb (rights_of v r) 0) f).1 in
         let there = within w refl in
         record { there = omega arith; elsewhere = λ here. apart (to ∙ here); some = omega arith; enough = omega arith }
-plan_for-fits v r p below None within e = at (cases_Bool (leb 2 v.sites && ltb (fair_share (seats_in v.layout r) v.sites) (rights_of v r)))
+plan_for-fits v r p below None within e = at (cases_Bool (leb 2 v.layout.sites && ltb (fair_share (seats_in v.layout r) v.layout.sites) (rights_of v r)))
   where
     excess : Plan
-    excess = record { to = next_site v.sites v.site; seats = rights_of v r - fair_share (seats_in v.layout r) v.sites }
+    excess = record { to = next_site v.layout.sites v.site; seats = rights_of v r - fair_share (seats_in v.layout r) v.layout.sites }
 
-    at : ((leb 2 v.sites && ltb (fair_share (seats_in v.layout r) v.sites) (rights_of v r)) ≡ true) ⊎ ((leb 2 v.sites && ltb (fair_share (seats_in v.layout r) v.sites) (rights_of v r)) ≡ false) → IsFeasible v r p
+    at : ((leb 2 v.layout.sites && ltb (fair_share (seats_in v.layout r) v.layout.sites) (rights_of v r)) ≡ true) ⊎ ((leb 2 v.layout.sites && ltb (fair_share (seats_in v.layout r) v.layout.sites) (rights_of v r)) ≡ false) → IsFeasible v r p
     at (inr f) =
-        let gone : ◌≡◌ {A = Option Plan} None (Some p) = sym (cond-false (leb 2 v.sites && ltb (fair_share (seats_in v.layout r) v.sites) (rights_of v r)) (Some excess) None f) ∙ e in cc
+        let gone : ◌≡◌ {A = Option Plan} None (Some p) = sym (cond-false (leb 2 v.layout.sites && ltb (fair_share (seats_in v.layout r) v.layout.sites) (rights_of v r)) (Some excess) None f) ∙ e in cc
     at (inl t) =
-        let same : excess ≡ p = same_Some excess p (sym (cond-true (leb 2 v.sites && ltb (fair_share (seats_in v.layout r) v.sites) (rights_of v r)) (Some excess) None t) ∙ e) in
-        let to : next_site v.sites v.site ≡ p.to = ap (λ (q : Plan). q.to) same in
-        let seats : rights_of v r - fair_share (seats_in v.layout r) v.sites ≡ p.seats = ap (λ (q : Plan). q.seats) same in
-        let two = leb-true 2 v.sites (and_parts (leb 2 v.sites) (ltb (fair_share (seats_in v.layout r) v.sites) (rights_of v r)) t).0 in
-        let above = ltb-true (fair_share (seats_in v.layout r) v.sites) (rights_of v r) (and_parts (leb 2 v.sites) (ltb (fair_share (seats_in v.layout r) v.sites) (rights_of v r)) t).1 in
-        let next = next_there v.sites v.site below two in
-        record { there = subst (λ (x : ℕ). x < v.sites) to next.0; elsewhere = λ here. next.1 (to ∙ here); some = omega arith; enough = omega arith }
+        let same : excess ≡ p = same_Some excess p (sym (cond-true (leb 2 v.layout.sites && ltb (fair_share (seats_in v.layout r) v.layout.sites) (rights_of v r)) (Some excess) None t) ∙ e) in
+        let to : next_site v.layout.sites v.site ≡ p.to = ap (λ (q : Plan). q.to) same in
+        let seats : rights_of v r - fair_share (seats_in v.layout r) v.layout.sites ≡ p.seats = ap (λ (q : Plan). q.seats) same in
+        let two = leb-true 2 v.layout.sites (and_parts (leb 2 v.layout.sites) (ltb (fair_share (seats_in v.layout r) v.layout.sites) (rights_of v r)) t).0 in
+        let above = ltb-true (fair_share (seats_in v.layout r) v.layout.sites) (rights_of v r) (and_parts (leb 2 v.layout.sites) (ltb (fair_share (seats_in v.layout r) v.layout.sites) (rights_of v r)) t).1 in
+        let next = next_there v.layout.sites v.site below two in
+        record { there = subst (λ (x : ℕ). x < v.layout.sites) to next.0; elsewhere = λ here. next.1 (to ∙ here); some = omega arith; enough = omega arith }
 
-pub plan_of-fits : (v : View) (r : ℕ) (p : Plan) → v.site < v.sites → plan_of v r ≡ Some p → IsFeasible v r p
+pub plan_of-fits : (v : View) (r : ℕ) (p : Plan) → v.site < v.layout.sites → plan_of v r ≡ Some p → IsFeasible v r p
 plan_of-fits v r p below e =
-    plan_for-fits v r p below (first_unfinished v r) (λ w some. (least_below-some v.sites (shows_writer v r) w some).below) e
+    plan_for-fits v r p below (first_unfinished v r) (λ w some. (least_below-some v.layout.sites (shows_writer v r) w some).below) e

@@ -1,13 +1,9 @@
--- Sums over numbers as sums over lists, and the counts of what rose as sums over places.
-use Rattle.std.proofs.Common.{◌≡◌, ℕ, zero, suc, ◌+◌, ◌<◌, ltb, List, [], ◌∷◌, length, get_or, set, sum, sum_by, refl, sym, ap, ◌∙◌, ◌⊎◌, inl, inr, cond, eqb, arith}
+-- Sums over numbers as sums over lists.
+use Rattle.std.proofs.Common.{◌≡◌, ℕ, zero, suc, ◌+◌, ◌<◌, List, [], ◌∷◌, length, get_or, set, sum, sum_by, refl, sym, ap, ◌∙◌, ◌⊎◌, inl, inr, cond, eqb, arith}
 use Rattle.std.proofs.lemmas.Bool.{cases_eq, eq-eqb, ne_eqb, cond-true, cond-false}
 use Rattle.std.proofs.lemmas.List.{length-set, get_or-set_same, get_or-set_other}
 use Rattle.std.proofs.lemmas.List.Sums.{sum_by-cons}
-use Rattle.grow_counters.specs.Counts.{rise_count}
-use Rattle.rights_matrix.specs.Joined.{rise_counts}
-use Rattle.merge_core.specs.declared.record.RecordState.{RecordState}
-use Rattle.merge_core.specs.Book.{nothing_known, record_rises, records_rise}
-use Rattle.admission_core.specs.Sums.{total, total_others, one_if}
+use Rattle.merge_core.specs.Sums.{total, total_others}
 use Rattle.admission_core.proofs.SumLemmas.{total_same}
 
 -- a sum from its first number on
@@ -32,24 +28,3 @@ total_others-list xs i inside =
         cond-true (eqb k i) 0 (get_or xs k 0) (eq-eqb k i e)
         ∙ sym (ap (λ j. get_or (set xs i 0) j 0) e ∙ get_or-set_same xs i 0 0 inside)
     at k (inr ne) = cond-false (eqb k i) 0 (get_or xs k 0) (ne_eqb k i ne) ∙ sym (get_or-set_other xs i k 0 0 ne)
-
--- how many counters of a list rose, counter by counter
-pub total-rise_count : (xs ys : List ℕ) → length xs ≡ length ys → rise_count xs ys ≡ total (length xs) (λ k. one_if (ltb (get_or xs k 0) (get_or ys k 0)))
-total-rise_count [] ys same = refl
-total-rise_count (x ∷ xs) [] same = absurd (omega arith)
-total-rise_count (x ∷ xs) (y ∷ ys) same =
-    omega (arith, total-first (length xs) (λ k. one_if (ltb (get_or (x ∷ xs) k 0) (get_or (y ∷ ys) k 0))), total-rise_count xs ys (omega arith))
-
--- of the rows of a matrix, row by row
-pub total-rows_rise : (xs ys : List (List ℕ)) → length xs ≡ length ys → rise_counts xs ys ≡ total (length xs) (λ k. rise_count (get_or xs k []) (get_or ys k []))
-total-rows_rise [] ys same = refl
-total-rows_rise (x ∷ xs) [] same = absurd (omega arith)
-total-rows_rise (x ∷ xs) (y ∷ ys) same =
-    omega (arith, total-first (length xs) (λ k. rise_count (get_or (x ∷ xs) k []) (get_or (y ∷ ys) k [])), total-rows_rise xs ys (omega arith))
-
--- of the records of a book, record by record
-pub total-records_rise : (xs ys : List RecordState) → length xs ≡ length ys → records_rise xs ys ≡ total (length xs) (λ k. record_rises (get_or xs k nothing_known) (get_or ys k nothing_known))
-total-records_rise [] ys same = refl
-total-records_rise (x ∷ xs) [] same = absurd (omega arith)
-total-records_rise (x ∷ xs) (y ∷ ys) same =
-    omega (arith, total-first (length xs) (λ k. record_rises (get_or (x ∷ xs) k nothing_known) (get_or (y ∷ ys) k nothing_known)), total-records_rise xs ys (omega arith))

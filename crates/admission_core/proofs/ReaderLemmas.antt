@@ -10,7 +10,7 @@ use Rattle.admission_core.specs.declared.ask.Call.TheVariants.{Ask as Asks}
 use Rattle.admission_core.specs.declared.reply.Refusal.{Refusal}
 use Rattle.admission_core.specs.declared.reply.Refusal.TheVariants.{NoRecord, BadHolder, AlreadyHere, CounterFull, WriterAnnounced, NoSeat}
 use Rattle.admission_core.specs.declared.reply.Reply.TheVariants.{Admitted, Refused}
-use Rattle.admission_core.specs.Sums.{total, total_others}
+use Rattle.merge_core.specs.Sums.{total, total_others}
 use Rattle.admission_core.specs.View.{View, problem_in, gained, spent, rights_of, shows_writer, first_unfinished}
 use Rattle.admission_core.specs.Replies.{Line, line, first_reason, holder_limit, no_record_there, must_wait, read_lines}
 use Rattle.admission_core.specs.Serving.{reply_of, replied}
@@ -27,7 +27,7 @@ reason_behind (b ∷ before) l behind clear test =
 
 pub found : (v : View) (r s : ℕ) → IsFirstUnfinished v r s → first_unfinished v r ≡ Some s
 found v r s first =
-    least_below-found v.sites (shows_writer v r) s
+    least_below-found v.layout.sites (shows_writer v r) s
     (record {
       below = first.there;
       passes = lt-ltb (v.counter r s Fin) (v.counter r s Ann) first.unfinished;
@@ -79,13 +79,13 @@ same_reason (l ∷ ls) (m ∷ ms) same = at (cases_Bool l.test) (same_reason ls 
 same_rights : (v w : View) (r : ℕ) → DifferInNotices v w → rights_of w r ≡ rights_of v r
 same_rights v w r same =
     let gains : gained w r ≡ gained v r =
-    ap (λ n. total n (λ j. w.counter r j (Out w.site))) same.sites
-    ∙ (ap (λ i. total v.sites (λ j. w.counter r j (Out i))) same.site
-    ∙ total_same v.sites (λ j. w.counter r j (Out v.site)) (λ j. v.counter r j (Out v.site)) (λ j below. same.outs r j v.site)) in
-    let gives : total_others w.sites w.site (λ j. w.counter r w.site (Out j)) ≡ total_others v.sites v.site (λ j. v.counter r v.site (Out j)) =
-    ap (λ n. total_others n w.site (λ j. w.counter r w.site (Out j))) same.sites
-    ∙ (ap (λ i. total_others v.sites i (λ j. w.counter r i (Out j))) same.site
-    ∙ total_others_same v.sites v.site (λ j. w.counter r v.site (Out j)) (λ j. v.counter r v.site (Out j)) (λ j below apart. same.outs r v.site j)) in
+    ap (λ (l : LayoutState). total l.sites (λ j. w.counter r j (Out w.site))) same.layout
+    ∙ (ap (λ i. total v.layout.sites (λ j. w.counter r j (Out i))) same.site
+    ∙ total_same v.layout.sites (λ j. w.counter r j (Out v.site)) (λ j. v.counter r j (Out v.site)) (λ j below. same.outs r j v.site)) in
+    let gives : total_others w.layout.sites w.site (λ j. w.counter r w.site (Out j)) ≡ total_others v.layout.sites v.site (λ j. v.counter r v.site (Out j)) =
+    ap (λ (l : LayoutState). total_others l.sites w.site (λ j. w.counter r w.site (Out j))) same.layout
+    ∙ (ap (λ i. total_others v.layout.sites i (λ j. w.counter r i (Out j))) same.site
+    ∙ total_others_same v.layout.sites v.site (λ j. w.counter r v.site (Out j)) (λ j. v.counter r v.site (Out j)) (λ j below apart. same.outs r v.site j)) in
     let takes : w.counter r w.site Taken ≡ v.counter r v.site Taken = ap (λ i. w.counter r i Taken) same.site ∙ same.takens r v.site in
     let spends : spent w r ≡ spent v r = omega (arith, gives, takes) in
     omega (arith, gains, spends)

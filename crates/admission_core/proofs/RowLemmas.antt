@@ -1,19 +1,18 @@
 -- Rows that fit: of the start, of a delta, of two joined; and what a delta's rows show.
-use Rattle.std.proofs.Common.{◌≡◌, ◌≢◌, ℕ, suc, ◌-◌, ◌<◌, ◌≤◌, ◌⊎◌, inl, inr, max, Bool, true, false, not, ◌&&◌, eqb, ltb, leb, List, [], ◌∷◌, length, Option, Some, None, is_some, refl, sym, ap, subst, ◌∙◌, arith}
+use Rattle.std.proofs.Common.{◌≡◌, ◌≢◌, ℕ, suc, ◌-◌, ◌<◌, ◌≤◌, ◌⊎◌, inl, inr, max, Bool, true, false, not, ◌&&◌, cond, eqb, ltb, leb, List, [], ◌∷◌, length, Option, Some, None, is_some, refl, sym, ap, subst, ◌∙◌, arith}
 use Rattle.std.specs.Prelude.{option_map}
 use Rattle.std.specs.List.{AllByRecursion}
-use Rattle.std.proofs.lemmas.List.{get_or_past}
+use Rattle.std.proofs.lemmas.List.{get_or_past, length-map}
 use Rattle.std.proofs.lemmas.Bool.{cases_eq, cases_lt, cases_Bool, eq-eqb, ne_eqb, eqb-true, ltb-true, ltb-false, leb-true, and_parts, cond-true, cond-false}
 use Rattle.merge_core.specs.declared.cell.Cell.{Cell}
 use Rattle.merge_core.specs.declared.cell.Cell.TheVariants.{Out, Taken, Ann, Fin}
 use Rattle.merge_core.specs.declared.delta.Row.{Row}
-use Rattle.merge_core.specs.Layout.{Shape, shape_of}
+use Rattle.merge_core.specs.Layout.{LayoutState, Shape, shape_of, record_shape}
 use Rattle.grow_counters.specs.Counts.{counter_limit}
 use Rattle.merge_core.specs.Rows.{grant, start_counter, counter_in, counters_of}
 use Rattle.merge_core.specs.Naming.{shown_by}
-use Rattle.admission_core.specs.Sums.{one_if, number_of_cells}
-use Rattle.admission_core.specs.View.{View}
-use Rattle.admission_core.specs.Merging.{is_placed, is_valid, overfull, first_failing}
+use Rattle.merge_core.specs.Sums.{one_if, number_of_cells}
+use Rattle.merge_core.specs.Tests.{is_placed, is_valid, overfull, first_failing}
 use Rattle.admission_core.specs.Sound.{FitsRow}
 use Rattle.admission_core.proofs.SumLemmas.{total_member}
 
@@ -107,34 +106,32 @@ not_past_limit : (b c : Bool) → (not b && c) ≡ false → b ≡ false → c �
 not_past_limit true c e d = cc
 not_past_limit false c e d = e
 
-few_moved_of : (v : View) (p : Row) → length p.out ≡ v.sites → overfull v p ≡ 0 → (j : ℕ) → j ≢ p.s → counter_in (counters_of p) (Out j) ≤ counter_limit
-few_moved_of v p all_sites none j apart = at (cases_lt j v.sites)
+few_moved_of : (p : Row) → overfull p ≡ 0 → (j : ℕ) → j ≢ p.s → counter_in (counters_of p) (Out j) ≤ counter_limit
+few_moved_of p none j apart = at (cases_lt j (length p.out))
   where
-    at : (j < v.sites) ⊎ (v.sites ≤ j) → counter_in (counters_of p) (Out j) ≤ counter_limit
+    at : (j < length p.out) ⊎ (length p.out ≤ j) → counter_in (counters_of p) (Out j) ≤ counter_limit
     at (inl below) =
         let past = λ (k : ℕ). one_if (not (eqb k p.s) && ltb counter_limit (counter_in (counters_of p) (Out k))) in
-        let zero_here : past j ≡ 0 = omega (arith, total_member v.sites j past below) in
+        let zero_here : past j ≡ 0 = omega (arith, total_member (length p.out) j past below) in
         ltb-false counter_limit (counter_in (counters_of p) (Out j))
         (not_past_limit (eqb j p.s) (ltb counter_limit (counter_in (counters_of p) (Out j))) (one_if-zero (not (eqb j p.s) && ltb counter_limit (counter_in (counters_of p) (Out j))) zero_here) (ne_eqb j p.s apart))
-    at (inr beyond) = omega (arith, get_or_past p.out j 0 (omega arith))
+    at (inr beyond) = omega (arith, get_or_past p.out j 0 beyond)
 
--- a placed and valid row fits
-pub FitsRow-valid : (v : View) (p : Row) → is_placed v p ≡ true → is_valid v p ≡ true → FitsRow (grant (shape_of v.layout) p.r p.s) p.s (counter_in (counters_of p))
-FitsRow-valid v p placed valid =
-    let granted = grant (shape_of v.layout) p.r p.s in
+-- a valid row fits
+pub FitsRow-valid : (shape : Shape) (p : Row) → is_valid shape p ≡ true → FitsRow (grant shape p.r p.s) p.s (counter_in (counters_of p))
+FitsRow-valid shape p valid =
+    let granted = grant shape p.r p.s in
     let own_out = counter_in (counters_of p) (Out p.s) in
-    let p0 = and_parts (ltb p.r (length v.layout.records)) (ltb p.s v.sites && eqb (length p.out) v.sites) placed in
-    let p1 = and_parts (ltb p.s v.sites) (eqb (length p.out) v.sites) p0.1 in
-    let v0 = and_parts (leb granted own_out) (leb (own_out - granted) p.taken && (leb p.taken counter_limit && (eqb (overfull v p) 0 && (leb p.fin p.ann && leb p.ann counter_limit)))) valid in
-    let v1 = and_parts (leb (own_out - granted) p.taken) (leb p.taken counter_limit && (eqb (overfull v p) 0 && (leb p.fin p.ann && leb p.ann counter_limit))) v0.1 in
-    let v2 = and_parts (leb p.taken counter_limit) (eqb (overfull v p) 0 && (leb p.fin p.ann && leb p.ann counter_limit)) v1.1 in
-    let v3 = and_parts (eqb (overfull v p) 0) (leb p.fin p.ann && leb p.ann counter_limit) v2.1 in
+    let v0 = and_parts (leb granted own_out) (leb (own_out - granted) p.taken && (leb p.taken counter_limit && (eqb (overfull p) 0 && (leb p.fin p.ann && leb p.ann counter_limit)))) valid in
+    let v1 = and_parts (leb (own_out - granted) p.taken) (leb p.taken counter_limit && (eqb (overfull p) 0 && (leb p.fin p.ann && leb p.ann counter_limit))) v0.1 in
+    let v2 = and_parts (leb p.taken counter_limit) (eqb (overfull p) 0 && (leb p.fin p.ann && leb p.ann counter_limit)) v1.1 in
+    let v3 = and_parts (eqb (overfull p) 0) (leb p.fin p.ann && leb p.ann counter_limit) v2.1 in
     let v4 = and_parts (leb p.fin p.ann) (leb p.ann counter_limit) v3.1 in
     record {
       grant_kept = leb-true granted own_out v0.0;
       returned_after_taken = omega (arith, leb-true granted own_out v0.0, leb-true (own_out - granted) p.taken v1.0);
       few_taken = leb-true p.taken counter_limit v2.0;
-      few_moved = few_moved_of v p (eqb-true (length p.out) v.sites p1.1) (eqb-true (overfull v p) 0 v3.0);
+      few_moved = few_moved_of p (eqb-true (overfull p) 0 v3.0);
       finished_after_announced = leb-true p.fin p.ann v4.0;
       few_announced = leb-true p.ann counter_limit v4.1;
     }
@@ -160,49 +157,73 @@ shown_as P shape along (p ∷ ps) all r s start = at (cases_Bool (eqb p.r r && e
         along (counter_in (counters_of p)) (shown_by shape (p ∷ ps) r s) r s (λ cell. shown_first shape p ps r s cell e) here
     at (inr e) later = along (shown_by shape ps r s) (shown_by shape (p ∷ ps) r s) r s (λ cell. shown_later shape p ps r s cell e) later
 
-all_fit : (v : View) (rows : List Row) → AllPass (is_placed v) rows → AllPass (is_valid v) rows → AllByRecursion (λ p. FitsRow (grant (shape_of v.layout) p.r p.s) p.s (counter_in (counters_of p))) rows
-all_fit v [] placed valid = tt
-all_fit v (p ∷ ps) placed valid = (FitsRow-valid v p placed.0 valid.0, all_fit v ps placed.1 valid.1)
+all_fit : (shape : Shape) (rows : List Row) → AllPass (is_valid shape) rows → AllByRecursion (λ p. FitsRow (grant shape p.r p.s) p.s (counter_in (counters_of p))) rows
+all_fit shape [] valid = tt
+all_fit shape (p ∷ ps) valid = (FitsRow-valid shape p valid.0, all_fit shape ps valid.1)
 
--- what placed and valid rows show fits
-pub FitsRow-shown : (v : View) (rows : List Row) → AllPass (is_placed v) rows → AllPass (is_valid v) rows → (r s : ℕ) → FitsRow (grant (shape_of v.layout) r s) s (shown_by (shape_of v.layout) rows r s)
-FitsRow-shown v rows placed valid r s =
-    shown_as (λ f r2 s2. FitsRow (grant (shape_of v.layout) r2 s2) s2 f) (shape_of v.layout)
-    (λ f g r2 s2 same fits. FitsRow-along (grant (shape_of v.layout) r2 s2) s2 f g same fits)
-    rows (all_fit v rows placed valid) r s (FitsRow-start (shape_of v.layout) r s)
+-- what valid rows show fits
+pub FitsRow-shown : (shape : Shape) (rows : List Row) → AllPass (is_valid shape) rows → (r s : ℕ) → FitsRow (grant shape r s) s (shown_by shape rows r s)
+FitsRow-shown shape rows valid r s =
+    shown_as (λ f r2 s2. FitsRow (grant shape r2 s2) s2 f) shape
+    (λ f g r2 s2 same fits. FitsRow-along (grant shape r2 s2) s2 f g same fits)
+    rows (all_fit shape rows valid) r s (FitsRow-start shape r s)
+
+-- a placed row's record and site are there, and it has no counter of a site that is not
+pub placed_parts : (shape : Shape) (p : Row) → is_placed shape p ≡ true → (p.r < length shape.records) × ((p.s < length p.out) × (length p.out ≤ shape.sites))
+placed_parts shape p e =
+    let p0 = and_parts (ltb p.r (length shape.records)) (ltb p.s (length p.out) && leb (length p.out) shape.sites) e in
+    let p1 = and_parts (ltb p.s (length p.out)) (leb (length p.out) shape.sites) p0.1 in
+    (ltb-true p.r (length shape.records) p0.0, (ltb-true p.s (length p.out) p1.0, leb-true (length p.out) shape.sites p1.1))
 
 -- past the records, and past the sites, rows show no more than the start
-abbrev NoMore : View → (Cell → ℕ) → ℕ → ℕ → Type 0
-NoMore v f r s = (cell : Cell) → (length v.layout.records ≤ r → f cell ≤ start_counter (shape_of v.layout) r s cell)
+abbrev NoMore : Shape → (Cell → ℕ) → ℕ → ℕ → Type 0
+NoMore shape f r s =
+    (cell : Cell) → (length shape.records ≤ r) ⊎ (shape.sites ≤ s) → f cell ≤ start_counter shape r s cell
 
-NoMore-along : (v : View) (f g : Cell → ℕ) (r s : ℕ) → ((cell : Cell) → g cell ≡ f cell) → NoMore v f r s → NoMore v g r s
-NoMore-along v f g r s same more cell past = omega (arith, same cell, more cell past)
+NoMore-along : (shape : Shape) (f g : Cell → ℕ) (r s : ℕ) → ((cell : Cell) → g cell ≡ f cell) → NoMore shape f r s → NoMore shape g r s
+NoMore-along shape f g r s same more cell past = omega (arith, same cell, more cell past)
 
-all_NoMore : (v : View) (rows : List Row) → AllPass (is_placed v) rows → AllByRecursion (λ p. NoMore v (counter_in (counters_of p)) p.r p.s) rows
-all_NoMore v [] placed = tt
-all_NoMore v (p ∷ ps) placed =
-    let p0 = and_parts (ltb p.r (length v.layout.records)) (ltb p.s v.sites && eqb (length p.out) v.sites) placed.0 in
-    let there = ltb-true p.r (length v.layout.records) p0.0 in
-    ((λ cell past. absurd (omega arith)), all_NoMore v ps placed.1)
+placed_NoMore : (shape : Shape) (p : Row) → is_placed shape p ≡ true → NoMore shape (counter_in (counters_of p)) p.r p.s
+placed_NoMore shape p placed cell (inl past) = let parts = placed_parts shape p placed in absurd (omega (arith, parts.0))
+placed_NoMore shape p placed cell (inr past) =
+    let parts = placed_parts shape p placed in absurd (omega (arith, parts.1.0, parts.1.1))
 
-pub shown_past_records : (v : View) (rows : List Row) → AllPass (is_placed v) rows → (r s : ℕ) (cell : Cell) → length v.layout.records ≤ r → shown_by (shape_of v.layout) rows r s cell ≤ start_counter (shape_of v.layout) r s cell
-shown_past_records v rows placed r s cell past =
-    shown_as (NoMore v) (shape_of v.layout) (NoMore-along v) rows (all_NoMore v rows placed) r s (λ c p. omega arith) cell past
+all_NoMore : (shape : Shape) (rows : List Row) → AllPass (is_placed shape) rows → AllByRecursion (λ p. NoMore shape (counter_in (counters_of p)) p.r p.s) rows
+all_NoMore shape [] placed = tt
+all_NoMore shape (p ∷ ps) placed = (placed_NoMore shape p placed.0, all_NoMore shape ps placed.1)
 
-abbrev NoneBeyond : View → (Cell → ℕ) → ℕ → ℕ → Type 0
-NoneBeyond v f r s = (j : ℕ) → v.sites ≤ j → f (Out j) ≤ start_counter (shape_of v.layout) r s (Out j)
+shown_past : (shape : Shape) (rows : List Row) → AllPass (is_placed shape) rows → (r s : ℕ) → NoMore shape (shown_by shape rows r s) r s
+shown_past shape rows placed r s =
+    shown_as (NoMore shape) shape (NoMore-along shape) rows (all_NoMore shape rows placed) r s (λ c p. omega arith)
 
-NoneBeyond-along : (v : View) (f g : Cell → ℕ) (r s : ℕ) → ((cell : Cell) → g cell ≡ f cell) → NoneBeyond v f r s → NoneBeyond v g r s
-NoneBeyond-along v f g r s same more j past = omega (arith, same (Out j), more j past)
+pub shown_past_records : (shape : Shape) (rows : List Row) → AllPass (is_placed shape) rows → (r s : ℕ) (cell : Cell) → length shape.records ≤ r → shown_by shape rows r s cell ≤ start_counter shape r s cell
+shown_past_records shape rows placed r s cell past = shown_past shape rows placed r s cell (inl past)
 
-all_NoneBeyond : (v : View) (rows : List Row) → AllPass (is_placed v) rows → AllByRecursion (λ p. NoneBeyond v (counter_in (counters_of p)) p.r p.s) rows
-all_NoneBeyond v [] placed = tt
-all_NoneBeyond v (p ∷ ps) placed =
-    let p0 = and_parts (ltb p.r (length v.layout.records)) (ltb p.s v.sites && eqb (length p.out) v.sites) placed.0 in
-    let p1 = and_parts (ltb p.s v.sites) (eqb (length p.out) v.sites) p0.1 in
-    let all_sites = eqb-true (length p.out) v.sites p1.1 in
-    ((λ j past. omega (arith, get_or_past p.out j 0 (omega arith))), all_NoneBeyond v ps placed.1)
+pub shown_past_rows : (shape : Shape) (rows : List Row) → AllPass (is_placed shape) rows → (r s : ℕ) (cell : Cell) → shape.sites ≤ s → shown_by shape rows r s cell ≤ start_counter shape r s cell
+shown_past_rows shape rows placed r s cell past = shown_past shape rows placed r s cell (inr past)
 
-pub shown_past_sites : (v : View) (rows : List Row) → AllPass (is_placed v) rows → (r s j : ℕ) → v.sites ≤ j → shown_by (shape_of v.layout) rows r s (Out j) ≤ start_counter (shape_of v.layout) r s (Out j)
-shown_past_sites v rows placed r s j past =
-    shown_as (NoneBeyond v) (shape_of v.layout) (NoneBeyond-along v) rows (all_NoneBeyond v rows placed) r s (λ k p. omega arith) j past
+abbrev NoneBeyond : Shape → (Cell → ℕ) → ℕ → ℕ → Type 0
+NoneBeyond shape f r s = (j : ℕ) → shape.sites ≤ j → f (Out j) ≤ start_counter shape r s (Out j)
+
+NoneBeyond-along : (shape : Shape) (f g : Cell → ℕ) (r s : ℕ) → ((cell : Cell) → g cell ≡ f cell) → NoneBeyond shape f r s → NoneBeyond shape g r s
+NoneBeyond-along shape f g r s same more j past = omega (arith, same (Out j), more j past)
+
+all_NoneBeyond : (shape : Shape) (rows : List Row) → AllPass (is_placed shape) rows → AllByRecursion (λ p. NoneBeyond shape (counter_in (counters_of p)) p.r p.s) rows
+all_NoneBeyond shape [] placed = tt
+all_NoneBeyond shape (p ∷ ps) placed =
+    let parts = placed_parts shape p placed.0 in
+    ((λ j past. omega (arith, parts.1.1, get_or_past p.out j 0 (omega (arith, parts.1.1)))), all_NoneBeyond shape ps placed.1)
+
+pub shown_past_sites : (shape : Shape) (rows : List Row) → AllPass (is_placed shape) rows → (r s j : ℕ) → shape.sites ≤ j → shown_by shape rows r s (Out j) ≤ start_counter shape r s (Out j)
+shown_past_sites shape rows placed r s j past =
+    shown_as (NoneBeyond shape) shape (NoneBeyond-along shape) rows (all_NoneBeyond shape rows placed) r s (λ k p. omega arith) j past
+
+-- what rows show depends on a shape's records alone
+pub shown_same : (shape other : Shape) → shape.records ≡ other.records → (rows : List Row) (r s : ℕ) (cell : Cell) → shown_by shape rows r s cell ≡ shown_by other rows r s cell
+shown_same shape other same [] r s cell = ap (λ records. start_counter (record { sites = 0; records = records }) r s cell) same
+shown_same shape other same (p ∷ ps) r s cell =
+    ap (λ x. cond (eqb p.r r && eqb p.s s) (counter_in (counters_of p) cell) x) (shown_same shape other same ps r s cell)
+
+-- a layout has as many records as its shape
+pub records_number : (layout : LayoutState) → length (shape_of layout).records ≡ length layout.records
+records_number layout = length-map layout.records record_shape

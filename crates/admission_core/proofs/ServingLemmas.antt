@@ -1,8 +1,8 @@
 -- Every step keeps counters and sessions in agreement.
-use Rattle.std.proofs.Common.{◌≡◌, ℕ, ◌+◌, ◌<◌, ◌≤◌, ◌⊎◌, inl, inr, true, false, List, [], ◌∷◌, length, Option, Some, None, refl, sym, ap, subst, ◌∙◌, arith}
+use Rattle.std.proofs.Common.{◌≡◌, ℕ, ◌+◌, ◌<◌, ◌≤◌, ◌⊎◌, inl, inr, true, false, leb, List, [], ◌∷◌, length, Option, Some, None, refl, sym, ap, subst, ◌∙◌, arith}
 use Rattle.std.specs.Prelude.{is_none}
-use Rattle.std.proofs.lemmas.Bool.{cases_Bool, eqb-false, ltb-false, leb-false, cond-true, cond-false}
-use Rattle.merge_core.specs.declared.cell.Cell.TheVariants.{Out, Taken, Ann}
+use Rattle.std.proofs.lemmas.Bool.{cases_Bool, cond_both, leb-true, eqb-false, ltb-false, leb-false, cond-true, cond-false}
+use Rattle.merge_core.specs.declared.cell.Cell.TheVariants.{Out, Taken, Ann, Fin}
 use Rattle.grow_counters.specs.Counts.{counter_limit}
 use Rattle.admission_core.specs.declared.ask.Ask.{Ask}
 use Rattle.admission_core.specs.declared.ask.Ask.TheVariants.{Read, Announce, Quill, Leave, Give, Help}
@@ -12,18 +12,21 @@ use Rattle.admission_core.specs.declared.ask.Phase.{Phase}
 use Rattle.admission_core.specs.declared.ask.Phase.TheVariants.{Reader, Waiting, Writer}
 use Rattle.admission_core.specs.declared.reply.Plan.{Plan}
 use Rattle.admission_core.specs.declared.reply.Refusal.{Refusal}
-use Rattle.admission_core.specs.Account.{Account, EnteredRead, GaveSeats, sites_of, seats_in, phase_of}
-use Rattle.admission_core.specs.Knowledge.{known, hears}
+use Rattle.admission_core.specs.Account.{Account, EnteredRead, GaveSeats, layout_of, seats_in, phase_of}
+use Rattle.admission_core.specs.Knowledge.{known, hears, grown}
 use Rattle.admission_core.specs.View.{view_of, rights_of, plan_of}
-use Rattle.admission_core.specs.Merging.{is_placed, is_valid, first_failing, first_ahead}
-use Rattle.admission_core.specs.Replies.{Line, first_reason, is_not_announced, is_writer, planned, ask_lines, merge_lines, read_lines, give_lines, help_lines}
-use Rattle.admission_core.specs.Serving.{advanced, unless_refused, after, Step, Serves, Restarts, after_step, replay}
+use Rattle.merge_core.specs.Layout.{shape_of}
+use Rattle.writer_notices.specs.Notices.{most_writers}
+use Rattle.merge_core.specs.Tests.{is_placed, is_valid, first_failing}
+use Rattle.admission_core.specs.Merging.{first_ahead}
+use Rattle.admission_core.specs.Replies.{Line, first_reason, holder_limit, is_not_announced, is_writer, planned, ask_lines, merge_lines, read_lines, give_lines, help_lines}
+use Rattle.admission_core.specs.Serving.{advanced, unless_refused, after, Step, Serves, Restarts, Grows, after_step, replay}
 use Rattle.admission_core.specs.Sound.{IsSound}
 use Rattle.admission_core.proofs.CounterLemmas.{known_own, does}
 use Rattle.admission_core.proofs.StepLemmas.{sound_read, sound_announce, sound_write, sound_leave, sound_give}
 use Rattle.admission_core.proofs.RowLemmas.{none_of, AllPass-from}
 use Rattle.admission_core.proofs.LeastLemmas.{plan_of-fits}
-use Rattle.admission_core.proofs.HeardLemmas.{sound_hears, sound_restarted}
+use Rattle.admission_core.proofs.HeardLemmas.{sound_hears, sound_restarted, sound_grown}
 
 -- no line applies
 abbrev pub Clear : List Line → Type 0
@@ -64,13 +67,13 @@ at_least_one n e = omega arith
 
 clear_read : (a : Account) (r h : ℕ) → IsSound a → Clear (read_lines (view_of a) r h) → IsSound (does (EnteredRead r h) a)
 clear_read a r h sound clear =
-    sound_read a r h sound (leb-false (length a.origin.layout.records) r clear.0) (none_of (phase_of a r h) clear.1.1.0)
+    sound_read a r h sound (leb-false (length a.origin.layout.records) r clear.0) (ltb-false holder_limit h clear.1.0) (none_of (phase_of a r h) clear.1.1.0)
     (omega (arith, known_own a r Taken, ltb-false counter_limit (known a r a.origin.site Taken + 1) clear.1.1.1.0))
     (at_least_one (rights_of (view_of a) r) (eqb-false (rights_of (view_of a) r) 0 clear.1.1.1.1.1.0))
 
 clear_give : (a : Account) (r to seats : ℕ) → IsSound a → Clear (give_lines (view_of a) r to seats) → IsSound (does (GaveSeats r to seats) a)
 clear_give a r to seats sound clear =
-    sound_give a r to seats sound (leb-false (sites_of a.origin) to clear.1.0) (eqb-false to a.origin.site clear.1.1.0)
+    sound_give a r to seats sound (leb-false (a.sites) to clear.1.0) (eqb-false to a.origin.site clear.1.1.0)
     (omega (arith, known_own a r (Out to), ltb-false counter_limit (known a r a.origin.site (Out to) + seats) clear.1.1.1.1.0))
     (ltb-false (rights_of (view_of a) r) seats clear.1.1.1.1.1.0)
 
@@ -84,7 +87,7 @@ clear_help a r sound clear =
     let to : (planned (plan_of (view_of a) r)).to ≡ p.to = ap (λ (q : Plan). q.to) is in
     let seats : (planned (plan_of (view_of a) r)).seats ≡ p.seats = ap (λ (q : Plan). q.seats) is in
     sound_give a r (planned (plan_of (view_of a) r)).to (planned (plan_of (view_of a) r)).seats sound
-    (subst (λ (x : ℕ). x < sites_of a.origin) (sym to) feasible.there)
+    (subst (λ (x : ℕ). x < a.sites) (sym to) feasible.there)
     (λ here. feasible.elsewhere (sym to ∙ here))
     (omega (arith, room, known_own a r (Out (planned (plan_of (view_of a) r)).to)))
     (subst (λ (x : ℕ). x ≤ rights_of (view_of a) r) (sym seats) feasible.enough)
@@ -92,8 +95,9 @@ clear_help a r sound clear =
 clear_ask : (a : Account) (ask : Ask) → IsSound a → Clear (ask_lines (view_of a) ask) → IsSound (advanced a (Asks ask))
 clear_ask a (Read r h) sound clear = clear_read a r h sound clear
 clear_ask a (Announce r h) sound clear =
-    sound_announce a r h sound (leb-false (length a.origin.layout.records) r clear.0) (none_of (phase_of a r h) clear.1.1.0)
+    sound_announce a r h sound (leb-false (length a.origin.layout.records) r clear.0) (ltb-false holder_limit h clear.1.0) (none_of (phase_of a r h) clear.1.1.0)
     (omega (arith, known_own a r Ann, ltb-false counter_limit (known a r a.origin.site Ann + 1) clear.1.1.1.0))
+    (omega (arith, known_own a r Ann, known_own a r Fin, leb-false (known a r a.origin.site Fin + most_writers) (known a r a.origin.site Ann) clear.1.1.1.1.0))
 clear_ask a (Quill r h) sound clear =
     let seats = seats_in a.origin.layout r in
     sound_write a r h sound (waits (phase_of a r h) clear.1.1.0 clear.1.1.1.0)
@@ -111,19 +115,22 @@ sound_after a (Asks ask) sound =
 sound_after a (Merge delta) sound =
     first_both (λ o. IsSound (unless_refused o a (hears a delta.rows))) (merge_lines (view_of a) delta) (λ x. sound)
     (λ clear. sound_hears a delta.rows sound
-    (AllPass-from (is_placed (view_of a)) delta.rows (none_of (first_failing (is_placed (view_of a)) delta.rows) clear.0))
-    (AllPass-from (is_valid (view_of a)) delta.rows (none_of (first_failing (is_valid (view_of a)) delta.rows) clear.1.0))
+    (AllPass-from (is_placed (shape_of (layout_of a))) delta.rows (none_of (first_failing (is_placed (shape_of (layout_of a))) delta.rows) clear.0))
+    (AllPass-from (is_valid (shape_of (layout_of a))) delta.rows (none_of (first_failing (is_valid (shape_of (layout_of a))) delta.rows) clear.1.0))
     (none_of (first_ahead (view_of a) delta.rows) clear.1.1.0))
 sound_after a Tell sound = sound
 
 pub sound_after_step : (a : Account) (step : Step) → IsSound a → IsSound (after_step a step)
 sound_after_step a (Serves call) sound = sound_after a call sound
 sound_after_step a Restarts sound = sound_restarted a sound
+sound_after_step a (Grows n) sound =
+    cond_both (leb a.sites n) (grown n a) a IsSound (λ e. sound_grown a n (leb-true a.sites n e) sound) (λ e. sound)
 
 pub sound_replay : (a : Account) (steps : List Step) → IsSound a → IsSound (replay a steps)
 sound_replay a [] sound = sound
 sound_replay a (step ∷ steps) sound = sound_after_step (replay a steps) step (sound_replay a steps sound)
 
+-- a call keeps where the account began, and how many sites it knows
 pub origin_after : (a : Account) (call : Call) → (after a call).origin ≡ a.origin
 origin_after a (Asks ask) =
     first_both (λ o. (unless_refused o a (advanced a (Asks ask))).origin ≡ a.origin) (ask_lines (view_of a) ask) (λ x. refl) (λ clear. refl)
@@ -131,7 +138,25 @@ origin_after a (Merge delta) =
     first_both (λ o. (unless_refused o a (hears a delta.rows)).origin ≡ a.origin) (merge_lines (view_of a) delta) (λ x. refl) (λ clear. refl)
 origin_after a Tell = refl
 
+pub sites_after : (a : Account) (call : Call) → (after a call).sites ≡ a.sites
+sites_after a (Asks ask) =
+    first_both (λ o. (unless_refused o a (advanced a (Asks ask))).sites ≡ a.sites) (ask_lines (view_of a) ask) (λ x. refl) (λ clear. refl)
+sites_after a (Merge delta) =
+    first_both (λ o. (unless_refused o a (hears a delta.rows)).sites ≡ a.sites) (merge_lines (view_of a) delta) (λ x. refl) (λ clear. refl)
+sites_after a Tell = refl
+
+pub origin_after_step : (a : Account) (step : Step) → (after_step a step).origin ≡ a.origin
+origin_after_step a (Serves call) = origin_after a call
+origin_after_step a Restarts = refl
+origin_after_step a (Grows n) = cond_both (leb a.sites n) (grown n a) a (λ b. b.origin ≡ a.origin) (λ e. refl) (λ e. refl)
+
 pub origin_replay : (a : Account) (steps : List Step) → (replay a steps).origin ≡ a.origin
 origin_replay a [] = refl
-origin_replay a (Serves call ∷ steps) = origin_after (replay a steps) call ∙ origin_replay a steps
-origin_replay a (Restarts ∷ steps) = origin_replay a steps
+origin_replay a (step ∷ steps) = origin_after_step (replay a steps) step ∙ origin_replay a steps
+
+-- a step never lessens the number of sites
+pub sites_grow : (a : Account) (step : Step) → a.sites ≤ (after_step a step).sites
+sites_grow a (Serves call) = omega (arith, sites_after a call)
+sites_grow a Restarts = omega arith
+sites_grow a (Grows n) =
+    cond_both (leb a.sites n) (grown n a) a (λ b. a.sites ≤ b.sites) (λ e. leb-true a.sites n e) (λ e. omega arith)

@@ -3,6 +3,7 @@ use Rattle.std.proofs.Common.{◌≡◌, ℕ, ◌+◌, ◌<◌, ◌≤◌, ◌�
 use Rattle.std.proofs.lemmas.Bool.{eq-eqb, cond-true, cond-false, cases_Bool, and_from}
 use Rattle.admission_core.specs.declared.ask.Phase.{Phase}
 use Rattle.admission_core.specs.Account.{Key, Session, is_key, without, with_phase, present, on_phase, session_total, occurs}
+use Rattle.admission_core.specs.Replies.{holder_limit}
 use Rattle.admission_core.proofs.SumLemmas.{eqb_comm}
 use Rattle.admission_core.proofs.KeyLemmas.{keys_total, AgreeBut, is_key-true, keys_listed, keys_without, keys_push}
 
@@ -163,3 +164,14 @@ IsAmong-changes n r0 h0 new phase below among r h p there = at (cases_Bool (is_k
     at : (is_key r0 h0 r h ≡ true) ⊎ (is_key r0 h0 r h ≡ false) → r < n
     at (inl e) = let same : r0 ≡ r = (is_key-true r0 h0 r h e).0 in omega arith
     at (inr e) = among r h p (sym (cond-false (is_key r0 h0 r h) new (phase r h) e) ∙ there)
+
+-- every present session is of a holder within its limit
+abbrev pub AreHolders : (ℕ → ℕ → Option Phase) → Type 0
+AreHolders phase = (r h : ℕ) (p : Phase) → phase r h ≡ Some p → h ≤ holder_limit
+
+pub AreHolders-changes : (r0 h0 : ℕ) (new : Option Phase) (phase : ℕ → ℕ → Option Phase) → h0 ≤ holder_limit → AreHolders phase → AreHolders (changed r0 h0 new phase)
+AreHolders-changes r0 h0 new phase below held r h p there = at (cases_Bool (is_key r0 h0 r h))
+  where
+    at : (is_key r0 h0 r h ≡ true) ⊎ (is_key r0 h0 r h ≡ false) → h ≤ holder_limit
+    at (inl e) = let same : h0 ≡ h = (is_key-true r0 h0 r h e).1 in omega arith
+    at (inr e) = held r h p (sym (cond-false (is_key r0 h0 r h) new (phase r h) e) ∙ there)

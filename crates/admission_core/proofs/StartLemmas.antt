@@ -2,23 +2,26 @@
 use Rattle.std.proofs.Common.{◌≡◌, ℕ, ◌<◌, ◌≤◌, ◌⊎◌, inl, inr, [], length, get_or, refl, ap, arith}
 use Rattle.std.proofs.lemmas.Bool.{cases_lt}
 use Rattle.std.proofs.lemmas.List.{get_or_past, get_or-map, length-map}
+use Rattle.merge_core.specs.declared.cell.Cell.{Cell}
 use Rattle.merge_core.specs.declared.cell.Cell.TheVariants.{Out}
+use Rattle.admission_core.specs.Knowledge.{told}
 use Rattle.merge_core.specs.declared.layout.RecordSpec.{RecordSpec}
 use Rattle.merge_core.specs.Layout.{LayoutState, IsLayout, RecordShape, shape_of, record_shape}
 use Rattle.merge_core.specs.Rows.{grant, start_counter, no_record}
-use Rattle.admission_core.specs.Sums.{total}
+use Rattle.merge_core.specs.Sums.{total}
 use Rattle.admission_core.specs.Account.{start_origin, begin, seats_in}
 use Rattle.admission_core.specs.Sound.{IsSound}
 use Rattle.admission_core.proofs.SumLemmas.{total_only, total_others_same, total_others_zero}
 use Rattle.admission_core.proofs.CounterLemmas.{spent_own}
 use Rattle.admission_core.proofs.RowLemmas.{FitsRow-start, start_diagonal, start_elsewhere}
-use Rattle.admission_core.proofs.HeardLemmas.{FitsRow-kept, kept_yes, kept_row}
+use Rattle.admission_core.proofs.HeardLemmas.{FitsRow-kept, kept_yes, kept_row, kept_most}
 
 pub sound_start : (layout : LayoutState) (i : ℕ) → i < layout.sites → IsSound (begin (start_origin layout i))
 sound_start layout i below = record {
   site_there = below;
   listed_once = λ r h p there. cc;
   record_there = λ r h p there. cc;
+  holder_there = λ r h p there. cc;
   balanced = λ r. record {
     affordable = omega (
       arith,
@@ -28,11 +31,20 @@ sound_start layout i below = record {
     );
     seats = omega (arith, start_diagonal (shape_of layout) r i);
     writers = refl;
+    few_writers = omega arith;
     fits = FitsRow-start (shape_of layout) r i;
   };
   told_fits = λ r s. FitsRow-kept (start_origin layout i) (start_counter (shape_of layout)) r s (FitsRow-start (shape_of layout) r s);
   told_after_done = λ r cell. omega (arith, kept_yes (start_origin layout i) (start_counter (shape_of layout)) r i cell (kept_row i cell));
+  no_others = record {
+    none_sent = λ r j past. start_elsewhere (shape_of layout) r i j (λ e. absurd (omega arith));
+    none_told = λ r s cell past. none r s cell;
+    none_told_sent = λ r s j past. none r s (Out j);
+  };
 }
+  where
+    none : (r s : ℕ) (cell : Cell) → told (begin (start_origin layout i)) r s cell ≤ start_counter (shape_of layout) r s cell
+    none r s cell = kept_most (start_origin layout i) (start_counter (shape_of layout)) r s cell (omega arith)
 
 -- the record's shape, whether it is there or not
 pub shape_at : (layout : LayoutState) (r : ℕ) (d : RecordSpec) → r < length layout.records → get_or (shape_of layout).records r no_record ≡ record_shape (get_or layout.records r d)

@@ -1,7 +1,7 @@
 -- Laws of sums over sites.
 use Rattle.std.proofs.Common.{◌≡◌, ◌≢◌, ℕ, zero, suc, ◌+◌, ◌<◌, ◌≤◌, ◌⊎◌, inl, inr, true, false, cond, eqb, refl, sym, ap, ◌∙◌, arith}
 use Rattle.std.proofs.lemmas.Bool.{cases_eq, eq-eqb, ne_eqb, cond-true, cond-false, cases_Bool}
-use Rattle.admission_core.specs.Sums.{total, total_others}
+use Rattle.merge_core.specs.Sums.{total, total_others}
 
 pub total_same : (n : ℕ) (f g : ℕ → ℕ) → ((j : ℕ) → j < n → f j ≡ g j) → total n f ≡ total n g
 total_same zero f g h = refl
@@ -129,3 +129,22 @@ total_others_zero n i f h = total_zero n (λ j. cond (eqb j i) 0 (f j)) (λ j be
     at : (j : ℕ) → (eqb j i ≡ true) ⊎ (eqb j i ≡ false) → cond (eqb j i) 0 (f j) ≡ 0
     at j (inl e) = cond-true (eqb j i) 0 (f j) e
     at j (inr e) = cond-false (eqb j i) 0 (f j) e ∙ h j
+
+-- a sum over more numbers, at which nothing is added
+pub total_more : (n m : ℕ) (f : ℕ → ℕ) → n ≤ m → ((j : ℕ) → n ≤ j → f j ≡ 0) → total m f ≡ total n f
+total_more n zero f more none = let same : n ≡ 0 = omega arith in ap (λ k. total k f) (sym same)
+total_more n (suc m) f more none = at (cases_eq n (suc m)) (total_more n m f)
+  where
+    at : (n ≡ suc m) ⊎ (n ≡ suc m → ⊥) → (n ≤ m → ((j : ℕ) → n ≤ j → f j ≡ 0) → total m f ≡ total n f) → total (suc m) f ≡ total n f
+    at (inl e) earlier = ap (λ k. total k f) (sym e)
+    at (inr ne) earlier =
+        let lower : n ≤ m = omega arith in
+        omega (arith, earlier lower none, none m lower)
+
+-- the same of the others
+pub total_others_more : (n m i : ℕ) (f : ℕ → ℕ) → n ≤ m → ((j : ℕ) → n ≤ j → j ≢ i → f j ≡ 0) → total_others m i f ≡ total_others n i f
+total_others_more n m i f more none = total_more n m (λ j. cond (eqb j i) 0 (f j)) more (λ j past. at j past (cases_eq j i))
+  where
+    at : (j : ℕ) → n ≤ j → (j ≡ i) ⊎ (j ≡ i → ⊥) → cond (eqb j i) 0 (f j) ≡ 0
+    at j past (inl e) = cond-true (eqb j i) 0 (f j) (eq-eqb j i e)
+    at j past (inr ne) = cond-false (eqb j i) 0 (f j) (ne_eqb j i ne) ∙ none j past ne

@@ -4,7 +4,7 @@ use Rattle.std.specs.Prelude.{ℕ, ◌+◌, ◌==◌, Bool, ◌&&◌, List, [], 
 use Rattle.merge_core.specs.declared.cell.Cell.{Cell}
 use Rattle.merge_core.specs.declared.cell.Cell.TheVariants.{Out, Taken, Ann, Fin}
 use Rattle.merge_core.specs.declared.delta.Row.{Row}
-use Rattle.merge_core.specs.Layout.{LayoutState, shape_of}
+use Rattle.merge_core.specs.Layout.{LayoutState, shape_of, at_sites}
 use Rattle.merge_core.specs.Rows.{start_counter, no_record}
 use Rattle.admission_core.specs.declared.ask.Phase.{Phase}
 use Rattle.admission_core.specs.declared.ask.Phase.TheVariants.{Reader, Waiting, Writer}
@@ -33,21 +33,22 @@ pub data Heard : Type 0 where
   Merged : (rows : List Row) → Heard
   Restarted : Heard
 
--- where an account begins: the layout that the site knows, its number, and its durable part
+-- where an account begins: the layout that the site knows then, its number, and its durable part
 pub record Origin : Type 0 where
   pub layout : LayoutState
   pub site : ℕ
   pub base : DurablePart
 
--- an account; both lists stand newest first
+-- an account: where it began, how many sites it knows by now, and what was done and heard, newest first
 pub record Account : Type 0 where
   pub origin : Origin
+  pub sites : ℕ
   pub done : List Operation
   pub heard : List Heard
 
--- how many sites the account knows; everything below asks for it here
-abbrev pub sites_of : Origin → ℕ
-sites_of o = o.layout.sites
+-- the layout that the account knows by now: growth adds sites, and changes no record
+abbrev pub layout_of : Account → LayoutState
+layout_of a = at_sites a.sites a.origin.layout
 
 -- the seats of a record; one that is not there has none
 abbrev pub seats_in : LayoutState → ℕ → ℕ
@@ -60,7 +61,7 @@ start_origin layout i =
 
 -- the account that begins there
 abbrev pub begin : Origin → Account
-begin o = record { origin = o; done = []; heard = [] }
+begin o = record { origin = o; sites = o.layout.sites; done = []; heard = [] }
 
 -- Seats taken at a record (the weights of readers and writers are the project's own: the value that the
 -- bounded counter of Balegas et al., 2015, keeps from falling below 0 is the number of free seats)
@@ -153,24 +154,24 @@ record_of (EnteredWrite r h) = r
 record_of (LeftRecord r h) = r
 record_of (GaveSeats r to seats) = r
 
--- By how much an operation raises a counter of the site's own row at its record, given the phases before
--- it: entering takes seats, leaving gives them back on the diagonal, a hand-over counts for its receiver (the
--- bounded counter's decrement, increment and transfer, Balegas et al., 2015); a writer is counted when it
--- announces itself and when it leaves.
-abbrev pub rise_of : Origin → (ℕ → ℕ → Option Phase) → Operation → Cell → ℕ
-rise_of o phase (EnteredRead r h) Taken = weight (seats_in o.layout r) Reader
-rise_of o phase (EnteredWrite r h) Taken = weight (seats_in o.layout r) Writer
-rise_of o phase (LeftRecord r h) (Out j) = if j == o.site then on_phase (weight (seats_in o.layout r)) (phase r h) else 0
-rise_of o phase (LeftRecord r h) Fin = on_phase writers (phase r h)
-rise_of o phase (AnnouncedWriter r h) Ann = 1
-rise_of o phase (GaveSeats r to seats) (Out j) = if j == to then seats else 0
-rise_of o phase operation cell = 0
+-- By how much an operation raises a counter of its site's own row at its record, given the seats of records,
+-- the site, and the phases before it: entering takes seats, leaving gives them back on the diagonal, a
+-- hand-over counts for its receiver (the bounded counter's decrement, increment and transfer, Balegas et al.,
+-- 2015); a writer is counted when it announces itself and when it leaves.
+abbrev pub rise_of : (ℕ → ℕ) → ℕ → (ℕ → ℕ → Option Phase) → Operation → Cell → ℕ
+rise_of seats site phase (EnteredRead r h) Taken = weight (seats r) Reader
+rise_of seats site phase (EnteredWrite r h) Taken = weight (seats r) Writer
+rise_of seats site phase (LeftRecord r h) (Out j) = if j == site then on_phase (weight (seats r)) (phase r h) else 0
+rise_of seats site phase (LeftRecord r h) Fin = on_phase writers (phase r h)
+rise_of seats site phase (AnnouncedWriter r h) Ann = 1
+rise_of seats site phase (GaveSeats r to n) (Out j) = if j == to then n else 0
+rise_of seats site phase operation cell = 0
 
 -- the counters of the site's own row: those that it began with, and what its operations added
 abbrev pub own_after : Origin → List Operation → ℕ → Cell → ℕ
 own_after o [] r cell = o.base.counters r o.site cell
 own_after o (operation ∷ done) r cell =
-    own_after o done r cell + (if record_of operation == r then rise_of o (phase_after o done) operation cell else 0)
+    own_after o done r cell + (if record_of operation == r then rise_of (seats_in o.layout) o.site (phase_after o done) operation cell else 0)
 
 -- the phase of a holder at a record, of an account
 abbrev pub phase_of : Account → ℕ → ℕ → Option Phase

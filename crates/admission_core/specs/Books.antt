@@ -7,6 +7,5 @@ use Rattle.admission_core.specs.View.{View}
 
 -- a view shows what a book names: its layout has the book's shape, and its counters are the book's
 pub record ShowsBook (b : BookState) (v : View) : Type 0 where
-  pub sites : v.sites ≡ b.sites
   pub shape : shape_of v.layout ≡ book_shape b
   pub counters : (r s : ℕ) (cell : Cell) → v.counter r s cell ≡ counter_of b r s cell

@@ -4,7 +4,7 @@
 use Rattle.std.specs.Prelude.{◌≡◌, ℕ, ◌==◌, ◌⊎◌, max, IsTrue, List, [], ◌∷◌, if◌then◌else◌}
 use Rattle.merge_core.specs.declared.cell.Cell.{Cell}
 use Rattle.merge_core.specs.declared.delta.Row.{Row}
-use Rattle.merge_core.specs.Layout.{shape_of}
+use Rattle.merge_core.specs.Layout.{shape_of, at_sites}
 use Rattle.merge_core.specs.Rows.{start_counter}
 use Rattle.merge_core.specs.Changes.{keeps_counter}
 use Rattle.merge_core.specs.Naming.{shown_by, ReachesUnit, RowsName}
@@ -57,10 +57,14 @@ hears_all a (rows ∷ deltas) = hears (hears_all a deltas) rows
 abbrev pub restarted : Account → Account
 restarted a = record a { heard = Restarted ∷ a.heard }
 
+-- the site was started again under its layout with n sites
+abbrev pub grown : ℕ → Account → Account
+grown n a = record a { sites = n; heard = Restarted ∷ a.heard }
+
 -- what a stop leaves of the site: what a restart keeps, and the sessions in order
 abbrev pub durable_part : Account → DurablePart
 durable_part a = record { counters = kept_or_start a.origin (known a); sessions = sessions_of a }
 
--- where the site begins again from what a stop left
-abbrev pub resumed : Account → Origin
-resumed a = record { layout = a.origin.layout; site = a.origin.site; base = durable_part a }
+-- where the site begins from what a stop left, under its layout with n sites
+abbrev pub resumed : ℕ → Account → Origin
+resumed n a = record { layout = at_sites n a.origin.layout; site = a.origin.site; base = durable_part a }

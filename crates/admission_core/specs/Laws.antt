@@ -8,9 +8,9 @@ use Rattle.grow_counters.specs.Counts.{counter_limit}
 use Rattle.merge_core.specs.Rows.{grant}
 use Rattle.merge_core.specs.Naming.{ReachesUnit, RowsName}
 use Rattle.admission_core.specs.declared.reply.Plan.{Plan}
-use Rattle.admission_core.specs.Sums.{total_others}
-use Rattle.admission_core.specs.Account.{Account, begin, sites_of, own, inside, writers_here, phase_of, sessions_of}
-use Rattle.admission_core.specs.Knowledge.{known, KnowsUnit, durable_part, resumed, restarted}
+use Rattle.merge_core.specs.Sums.{total_others}
+use Rattle.admission_core.specs.Account.{Account, DurablePart, Session, layout_of, own, inside, writers_here, phase_of, sessions_of}
+use Rattle.admission_core.specs.Knowledge.{known, KnowsUnit}
 use Rattle.admission_core.specs.View.{View, view_of, rights_of}
 use Rattle.admission_core.specs.Replies.{holder_limit}
 
@@ -20,10 +20,10 @@ CountsUnits a = (r s : ℕ) (cell : Cell) (k : ℕ) → ReachesUnit (known a r s
 
 -- seats that the site knows it was sent, and seats that it gave away
 abbrev pub received : Account → ℕ → ℕ
-received a r = total_others (sites_of a.origin) a.origin.site (λ j. known a r j (Out a.origin.site))
+received a r = total_others a.sites a.origin.site (λ j. known a r j (Out a.origin.site))
 
 abbrev pub given : Account → ℕ → ℕ
-given a r = total_others (sites_of a.origin) a.origin.site (λ j. own a r (Out j))
+given a r = total_others a.sites a.origin.site (λ j. own a r (Out j))
 
 -- The rights counted by sessions are the bounded counter's formula over the known counters; the seats
 -- inside are those taken and not left; announced and not finished are the writers that wait or write.
@@ -48,7 +48,7 @@ NameTheSame shape first second = (r s : ℕ) (cell : Cell) (k : ℕ) → NamedBy
 
 -- s is the least site that shows an unfinished writer
 pub record IsFirstUnfinished (v : View) (r s : ℕ) : Type 0 where
-  pub there : s < v.sites
+  pub there : s < v.layout.sites
   pub unfinished : v.counter r s Fin < v.counter r s Ann
   pub least : (t : ℕ) → t < s → v.counter r t Ann ≤ v.counter r t Fin
 
@@ -61,7 +61,7 @@ pub record MayAsk (v : View) (r h : ℕ) : Type 0 where
 
 -- a plan sends seats to another site of the layout, and no more than the site has rights to
 pub record IsFeasible (v : View) (r : ℕ) (plan : Plan) : Type 0 where
-  pub there : plan.to < v.sites
+  pub there : plan.to < v.layout.sites
   pub elsewhere : plan.to ≢ v.site
   pub some : 0 < plan.seats
   pub enough : plan.seats ≤ rights_of v r
@@ -69,20 +69,24 @@ pub record IsFeasible (v : View) (r : ℕ) (plan : Plan) : Type 0 where
 -- two views that differ in notices alone
 pub record DifferInNotices (v w : View) : Type 0 where
   pub layout : w.layout ≡ v.layout
-  pub sites : w.sites ≡ v.sites
   pub site : w.site ≡ v.site
   pub phase : (r h : ℕ) → w.phase r h ≡ v.phase r h
   pub outs : (r s j : ℕ) → w.counter r s (Out j) ≡ v.counter r s (Out j)
   pub takens : (r s : ℕ) → w.counter r s Taken ≡ v.counter r s Taken
 
--- the account that begins from what a stop left is the restarted one
-pub record IsResumed (a : Account) : Type 0 where
-  pub phases : (r h : ℕ) → phase_of (begin (resumed a)) r h ≡ phase_of (restarted a) r h
-  pub sessions : sessions_of (begin (resumed a)) ≡ sessions_of (restarted a)
-  pub owns : (r : ℕ) (cell : Cell) → own (begin (resumed a)) r cell ≡ own (restarted a) r cell
-  pub counters : (r s : ℕ) (cell : Cell) → known (begin (resumed a)) r s cell ≡ known (restarted a) r s cell
+-- an account shows a site's layout, number, phases, order of sessions and counters: all that a site decides by
+pub record StandsFor (v : View) (order : List Session) (a : Account) : Type 0 where
+  pub layout : v.layout ≡ layout_of a
+  pub site : v.site ≡ a.origin.site
+  pub phases : (r h : ℕ) → v.phase r h ≡ phase_of a r h
+  pub order_kept : order ≡ sessions_of a
+  pub counters : (r s : ℕ) (cell : Cell) → v.counter r s cell ≡ known a r s cell
 
--- a restart changes nothing of what a stop leaves
-pub record KeepsDurable (a : Account) : Type 0 where
-  pub counters : (r s : ℕ) (cell : Cell) → (durable_part (restarted a)).counters r s cell ≡ (durable_part a).counters r s cell
-  pub sessions : (durable_part (restarted a)).sessions ≡ (durable_part a).sessions
+-- two accounts show the same
+abbrev pub ShowTheSame : Account → Account → Type 0
+ShowTheSame a b = StandsFor (view_of a) (sessions_of a) b
+
+-- two durable parts hold the same
+pub record KeepTheSame (p q : DurablePart) : Type 0 where
+  pub counters : (r s : ℕ) (cell : Cell) → p.counters r s cell ≡ q.counters r s cell
+  pub sessions : p.sessions ≡ q.sessions

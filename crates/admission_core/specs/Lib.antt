@@ -1,4 +1,3 @@
-pub mod Sums
 pub mod Account
 pub mod Knowledge
 pub mod View
@@ -6,5 +5,7 @@ pub mod Merging
 pub mod Replies
 pub mod Sound
 pub mod Serving
+pub mod Order
+pub mod Reached
 pub mod Laws
 pub mod Books

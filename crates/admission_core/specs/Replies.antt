@@ -15,7 +15,9 @@ use Rattle.admission_core.specs.declared.reply.Refusal.{Refusal}
 use Rattle.admission_core.specs.declared.reply.Refusal.TheVariants.{NoRecord, BadHolder, AlreadyHere, CounterFull, WriterAnnounced, NoSeat, TooManyWriters, NotAnnounced, AlreadyInside, MissingSeats, NotHere, NoSite, ToSelf, ZeroSeats, TooFewRights, NoPlan, OtherLayout, BadRow, OwnRowAhead}
 use Rattle.admission_core.specs.Account.{seats_in}
 use Rattle.admission_core.specs.View.{View, problem_in, rights_of, first_unfinished, plan_of}
-use Rattle.admission_core.specs.Merging.{is_placed, is_valid, first_failing, first_ahead}
+use Rattle.merge_core.specs.Layout.{shape_of}
+use Rattle.merge_core.specs.Tests.{is_placed, is_valid, first_failing}
+use Rattle.admission_core.specs.Merging.{first_ahead}
 
 -- a line of the table: where the test is true, the call is refused
 pub record Line : Type 0 where
@@ -105,7 +107,7 @@ leave_lines v r h =
 abbrev pub give_lines : View → ℕ → ℕ → ℕ → List Line
 give_lines v r to seats =
     line (no_record_there v r) NoRecord
-    ∷ line (nat_le v.sites to) NoSite
+    ∷ line (nat_le v.layout.sites to) NoSite
     ∷ line (to == v.site) ToSelf
     ∷ line (seats == 0) ZeroSeats
     ∷ line (nat_lt counter_limit (v.counter r v.site (Out to) + seats)) CounterFull
@@ -124,8 +126,10 @@ help_lines v r =
 -- a delta is merged: all of its rows, or none
 abbrev pub merge_lines : View → DeltaState → List Line
 merge_lines v d =
-    line (is_some (first_failing (is_placed v) d.rows)) (OtherLayout (unwrap_or (first_failing (is_placed v) d.rows) 0))
-    ∷ line (is_some (first_failing (is_valid v) d.rows)) (BadRow (unwrap_or (first_failing (is_valid v) d.rows) 0))
+    let misplaced = first_failing (is_placed (shape_of v.layout)) d.rows in
+    let invalid = first_failing (is_valid (shape_of v.layout)) d.rows in
+    line (is_some misplaced) (OtherLayout (unwrap_or misplaced 0))
+    ∷ line (is_some invalid) (BadRow (unwrap_or invalid 0))
     ∷ line (is_some (first_ahead v d.rows)) (OwnRowAhead (unwrap_or (first_ahead v d.rows) 0))
     ∷ []
 

@@ -1,5 +1,5 @@
 -- One step of a site: its reply, and the account after it.
-use Rattle.std.specs.Prelude.{◌+◌, List, [], ◌∷◌, Option, Some, None}
+use Rattle.std.specs.Prelude.{ℕ, ◌+◌, nat_le, if◌then◌else◌, List, [], ◌∷◌, Option, Some, None}
 use Rattle.merge_core.specs.declared.cell.Cell.TheVariants.{Ann}
 use Rattle.admission_core.specs.declared.ask.Ask.{Ask}
 use Rattle.admission_core.specs.declared.ask.Ask.TheVariants.{Read, Announce, Quill, Leave, Give, Help}
@@ -11,9 +11,11 @@ use Rattle.admission_core.specs.declared.reply.Refusal.TheVariants.{NotHere}
 use Rattle.admission_core.specs.declared.reply.Reply.{Reply}
 use Rattle.admission_core.specs.declared.reply.Reply.TheVariants.{Admitted, Announced, Left, Given, Gave, Merged as Joined, Snapshot as Told, Refused}
 use Rattle.admission_core.specs.Account.{Account, Operation, EnteredRead, AnnouncedWriter, EnteredWrite, LeftRecord, GaveSeats}
-use Rattle.admission_core.specs.Knowledge.{hears, restarted}
+use Rattle.admission_core.specs.Knowledge.{hears, restarted, grown}
 use Rattle.admission_core.specs.View.{View, view_of, plan_of}
-use Rattle.admission_core.specs.Merging.{raised_by, snapshot_of}
+use Rattle.merge_core.specs.Layout.{shape_of}
+use Rattle.merge_core.specs.Moved.{raised_by}
+use Rattle.admission_core.specs.Merging.{snapshot_of}
 use Rattle.admission_core.specs.Replies.{first_reason, ask_lines, merge_lines, planned}
 
 -- why a call is refused, if it is
@@ -35,7 +37,7 @@ answer v (Asks (Quill r h)) = Admitted
 answer v (Asks (Leave r h)) = left_reply (v.phase r h)
 answer v (Asks (Give r to seats)) = Given
 answer v (Asks (Help r)) = let plan = planned (plan_of v r) in Gave plan.to plan.seats
-answer v (Merge delta) = Joined (raised_by v delta.rows)
+answer v (Merge delta) = Joined (raised_by (shape_of v.layout) v.counter delta.rows)
 answer v Tell = Told (snapshot_of v)
 
 -- the operation that an ask is, where nothing refuses it; carrying out the plan is a hand-over
@@ -71,15 +73,17 @@ reply_of v call = replied (reason v call) (answer v call)
 abbrev pub after : Account → Call → Account
 after a call = unless_refused (reason (view_of a) call) a (advanced a call)
 
--- what happens at one site: it serves a call, or is started again
+-- what happens at one site: it serves a call, is started again, or is started again with n sites
 pub data Step : Type 0 where
   Serves : (call : Call) → Step
   Restarts : Step
+  Grows : (n : ℕ) → Step
 
--- the account after a step
+-- the account after a step; a site never knows fewer sites than before
 abbrev pub after_step : Account → Step → Account
 after_step a (Serves call) = after a call
 after_step a Restarts = restarted a
+after_step a (Grows n) = if nat_le a.sites n then grown n a else a
 
 -- the account after a list of steps, newest first
 abbrev pub replay : Account → List Step → Account

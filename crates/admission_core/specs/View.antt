@@ -7,14 +7,13 @@ use Rattle.merge_core.specs.declared.cell.Cell.TheVariants.{Out, Taken, Ann, Fin
 use Rattle.merge_core.specs.Layout.{LayoutState}
 use Rattle.admission_core.specs.declared.ask.Phase.{Phase}
 use Rattle.admission_core.specs.declared.reply.Plan.{Plan}
-use Rattle.admission_core.specs.Sums.{total, total_others, least_below}
-use Rattle.admission_core.specs.Account.{Account, sites_of, seats_in, phase_of}
+use Rattle.merge_core.specs.Sums.{total, total_others, least_below}
+use Rattle.admission_core.specs.Account.{Account, layout_of, seats_in, phase_of}
 use Rattle.admission_core.specs.Knowledge.{known}
 
 -- what a site shows of itself
 pub record View : Type 0 where
   pub layout : LayoutState
-  pub sites : ℕ
   pub site : ℕ
   pub phase : ℕ → ℕ → Option Phase
   pub counter : ℕ → ℕ → Cell → ℕ
@@ -22,8 +21,7 @@ pub record View : Type 0 where
 -- what an account shows
 abbrev pub view_of : Account → View
 view_of a = record {
-  layout = a.origin.layout;
-  sites = sites_of a.origin;
+  layout = layout_of a;
   site = a.origin.site;
   phase = phase_of a;
   counter = known a;
@@ -36,11 +34,11 @@ problem_in layout r =
 
 -- The rights of a site (Balegas et al., 2015): its increments, grant included, and the rights moved to it ..
 abbrev pub gained : View → ℕ → ℕ
-gained v r = total v.sites (λ j. v.counter r j (Out v.site))
+gained v r = total v.layout.sites (λ j. v.counter r j (Out v.site))
 
 -- .. less the rights it moved away and the units it took
 abbrev pub spent : View → ℕ → ℕ
-spent v r = total_others v.sites v.site (λ j. v.counter r v.site (Out j)) + v.counter r v.site Taken
+spent v r = total_others v.layout.sites v.site (λ j. v.counter r v.site (Out j)) + v.counter r v.site Taken
 
 -- .. are what is left to it
 abbrev pub rights_of : View → ℕ → ℕ
@@ -52,7 +50,7 @@ shows_writer v r s = nat_lt (v.counter r s Fin) (v.counter r s Ann)
 
 -- the least such site
 abbrev pub first_unfinished : View → ℕ → Option ℕ
-first_unfinished v r = least_below v.sites (shows_writer v r)
+first_unfinished v r = least_below v.layout.sites (shows_writer v r)
 
 -- the seats of a record, shared out evenly over the sites and rounded up
 abbrev pub fair_share : ℕ → ℕ → ℕ
@@ -68,8 +66,8 @@ abbrev pub plan_for : View → ℕ → Option ℕ → Option Plan
 plan_for v r (Some w) =
     if (w == v.site) || (rights_of v r == 0) then None else Some (record { to = w; seats = rights_of v r })
 plan_for v r None =
-    if nat_le 2 v.sites && nat_lt (fair_share (seats_in v.layout r) v.sites) (rights_of v r)
-    then Some (record { to = next_site v.sites v.site; seats = rights_of v r - fair_share (seats_in v.layout r) v.sites })
+    if nat_le 2 v.layout.sites && nat_lt (fair_share (seats_in v.layout r) v.layout.sites) (rights_of v r)
+    then Some (record { to = next_site v.layout.sites v.site; seats = rights_of v r - fair_share (seats_in v.layout r) v.layout.sites })
     else None
 
 -- the plan of a site for a record, if it has one

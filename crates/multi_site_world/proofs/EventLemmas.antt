@@ -1,33 +1,41 @@
 -- Every event keeps a world sound, and the start is sound.
-use Rattle.std.proofs.Common.{◌≡◌, ℕ, zero, suc, ◌<◌, ◌≤◌, ◌⊎◌, inl, inr, max, ltb, List, [], ◌∷◌, ◌++◌, length, get_or, Option, Some, None, refl, sym, ap, subst, ◌∙◌, arith}
+use Rattle.std.proofs.Common.{◌≡◌, ℕ, zero, suc, ◌<◌, ◌≤◌, ◌⊎◌, inl, inr, max, min, ltb, List, [], ◌∷◌, ◌++◌, length, map, get_or, Option, Some, None, refl, sym, ap, subst, ◌∙◌, arith}
 use Rattle.std.specs.Prelude.{slice_get}
 use Rattle.std.specs.List.{AllByRecursion}
-use Rattle.std.proofs.lemmas.List.{length-append, get_or_append_left, get_or_push, get_or_past}
+use Rattle.std.proofs.lemmas.List.{length-append, get_or_append_left, get_or_push}
+use Rattle.std.proofs.lemmas.Option.{same_Some}
 use Rattle.std.proofs.lemmas.Bool.{cases_eq, cases_lt, cond_both, ltb-true}
 use Rattle.merge_core.specs.declared.cell.Cell.{Cell}
 use Rattle.merge_core.specs.Delta.{DeltaState}
-use Rattle.merge_core.specs.Layout.{LayoutState, IsLayout, shape_of}
-use Rattle.merge_core.specs.Rows.{grant, start_counter}
+use Rattle.merge_core.specs.declared.layout.RecordSpec.{RecordSpec}
+use Rattle.merge_core.specs.Layout.{LayoutState, IsLayout, Shape, shape_of, record_shape, at_sites}
+use Rattle.merge_core.specs.Rows.{grant, start_counter, counter_in, counters_of}
 use Rattle.merge_core.specs.Naming.{shown_by}
 use Rattle.admission_core.specs.declared.ask.Ask.{Ask}
 use Rattle.admission_core.specs.declared.ask.Call.TheVariants.{Ask as Asks, Merge}
-use Rattle.admission_core.specs.Account.{Account, begin, start_origin, sites_of, own}
+use Rattle.admission_core.specs.Account.{Account, begin, start_origin, layout_of, own}
 use Rattle.merge_core.specs.Changes.{keeps_counter}
-use Rattle.admission_core.specs.Knowledge.{told_after, told, known, hears, restarted}
+use Rattle.admission_core.specs.Knowledge.{told_after, told, known, hears, restarted, grown}
 use Rattle.admission_core.specs.View.{view_of}
-use Rattle.admission_core.specs.Merging.{row_of, snapshot_of}
+use Rattle.merge_core.specs.Moved.{told_row}
+use Rattle.admission_core.specs.Replies.{merge_lines}
+use Rattle.admission_core.specs.Merging.{snapshot_of}
 use Rattle.admission_core.specs.Serving.{unless_refused, after}
 use Rattle.admission_core.specs.Sound.{FitsRow, IsSound}
 use Rattle.admission_core.proofs.CounterLemmas.{known_own, known_other}
 use Rattle.admission_core.proofs.RowLemmas.{start_below}
-use Rattle.admission_core.proofs.HeardLemmas.{sound_restarted, known_fits}
-use Rattle.admission_core.proofs.ServingLemmas.{sound_after, origin_after}
+use Rattle.admission_core.proofs.HeardLemmas.{sound_grown, known_fits, kept_most}
+use Rattle.admission_core.proofs.ServingLemmas.{first_both, sound_after, origin_after, sites_after}
 use Rattle.admission_core.proofs.StartLemmas.{sound_start}
-use Rattle.admission_core.proofs.MessageLemmas.{row_of-below, row_of-tellable, all_told}
+use Rattle.admission_core.proofs.ToldLemmas.{told_row-below, told_row-tellable, told_row-wide, all_told}
+use Rattle.admission_core.proofs.SnapshotLemmas.{told_apart}
+use Rattle.admission_core.proofs.ThinLemmas.{all_thin}
 use Rattle.multi_site_world.specs.declared.event.Event.{Event}
-use Rattle.multi_site_world.specs.declared.event.Event.TheVariants.{Call, Send, Take, Restart}
-use Rattle.multi_site_world.specs.World.{World, account_at, first_accounts, start_world, world_taken, world_here, place_of, happens, run}
-use Rattle.multi_site_world.proofs.WorldLemmas.{own_grows, told_by_ask, IsSentRow, IsMessage, IsSoundWorld, IsNext, sound_with, shown_done, message_accepted}
+use Rattle.multi_site_world.specs.declared.event.Event.TheVariants.{Call, Send, Take, Thin, Restart, Grow}
+use Rattle.multi_site_world.specs.World.{World, account_at, with_account, first_layout, first_account, first_accounts, start_world, world_taken, thin, thin_message, world_grown, world_here, place_of, happens, run}
+use Rattle.multi_site_world.specs.Laws.{IsReachedWorld}
+use Rattle.multi_site_world.proofs.FamilyLemmas.{row_fits, same_start, same_grant}
+use Rattle.multi_site_world.proofs.WorldLemmas.{own_grows, told_by_ask, IsSentRow, AreSentRows, IsMessage, IsSoundWorld, IsNext, sound_with, shown_done_here}
 
 next_call : (w : World) (i : ℕ) (ask : Ask) → IsSoundWorld w → i < w.layout.sites → IsNext w i (after (account_at w i) (Asks ask))
 next_call w i ask sound below =
@@ -36,6 +44,7 @@ next_call w i ask sound below =
     record {
       sound = sound_after a (Asks ask) (sound.family.sound i below);
       same_origin = origin_after a (Asks ask);
+      few_sites = omega (arith, sites_after a (Asks ask), sound.family.few_sites i below);
       more = own_grows a (Asks ask);
       told_done = λ j there r cell.
           let same : told b r j cell ≡ told a r j cell =
@@ -43,28 +52,27 @@ next_call w i ask sound below =
           omega (arith, sound.told_done i j below there r cell);
     }
 
-next_heard : (w : World) (i : ℕ) (delta : DeltaState) → IsSoundWorld w → i < w.layout.sites → IsMessage w.layout (account_at w) delta → IsNext w i (after (account_at w i) (Merge delta))
-next_heard w i delta sound below message =
+next_heard : (w : World) (i : ℕ) (delta : DeltaState) → IsSoundWorld w → i < w.layout.sites → AreSentRows w.layout (account_at w) delta.rows → IsNext w i (after (account_at w i) (Merge delta))
+next_heard w i delta sound below sent =
     let a = account_at w i in
-    let heard : after a (Merge delta) ≡ hears a delta.rows = ap (λ o. unless_refused o a (hears a delta.rows)) (message_accepted w i delta sound below message) in
     record {
       sound = sound_after a (Merge delta) (sound.family.sound i below);
       same_origin = origin_after a (Merge delta);
+      few_sites = omega (arith, sites_after a (Merge delta), sound.family.few_sites i below);
       more = own_grows a (Merge delta);
       told_done = λ j there r cell.
-          let now : told (after a (Merge delta)) r j cell ≡ max (told a r j cell) (shown_by (shape_of a.origin.layout) delta.rows r j cell) =
-          ap (λ b. told b r j cell) heard in
-          let shown : shown_by (shape_of a.origin.layout) delta.rows r j cell ≡ shown_by (shape_of w.layout) delta.rows r j cell =
-          ap (λ l. shown_by (shape_of l) delta.rows r j cell) (sound.family.same_layout i below) in
-          omega (arith, sound.told_done i j below there r cell, shown_done w delta sound message j there r cell);
+          first_both (λ o. told (unless_refused o a (hears a delta.rows)) r j cell ≤ own (account_at w j) r cell) (merge_lines (view_of a) delta)
+          (λ x. sound.told_done i j below there r cell)
+          (λ clear. omega (arith, sound.told_done i j below there r cell, shown_done_here w i delta.rows sound below sent j there r cell));
     }
 
-next_restart : (w : World) (i : ℕ) → IsSoundWorld w → i < w.layout.sites → IsNext w i (restarted (account_at w i))
-next_restart w i sound below =
+next_grown : (w : World) (i n : ℕ) → IsSoundWorld w → i < w.layout.sites → (account_at w i).sites ≤ n → n ≤ w.layout.sites → IsNext w i (grown n (account_at w i))
+next_grown w i n sound below more few =
     let a = account_at w i in
     record {
-      sound = sound_restarted a (sound.family.sound i below);
+      sound = sound_grown a n more (sound.family.sound i below);
       same_origin = refl;
+      few_sites = few;
       more = λ r cell. omega arith;
       told_done = λ j there r cell.
           cond_both (keeps_counter a.origin.site j cell) (told a r j cell) (start_counter (shape_of a.origin.layout) r j cell) (λ x. x ≤ own (account_at w j) r cell)
@@ -74,10 +82,14 @@ next_restart w i sound below =
   where
     start_done : (j : ℕ) → j < w.layout.sites → (r : ℕ) (cell : Cell) → start_counter (shape_of (account_at w i).origin.layout) r j cell ≤ own (account_at w j) r cell
     start_done j there r cell =
-        start_below (shape_of (account_at w i).origin.layout) r j (own (account_at w j) r)
-        (subst (λ (l : LayoutState). FitsRow (grant (shape_of l) r j) j (own (account_at w j) r)) (sound.family.same_layout j there ∙ sym (sound.family.same_layout i below))
-        (subst (λ (x : ℕ). FitsRow (grant (shape_of (account_at w j).origin.layout) r x) x (own (account_at w j) r)) (sound.family.same_site j there)
-        ((sound.family.sound j there).balanced r).fits)) cell
+        omega (
+          arith,
+          same_start (account_at w i).origin.layout w.layout (sound.family.same_records i below) r j cell,
+          start_below (shape_of w.layout) r j (own (account_at w j) r) (row_fits w.layout (account_at w) sound.family j there r) cell,
+        )
+
+next_restart : (w : World) (i : ℕ) → IsSoundWorld w → i < w.layout.sites → IsNext w i (restarted (account_at w i))
+next_restart w i sound below = next_grown w i (account_at w i).sites sound below (omega arith) (sound.family.few_sites i below)
 
 -- known counters were done by their sites
 pub known_done : (w : World) (i j : ℕ) → IsSoundWorld w → i < w.layout.sites → j < w.layout.sites → (r : ℕ) (cell : Cell) → known (account_at w i) r j cell ≤ own (account_at w j) r cell
@@ -93,22 +105,34 @@ known_done w i j sound below there r cell = at (cases_eq j i)
         omega (arith, known_other (account_at w i) r j cell (λ e. ne (e ∙ sound.family.same_site i below)), sound.told_done i j below there r cell)
 
 snapshot_sent : (w : World) (i : ℕ) → IsSoundWorld w → i < w.layout.sites → IsMessage w.layout (account_at w) (snapshot_of (view_of (account_at w i)))
-snapshot_sent w i sound below =
-    let a = account_at w i in
-    subst (λ (l : LayoutState). AllByRecursion (IsSentRow l (account_at w)) (snapshot_of (view_of a)).rows) (sound.family.same_layout i below)
-    (all_told (IsSentRow a.origin.layout (account_at w)) (view_of a) (length a.origin.layout.records) told_row)
+snapshot_sent w i sound below = record {
+  rows = all_told (IsSentRow w.layout (account_at w)) shape (known a) (length shape.records) sent_row;
+  width = a.sites;
+  same_width = all_told (λ p. length p.out ≡ a.sites) shape (known a) (length shape.records) (λ r s record_there site_there. told_row-wide a.sites (known a) r s);
+  apart = λ r s. told_apart shape (known a) r s (length shape.records);
+}
   where
-    told_row : (r s : ℕ) → r < length (account_at w i).origin.layout.records → s < sites_of (account_at w i).origin → IsSentRow (account_at w i).origin.layout (account_at w) (row_of (view_of (account_at w i)) r s)
-    told_row r s record_there site_there =
-        let a = account_at w i in
-        let tellable = row_of-tellable (view_of a) r s record_there site_there (known_fits a (sound.family.sound i below) r s) in
-        let there : s < w.layout.sites = subst (λ (l : LayoutState). s < l.sites) (sound.family.same_layout i below) site_there in
+    a : Account
+    a = account_at w i
+
+    shape : Shape
+    shape = shape_of (layout_of (account_at w i))
+
+    same : (account_at w i).origin.layout.records ≡ w.layout.records
+    same = sound.family.same_records i below
+
+    sent_row : (r s : ℕ) → r < length (shape_of (layout_of (account_at w i))).records → s < (account_at w i).sites → IsSentRow w.layout (account_at w) (told_row (account_at w i).sites (known (account_at w i)) r s)
+    sent_row r s record_there site_there =
+        let b = account_at w i in
+        let tellable = told_row-tellable (shape_of (layout_of b)) (known b) r s record_there site_there (known_fits b (sound.family.sound i below) r s) in
+        let few = sound.family.few_sites i below in
+        let there : s < w.layout.sites = omega (arith, few) in
         record {
-          record_there = record_there;
-          site_there = site_there;
-          all_sites = tellable.all_sites;
-          fits = tellable.fits;
-          done = λ cell. omega (arith, row_of-below (view_of a) r s cell, known_done w i s sound below there r cell);
+          record_there = subst (λ (records : List RecordSpec). r < length (map record_shape records)) same record_there;
+          site_there = tellable.site_there;
+          few_sites = omega (arith, few, tellable.few_sites);
+          fits = subst (λ (x : ℕ). FitsRow x s (counter_in (counters_of (told_row b.sites (known b) r s)))) (same_grant b.origin.layout w.layout same r s) tellable.fits;
+          done = λ cell. omega (arith, told_row-below b.sites (known b) r s cell, known_done w i s sound below there r cell);
         }
 
 push_message : (P : DeltaState → Type 0) (xs : List DeltaState) (d : DeltaState) → AllByRecursion P xs → P d → AllByRecursion P (xs ++ d ∷ [])
@@ -119,7 +143,7 @@ sound_sent : (w : World) (i : ℕ) → IsSoundWorld w → i < w.layout.sites →
 sound_sent w i sound below = record {
   layout = sound.layout;
   number = sound.number;
-  family = record { sound = sound.family.sound; same_layout = sound.family.same_layout; same_site = sound.family.same_site };
+  family = record { sound = sound.family.sound; same_records = sound.family.same_records; same_site = sound.family.same_site; few_sites = sound.family.few_sites };
   told_done = sound.told_done;
   sent = push_message (IsMessage w.layout (account_at w)) w.sent (snapshot_of (view_of (account_at w i))) sound.sent (snapshot_sent w i sound below);
 }
@@ -129,17 +153,43 @@ message_at P [] k d all e = cc
 message_at P (x ∷ xs) zero d all e = let same : x ≡ d = cc in subst P same all.0
 message_at P (x ∷ xs) (suc k) d all e = message_at P xs k d all.1 e
 
-sound_taken : (w : World) (i k : ℕ) → IsSoundWorld w → i < w.layout.sites → (o : Option DeltaState) → slice_get w.sent k ≡ o → IsSoundWorld (world_taken w i o)
-sound_taken w i k sound below None e = sound
-sound_taken w i k sound below (Some delta) e =
-    sound_with w i (after (account_at w i) (Merge delta)) sound below
-    (next_heard w i delta sound below (message_at (IsMessage w.layout (account_at w)) w.sent k delta sound.sent e))
+-- a message that is there was sent
+pub message_there : (w : World) (k : ℕ) (delta : DeltaState) → IsSoundWorld w → slice_get w.sent k ≡ Some delta → IsMessage w.layout (account_at w) delta
+message_there w k delta sound e = message_at (IsMessage w.layout (account_at w)) w.sent k delta sound.sent e
+
+sound_taken : (w : World) (i : ℕ) → IsSoundWorld w → i < w.layout.sites → (o : Option DeltaState) → ((delta : DeltaState) → o ≡ Some delta → AreSentRows w.layout (account_at w) delta.rows) → IsSoundWorld (world_taken w i o)
+sound_taken w i sound below None sent = sound
+sound_taken w i sound below (Some delta) sent =
+    sound_with w i (after (account_at w i) (Merge delta)) sound below (next_heard w i delta sound below (sent delta refl))
+
+-- the rows of a thin message were sent
+pub thin_sent : (w : World) (o e : Option DeltaState) → ((delta : DeltaState) → o ≡ Some delta → AreSentRows w.layout (account_at w) delta.rows) → (delta : DeltaState) → thin_message o e ≡ Some delta → AreSentRows w.layout (account_at w) delta.rows
+thin_sent w None e sent delta is = none e is
+  where
+    none : (x : Option DeltaState) → thin_message None x ≡ Some delta → AreSentRows w.layout (account_at w) delta.rows
+    none None is = cc
+    none (Some d) is = cc
+thin_sent w (Some whole) None sent delta is = cc
+thin_sent w (Some whole) (Some earlier) sent delta is =
+    let same : thin whole earlier ≡ delta = same_Some (thin whole earlier) delta is in
+    subst (λ (d : DeltaState). AreSentRows w.layout (account_at w) d.rows) same
+    (all_thin (IsSentRow w.layout (account_at w)) whole.rows earlier.rows (sent whole refl))
+
+sound_grown_world : (w : World) (i : ℕ) → IsSoundWorld w → i < w.layout.sites → IsSoundWorld (world_grown w i)
+sound_grown_world w i sound below =
+    cond_both (ltb (account_at w i).sites w.layout.sites) (with_account w i (grown w.layout.sites (account_at w i))) w IsSoundWorld
+    (λ e. sound_with w i (grown w.layout.sites (account_at w i)) sound below (next_grown w i w.layout.sites sound below (sound.family.few_sites i below) (omega arith)))
+    (λ e. sound)
 
 sound_here : (w : World) (event : Event) → IsSoundWorld w → place_of event < w.layout.sites → IsSoundWorld (world_here w event)
 sound_here w (Call i ask) sound below = sound_with w i (after (account_at w i) (Asks ask)) sound below (next_call w i ask sound below)
 sound_here w (Send i) sound below = sound_sent w i sound below
-sound_here w (Take i k) sound below = sound_taken w i k sound below (slice_get w.sent k) refl
+sound_here w (Take i k) sound below = sound_taken w i sound below (slice_get w.sent k) (λ delta e. (message_there w k delta sound e).rows)
+sound_here w (Thin i k l) sound below =
+    sound_taken w i sound below (thin_message (slice_get w.sent k) (slice_get w.sent l))
+    (thin_sent w (slice_get w.sent k) (slice_get w.sent l) (λ delta e. (message_there w k delta sound e).rows))
 sound_here w (Restart i) sound below = sound_with w i (restarted (account_at w i)) sound below (next_restart w i sound below)
+sound_here w (Grow i) sound below = sound_grown_world w i sound below
 
 pub sound_happens : (w : World) (event : Event) → IsSoundWorld w → IsSoundWorld (happens w event)
 sound_happens w event sound =
@@ -151,47 +201,64 @@ pub sound_run : (events : List Event) (w : World) → IsSoundWorld w → IsSound
 sound_run [] w sound = sound
 sound_run (event ∷ events) w sound = sound_run events (happens w event) (sound_happens w event sound)
 
-length-first_accounts : (layout : LayoutState) (n : ℕ) → length (first_accounts layout n) ≡ n
-length-first_accounts layout zero = refl
-length-first_accounts layout (suc n) = omega (arith, length-append (first_accounts layout n) (begin (start_origin layout n) ∷ []), length-first_accounts layout n)
+length-first_accounts : (first : ℕ) (layout : LayoutState) (n : ℕ) → length (first_accounts first layout n) ≡ n
+length-first_accounts first layout zero = refl
+length-first_accounts first layout (suc n) =
+    omega (arith, length-append (first_accounts first layout n) (first_account first layout n ∷ []), length-first_accounts first layout n)
 
-first_account : (layout : LayoutState) (n i : ℕ) → get_or (first_accounts layout n) i (begin (start_origin layout i)) ≡ begin (start_origin layout i)
-first_account layout zero i = refl
-first_account layout (suc n) i = at (cases_eq i n) (cases_lt i n) (first_account layout n i)
+account_in : (first : ℕ) (layout : LayoutState) (n i : ℕ) (d : Account) → i < n → get_or (first_accounts first layout n) i d ≡ first_account first layout i
+account_in first layout zero i d below = absurd (omega arith)
+account_in first layout (suc n) i d below = at (cases_eq i n) (account_in first layout n i d)
   where
-    d : Account
-    d = begin (start_origin layout i)
+    at : (i ≡ n) ⊎ (i ≡ n → ⊥) → (i < n → get_or (first_accounts first layout n) i d ≡ first_account first layout i) → get_or (first_accounts first layout n ++ first_account first layout n ∷ []) i d ≡ first_account first layout i
+    at (inl e) earlier =
+        get_or_push (first_accounts first layout n) (first_account first layout n) d i (length-first_accounts first layout n ∙ sym e)
+        ∙ ap (first_account first layout) (sym e)
+    at (inr ne) earlier =
+        let lower : i < n = omega arith in
+        get_or_append_left (first_accounts first layout n) (first_account first layout n ∷ []) d i (omega (arith, length-first_accounts first layout n)) ∙ earlier lower
 
-    at : (i ≡ n) ⊎ (i ≡ n → ⊥) → (i < n) ⊎ (n ≤ i) → get_or (first_accounts layout n) i (begin (start_origin layout i)) ≡ begin (start_origin layout i) → get_or (first_accounts layout n ++ begin (start_origin layout n) ∷ []) i (begin (start_origin layout i)) ≡ begin (start_origin layout i)
-    at (inl e) other earlier =
-        get_or_push (first_accounts layout n) (begin (start_origin layout n)) (begin (start_origin layout i)) i (length-first_accounts layout n ∙ sym e)
-        ∙ ap (λ x. begin (start_origin layout x)) (sym e)
-    at (inr ne) (inl lower) earlier =
-        get_or_append_left (first_accounts layout n) (begin (start_origin layout n) ∷ []) (begin (start_origin layout i)) i (omega (arith, length-first_accounts layout n)) ∙ earlier
-    at (inr ne) (inr above) earlier =
-        get_or_past (first_accounts layout n ++ begin (start_origin layout n) ∷ []) i (begin (start_origin layout i))
-        (omega (arith, length-append (first_accounts layout n) (begin (start_origin layout n) ∷ []), length-first_accounts layout n))
+-- the layout that a site begins with: its site is there, and it has no more sites than the whole
+record IsFirst (layout : LayoutState) (i : ℕ) (l : LayoutState) : Type 0 where
+  pub records : l.records ≡ layout.records
+  pub site_there : i < l.sites
+  pub few_sites : l.sites ≤ layout.sites
 
-pub sound_start_world : (layout : LayoutState) → IsLayout layout → IsSoundWorld (start_world layout)
-sound_start_world layout is = record {
+is_first : (first : ℕ) (layout : LayoutState) (i : ℕ) → i < layout.sites → IsFirst layout i (first_layout first layout i)
+is_first first layout i below =
+    cond_both (ltb i first) (at_sites (min first layout.sites) layout) layout (IsFirst layout i)
+    (λ e. record { records = refl; site_there = omega (arith, ltb-true i first e); few_sites = omega arith })
+    (λ e. record { records = refl; site_there = below; few_sites = omega arith })
+
+pub sound_start_world : (first : ℕ) (layout : LayoutState) → IsLayout layout → IsSoundWorld (start_world first layout)
+sound_start_world first layout is = record {
   layout = is;
-  number = length-first_accounts layout layout.sites;
+  number = length-first_accounts first layout layout.sites;
   family = record {
-    sound = λ i below. subst IsSound (sym (first i)) (sound_start layout i below);
-    same_layout = λ i below. ap (λ (a : Account). a.origin.layout) (first i);
-    same_site = λ i below. ap (λ (a : Account). a.origin.site) (first i);
+    sound = λ i below. subst IsSound (sym (begins i below)) (sound_start (first_layout first layout i) i (is_first first layout i below).site_there);
+    same_records = λ i below. ap (λ (a : Account). a.origin.layout.records) (begins i below) ∙ (is_first first layout i below).records;
+    same_site = λ i below. ap (λ (a : Account). a.origin.site) (begins i below);
+    few_sites = λ i below. omega (arith, ap (λ (a : Account). a.sites) (begins i below), (is_first first layout i below).few_sites);
   };
   told_done = λ i j below there r cell.
-      let mine : told (account_at (start_world layout) i) r j cell ≡ told (begin (start_origin layout i)) r j cell = ap (λ a. told a r j cell) (first i) in
-      let done : own (account_at (start_world layout) j) r cell ≡ start_counter (shape_of layout) r j cell = ap (λ a. own a r cell) (first j) in
-      let low : told (begin (start_origin layout i)) r j cell ≤ start_counter (shape_of layout) r j cell =
-      cond_both (keeps_counter i j cell) (start_counter (shape_of layout) r j cell) (start_counter (shape_of layout) r j cell) (λ x. x ≤ start_counter (shape_of layout) r j cell) (λ e. omega arith) (λ e. omega arith) in
-      omega arith;
+      let mine : told (account_at (start_world first layout) i) r j cell ≡ told (first_account first layout i) r j cell = ap (λ a. told a r j cell) (begins i below) in
+      let done : own (account_at (start_world first layout) j) r cell ≡ start_counter (shape_of (first_layout first layout j)) r j cell = ap (λ a. own a r cell) (begins j there) in
+      let low : told (first_account first layout i) r j cell ≤ start_counter (shape_of (first_layout first layout i)) r j cell =
+      kept_most (start_origin (first_layout first layout i) i) (start_counter (shape_of (first_layout first layout i))) r j cell (omega arith) in
+      omega (
+        arith,
+        mine,
+        done,
+        low,
+        same_start (first_layout first layout i) layout (is_first first layout i below).records r j cell,
+        same_start (first_layout first layout j) layout (is_first first layout j there).records r j cell,
+      );
   sent = tt;
 }
   where
-    first : (i : ℕ) → account_at (start_world layout) i ≡ begin (start_origin layout i)
-    first i = first_account layout layout.sites i
+    begins : (i : ℕ) → i < layout.sites → account_at (start_world first layout) i ≡ first_account first layout i
+    begins i below = account_in first layout layout.sites i (begin (start_origin layout i)) below
 
-pub sound_reached : (layout : LayoutState) → IsLayout layout → (events : List Event) → IsSoundWorld (run events (start_world layout))
-sound_reached layout is events = sound_run events (start_world layout) (sound_start_world layout is)
+-- every reached world is sound
+pub sound_reached : (w : World) → IsReachedWorld w → IsSoundWorld w
+sound_reached w is = subst IsSoundWorld (sym is.reached) (sound_run is.events (start_world is.first is.whole) (sound_start_world is.first is.whole is.is_layout))

@@ -2,22 +2,19 @@
 use Rattle.std.proofs.Common.{◌≡◌, ◌≢◌, ℕ, ◌<◌, ◌≤◌, ◌⊎◌, inl, inr, true, false, cond, eqb, List, [], ◌∷◌, length, Option, Some, None, refl, sym, ap, subst, ◌∙◌, arith}
 use Rattle.std.proofs.lemmas.Bool.{cases_Bool, eqb-true, cond-true, cond-false, ne_eqb}
 use Rattle.merge_core.specs.declared.cell.Cell.TheVariants.{Out}
-use Rattle.merge_core.specs.Layout.{LayoutState, IsLayout}
 use Rattle.admission_core.specs.declared.ask.Phase.{Phase}
 use Rattle.admission_core.specs.declared.ask.Phase.TheVariants.{Reader, Waiting, Writer}
-use Rattle.admission_core.specs.Sums.{total_others}
+use Rattle.merge_core.specs.Sums.{total_others}
 use Rattle.admission_core.specs.Account.{Account, Key, seats_in, own, inside, phase_of, arrivals, weight, on_phase}
 use Rattle.admission_core.specs.Knowledge.{known}
 use Rattle.admission_core.specs.View.{view_of, rights_of}
 use Rattle.admission_core.proofs.SumLemmas.{total_member}
 use Rattle.admission_core.proofs.KeyLemmas.{keys_total}
 use Rattle.admission_core.proofs.SessionLemmas.{adds, sessions-keys}
-use Rattle.multi_site_world.specs.declared.event.Event.{Event}
-use Rattle.multi_site_world.specs.World.{World, account_at, start_world, run, replies}
-use Rattle.multi_site_world.specs.Laws.{in_flight, all_in_flight, IsInside, gathering, AreTheOthers, IsNeverFull, AreGathered, MayGather}
+use Rattle.multi_site_world.specs.World.{World, account_at, run, replies}
+use Rattle.multi_site_world.specs.Laws.{IsReachedWorld, in_flight, all_in_flight, IsInside, gathering, AreTheOthers, IsNeverFull, AreGathered, MayGather}
 use Rattle.multi_site_world.proofs.WorldLemmas.{IsSoundWorld}
 use Rattle.multi_site_world.proofs.EventLemmas.{sound_reached}
-use Rattle.multi_site_world.proofs.LawLemmas.{run_layout}
 use Rattle.multi_site_world.proofs.GatherLemmas.{IsGathering}
 use Rattle.multi_site_world.proofs.GatherSteps.{gather_all, gather_answers}
 
@@ -57,22 +54,15 @@ begins u r w sound may = record {
   sound = sound;
   record_there = may.record_there;
   site_there = may.site_there;
+  all_known = may.all_known;
   empty = λ i below. empty_inside (account_at u i) r (λ h. may.nobody_inside i h below);
   quiet = λ i j below there apart. no_flight (account_at u) u.layout.sites r i j may.nothing_in_flight below there apart;
   shown = may.least_writer;
 }
 
-pub gathers : (layout : LayoutState) → IsLayout layout → (events : List Event) (r w : ℕ) (others : List ℕ) → MayGather (run events (start_world layout)) r w → AreTheOthers layout.sites w others → IsNeverFull (replies (gathering r w (length (run events (start_world layout)).sent) others) (run events (start_world layout))) → rights_of (view_of (account_at (run (gathering r w (length (run events (start_world layout)).sent) others) (run events (start_world layout))) w)) r ≡ seats_in layout r
-gathers layout is events r w others may the never =
-    let u = run events (start_world layout) in
-    let same : u.layout ≡ layout = run_layout events (start_world layout) in
-    let those : AreTheOthers u.layout.sites w others = subst (λ (l : LayoutState). AreTheOthers l.sites w others) (sym same) the in
-    gather_all others u r w (begins u r w (sound_reached layout is events) may) those.others_alone never (λ j there not_w. inr (those.all_others j there not_w))
-    ∙ ap (λ (l : LayoutState). seats_in l r) same
+pub gathers : (u : World) → IsReachedWorld u → (r w : ℕ) (others : List ℕ) → MayGather u r w → AreTheOthers u.layout.sites w others → IsNeverFull (replies (gathering r w (length u.sent) others) u) → rights_of (view_of (account_at (run (gathering r w (length u.sent) others) u) w)) r ≡ seats_in u.layout r
+gathers u is r w others may the never =
+    gather_all others u r w (begins u r w (sound_reached u is) may) the.others_alone never (λ j there not_w. inr (the.all_others j there not_w))
 
-pub gathers_answered : (layout : LayoutState) → IsLayout layout → (events : List Event) (r w : ℕ) (others : List ℕ) → MayGather (run events (start_world layout)) r w → AreTheOthers layout.sites w others → IsNeverFull (replies (gathering r w (length (run events (start_world layout)).sent) others) (run events (start_world layout))) → AreGathered (replies (gathering r w (length (run events (start_world layout)).sent) others) (run events (start_world layout)))
-gathers_answered layout is events r w others may the never =
-    let u = run events (start_world layout) in
-    let same : u.layout ≡ layout = run_layout events (start_world layout) in
-    let those : AreTheOthers u.layout.sites w others = subst (λ (l : LayoutState). AreTheOthers l.sites w others) (sym same) the in
-    gather_answers others u r w (begins u r w (sound_reached layout is events) may) those.others_alone never
+pub gathers_answered : (u : World) → IsReachedWorld u → (r w : ℕ) (others : List ℕ) → MayGather u r w → AreTheOthers u.layout.sites w others → IsNeverFull (replies (gathering r w (length u.sent) others) u) → AreGathered (replies (gathering r w (length u.sent) others) u)
+gathers_answered u is r w others may the never = gather_answers others u r w (begins u r w (sound_reached u is) may) the.others_alone never

@@ -6,13 +6,14 @@ use Rattle.std.proofs.lemmas.Bool.{lt-ltb, cond-true}
 use Rattle.merge_core.specs.declared.cell.Cell.TheVariants.{Out}
 use Rattle.merge_core.specs.declared.delta.Row.{Row}
 use Rattle.merge_core.specs.Delta.{DeltaState}
-use Rattle.merge_core.specs.Layout.{LayoutState, shape_of}
+use Rattle.merge_core.specs.declared.layout.RecordSpec.{RecordSpec}
+use Rattle.merge_core.specs.Layout.{shape_of}
 use Rattle.merge_core.specs.Naming.{shown_by}
 use Rattle.admission_core.specs.declared.ask.Ask.TheVariants.{Help}
 use Rattle.admission_core.specs.declared.ask.Call.TheVariants.{Ask as Asks, Merge}
 use Rattle.admission_core.specs.declared.reply.Refusal.TheVariants.{CounterFull}
 use Rattle.admission_core.specs.declared.reply.Reply.TheVariants.{Refused}
-use Rattle.admission_core.specs.Account.{Account, Origin, own, inside}
+use Rattle.admission_core.specs.Account.{Account, Origin, layout_of, own, inside}
 use Rattle.admission_core.specs.Knowledge.{known, hears}
 use Rattle.admission_core.specs.View.{view_of}
 use Rattle.admission_core.specs.Merging.{snapshot_of}
@@ -23,16 +24,17 @@ use Rattle.admission_core.proofs.SnapshotLemmas.{snapshot_shows}
 use Rattle.admission_core.proofs.HelpLemmas.{IsHelped, helped}
 use Rattle.multi_site_world.specs.declared.event.Event.{Event}
 use Rattle.multi_site_world.specs.declared.event.Event.TheVariants.{Call, Send, Take}
-use Rattle.multi_site_world.specs.declared.event.WorldReply.TheVariants.{NoSite}
-use Rattle.multi_site_world.specs.World.{World, account_at, with_account, world_taken, world_here, reply_here, place_of, happens, world_reply}
-use Rattle.multi_site_world.proofs.WorldLemmas.{IsSoundWorld, IsMessage, same_account, other_account, message_accepted}
-use Rattle.multi_site_world.proofs.EventLemmas.{sound_happens, message_at}
+use Rattle.multi_site_world.specs.World.{World, account_at, with_account, world_taken, world_here, place_of, happens}
+use Rattle.multi_site_world.proofs.WorldLemmas.{IsSoundWorld, same_account, other_account, rows_accepted, all_narrow}
+use Rattle.multi_site_world.proofs.FamilyLemmas.{same_shown}
+use Rattle.multi_site_world.proofs.EventLemmas.{sound_happens, message_there}
 
 -- a world on the way to w having all seats of record r
 pub record IsGathering (u : World) (r w : ℕ) : Type 0 where
   pub sound : IsSoundWorld u
   pub record_there : r < length u.layout.records
   pub site_there : w < u.layout.sites
+  pub all_known : (account_at u w).sites ≡ u.layout.sites
   pub empty : (i : ℕ) → i < u.layout.sites → inside (account_at u i) r ≡ 0
   pub quiet : (i j : ℕ) → i < u.layout.sites → j < u.layout.sites → j ≢ i → own (account_at u j) r (Out i) ≤ known (account_at u i) r j (Out i)
   pub shown : (i : ℕ) → i < u.layout.sites → i ≢ w → IsFirstUnfinished (view_of (account_at u i)) r w
@@ -40,10 +42,6 @@ pub record IsGathering (u : World) (r w : ℕ) : Type 0 where
 happens_here : (u : World) (event : Event) → IsSoundWorld u → place_of event < u.layout.sites → happens u event ≡ world_here u event
 happens_here u event sound below =
     cond-true (ltb (place_of event) (length u.sites)) (world_here u event) u (lt-ltb (place_of event) (length u.sites) (omega (arith, sound.number)))
-
-pub reply_there : (u : World) (event : Event) → IsSoundWorld u → place_of event < u.layout.sites → world_reply u event ≡ reply_here u event
-reply_there u event sound below =
-    cond-true (ltb (place_of event) (length u.sites)) (reply_here u event) NoSite (lt-ltb (place_of event) (length u.sites) (omega (arith, sound.number)))
 
 last_message : (xs : List DeltaState) (d : DeltaState) → slice_get (xs ++ d ∷ []) (length xs) ≡ Some d
 last_message [] d = refl
@@ -141,26 +139,31 @@ is_handed u r w i g below apart not_full = record {
     helped_a : IsHelped (account_at u i) (helper u r i) r w
     helped_a =
         helped (account_at u i) r w (g.sound.family.sound i below)
-        (subst (λ (l : LayoutState). r < length l.records) (sym (g.sound.family.same_layout i below)) g.record_there)
+        (subst (λ (records : List RecordSpec). r < length records) (sym (g.sound.family.same_records i below)) g.record_there)
         (λ e. apart (sym (e ∙ same_site))) (g.shown i below apart) not_full
 
     accepted : reason (view_of (account_at (told_on u r i) w)) (Merge (snapshot_of (view_of (account_at (with_account u i (helper u r i)) i)))) ≡ None
     accepted =
         let sound_2 = sound_told_on u r i g.sound below in
-        message_accepted (told_on u r i) w (snapshot_of (view_of (account_at (with_account u i (helper u r i)) i))) sound_2 g.site_there
-        (message_at (IsMessage u.layout (account_at (told_on u r i))) (told_on u r i).sent (length u.sent) (snapshot_of (view_of (account_at (with_account u i (helper u r i)) i))) sound_2.sent (last_message u.sent (snapshot_of (view_of (account_at (with_account u i (helper u r i)) i)))))
+        let message = message_there (told_on u r i) (length u.sent) (snapshot_of (view_of (account_at (with_account u i (helper u r i)) i))) sound_2 (last_message u.sent (snapshot_of (view_of (account_at (with_account u i (helper u r i)) i)))) in
+        let all : (account_at (told_on u r i) w).sites ≡ u.layout.sites = ap (λ (c : Account). c.sites) (other_account u i w (helper u r i) (λ e. apart (sym e))) ∙ g.all_known in
+        rows_accepted (told_on u r i) w (snapshot_of (view_of (account_at (with_account u i (helper u r i)) i))) sound_2 g.site_there message.rows
+        (all_narrow (told_on u r i) w (snapshot_of (view_of (account_at (with_account u i (helper u r i)) i))).rows all message.rows)
 
-    same_layout : (helper u r i).origin.layout ≡ u.layout
-    same_layout = ap (λ (o : Origin). o.layout) helped_a.same_origin ∙ g.sound.family.same_layout i below
+    same_records : (helper u r i).origin.layout.records ≡ u.layout.records
+    same_records = ap (λ (o : Origin). o.layout.records) helped_a.same_origin ∙ g.sound.family.same_records i below
 
     shown : shown_by (shape_of u.layout) (snapshot_of (view_of (account_at (with_account u i (helper u r i)) i))).rows r i (Out w) ≡ own (helper u r i) r (Out w)
     shown =
+        let c = helper u r i in
         let v = view_of (helper u r i) in
         let site : (helper u r i).origin.site ≡ i = ap (λ (o : Origin). o.site) helped_a.same_origin ∙ same_site in
-        ap (λ c. shown_by (shape_of u.layout) (snapshot_of (view_of c)).rows r i (Out w)) helper_now
-        ∙ (ap (λ l. shown_by (shape_of l) (snapshot_of v).rows r i (Out w)) (sym same_layout)
+        let old = g.sound.family.sound i below in
+        let knows_w = g.shown i below apart in
+        ap (λ b. shown_by (shape_of u.layout) (snapshot_of (view_of b)).rows r i (Out w)) helper_now
+        ∙ (sym (same_shown (layout_of (helper u r i)) u.layout same_records (snapshot_of v).rows r i (Out w))
         ∙ (snapshot_shows v r i (Out w)
-        (subst (λ (l : LayoutState). r < length l.records) (sym same_layout) g.record_there)
-        (subst (λ (l : LayoutState). i < l.sites) (sym same_layout) below)
-        (subst (λ (l : LayoutState). w < l.sites) (sym same_layout) g.site_there)
+        (subst (λ (records : List RecordSpec). r < length records) (sym same_records) g.record_there)
+        (omega (arith, helped_a.same_sites, old.site_there, same_site))
+        (omega (arith, helped_a.same_sites, knows_w.there))
         ∙ (ap (λ x. known (helper u r i) r x (Out w)) (sym site) ∙ known_own (helper u r i) r (Out w))))

@@ -5,13 +5,14 @@ use Rattle.std.proofs.lemmas.List.{length-append}
 use Rattle.std.proofs.lemmas.Bool.{cases_eq, eq-eqb, ne_eqb, cond-true, cond-false}
 use Rattle.merge_core.specs.declared.cell.Cell.{Cell}
 use Rattle.merge_core.specs.declared.cell.Cell.TheVariants.{Out, Ann, Fin}
+use Rattle.merge_core.specs.declared.layout.RecordSpec.{RecordSpec}
 use Rattle.merge_core.specs.Layout.{LayoutState, shape_of}
 use Rattle.merge_core.specs.Naming.{shown_by}
 use Rattle.admission_core.specs.declared.ask.Ask.TheVariants.{Help}
 use Rattle.admission_core.specs.declared.ask.Call.TheVariants.{Ask as Asks}
 use Rattle.admission_core.specs.declared.reply.Refusal.TheVariants.{CounterFull, NoPlan}
 use Rattle.admission_core.specs.declared.reply.Reply.TheVariants.{Gave, Refused}
-use Rattle.admission_core.specs.Sums.{total_others}
+use Rattle.merge_core.specs.Sums.{total_others}
 use Rattle.admission_core.specs.Account.{Account, Origin, seats_in, own, inside}
 use Rattle.admission_core.specs.Knowledge.{known, told, told_after}
 use Rattle.admission_core.specs.View.{view_of, rights_of}
@@ -26,11 +27,11 @@ use Rattle.multi_site_world.specs.declared.event.WorldReply.{WorldReply}
 use Rattle.multi_site_world.specs.declared.event.WorldReply.TheVariants.{Core}
 use Rattle.multi_site_world.specs.World.{World, account_at, with_account, happens, world_reply, run, replies}
 use Rattle.multi_site_world.specs.Laws.{in_flight, gathering, IsOneOf, IsNeverFull, IsHelpReply, IsMergedReply, AreGathered}
-use Rattle.multi_site_world.proofs.FamilyLemmas.{conserved}
-use Rattle.multi_site_world.proofs.WorldLemmas.{IsSoundWorld}
+use Rattle.multi_site_world.proofs.FamilyLemmas.{conserved, same_shown}
+use Rattle.multi_site_world.proofs.WorldLemmas.{IsSoundWorld, other_account}
 use Rattle.multi_site_world.proofs.EventLemmas.{sound_happens}
-use Rattle.multi_site_world.proofs.LawLemmas.{sent_before, run_layout, merged}
-use Rattle.multi_site_world.proofs.GatherLemmas.{IsGathering, IsHanded, is_handed, handed, sound_handed, helper, told_on, two_events, sound_told_on, three_events, reply_there}
+use Rattle.multi_site_world.proofs.LawLemmas.{sent_before, run_layout, reply_there, merged}
+use Rattle.multi_site_world.proofs.GatherLemmas.{IsGathering, IsHanded, is_handed, handed, sound_handed, helper, told_on, two_events, sound_told_on, three_events}
 
 module _ (u : World) (r w i : ℕ) (g : IsGathering u r w) (below : i < u.layout.sites) (apart : i ≢ w) (h : IsHanded u r w i) where
   -- a fact of the helper's new account, of the writer's, and of any other old one
@@ -81,7 +82,8 @@ module _ (u : World) (r w i : ℕ) (g : IsGathering u r w) (below : i < u.layout
   writer_knows j not_w =
       known_other (account_at (handed u r w i) w) r j (Out w) (λ e. not_w (e ∙ site_now w g.site_there))
       ∙ (ap (λ c. told c r j (Out w)) h.hears_it
-      ∙ ap (λ l. max (told (account_at u w) r j (Out w)) (shown_by (shape_of l) h.rows r j (Out w))) (g.sound.family.same_layout w g.site_there))
+      ∙ ap (λ x. max (told (account_at u w) r j (Out w)) x)
+      (same_shown (account_at u w).origin.layout u.layout (g.sound.family.same_records w g.site_there) h.rows r j (Out w)))
 
   quiet_now : (x j : ℕ) → x < u.layout.sites → j < u.layout.sites → j ≢ x → own (account_at (handed u r w i) j) r (Out x) ≤ known (account_at (handed u r w i) x) r j (Out x)
   quiet_now x j there j_there not_x = at (cases_eq x w) (cases_eq j i)
@@ -125,7 +127,7 @@ module _ (u : World) (r w i : ℕ) (g : IsGathering u r w) (below : i < u.layout
           let old = g.shown i below apart in
           subst (λ (y : ℕ). IsFirstUnfinished (view_of (account_at (handed u r w i) y)) r w) (sym e)
           (record {
-            there = subst (λ (o : Origin). w < o.layout.sites) (sym h.helps.same_origin) old.there;
+            there = omega (arith, h.helps.same_sites, old.there);
             unfinished = omega (arith, old.unfinished, notices_same Ann h.helps.anns w, notices_same Fin h.helps.fins w);
             least = λ t lower. omega (arith, old.least t lower, notices_same Ann h.helps.anns t, notices_same Fin h.helps.fins t);
           })
@@ -136,6 +138,7 @@ module _ (u : World) (r w i : ℕ) (g : IsGathering u r w) (below : i < u.layout
     sound = sound_handed u r w i g.sound below g.site_there;
     record_there = g.record_there;
     site_there = g.site_there;
+    all_known = ap (λ (c : Account). c.sites) h.hears_it ∙ g.all_known;
     empty = λ j there. inside_same j ∙ g.empty j there;
     quiet = quiet_now;
     shown = shown_now;
@@ -206,7 +209,7 @@ gather_all (i ∷ others) u r w g all never left =
 
 gathered_help : (u : World) (r w i : ℕ) → IsGathering u r w → i < u.layout.sites → i ≢ w → reply_of (view_of (account_at u i)) (Asks (Help r)) ≢ Refused CounterFull → IsHelpReply (world_reply u (Call i (Help r)))
 gathered_help u r w i g below apart not_full =
-    at (help_reply (account_at u i) r w (subst (λ (l : LayoutState). r < length l.records) (sym (g.sound.family.same_layout i below)) g.record_there)
+    at (help_reply (account_at u i) r w (subst (λ (records : List RecordSpec). r < length records) (sym (g.sound.family.same_records i below)) g.record_there)
     (λ e. apart (sym (e ∙ g.sound.family.same_site i below))) (g.shown i below apart) not_full)
   where
     there : world_reply u (Call i (Help r)) ≡ Core (reply_of (view_of (account_at u i)) (Asks (Help r)))
@@ -241,7 +244,7 @@ gather_answers (i ∷ others) u r w g all never =
       (
         (length u1.sent, reply_there u1 (Send i) sound_1 below_1),
         (
-          subst (λ (v : World). IsMergedReply (world_reply v (Take w (length u.sent)))) (sym sent_2) (merged (told_on u r i) w (length u.sent) sound_2 g.site_there longer),
+          subst (λ (v : World). IsMergedReply (world_reply v (Take w (length u.sent)))) (sym sent_2) (merged (told_on u r i) w (length u.sent) sound_2 g.site_there (ap (λ (c : Account). c.sites) (other_account u i w (helper u r i) (λ e. apart (sym e))) ∙ g.all_known) longer),
           subst (λ (v : World). AreGathered (replies (gathering r w (length u.sent + 1) others) v)) (sym now)
               (subst (λ (k : ℕ). AreGathered (replies (gathering r w k others) next)) more rest),
         ),

@@ -1,29 +1,31 @@
 -- What every event keeps of a world.
-use Rattle.std.proofs.Common.{◌≡◌, ◌≢◌, ℕ, ◌<◌, ◌≤◌, ◌⊎◌, inl, inr, List, [], ◌∷◌, length, None, refl, sym, ap, subst, ◌∙◌, arith}
+use Rattle.std.proofs.Common.{◌≡◌, ◌≢◌, ℕ, ◌<◌, ◌≤◌, ◌⊎◌, inl, inr, List, [], ◌∷◌, length, map, None, refl, sym, ap, subst, ◌∙◌, arith}
 use Rattle.std.specs.List.{AllByRecursion}
 use Rattle.std.proofs.lemmas.List.{length-set, get_or-set_same, get_or-set_other}
 use Rattle.std.proofs.lemmas.Bool.{cases_eq}
 use Rattle.merge_core.specs.declared.cell.Cell.{Cell}
 use Rattle.merge_core.specs.declared.delta.Row.{Row}
 use Rattle.merge_core.specs.Delta.{DeltaState}
-use Rattle.merge_core.specs.Layout.{LayoutState, IsLayout, shape_of}
+use Rattle.merge_core.specs.declared.layout.RecordSpec.{RecordSpec}
+use Rattle.merge_core.specs.Layout.{LayoutState, IsLayout, shape_of, record_shape}
 use Rattle.merge_core.specs.Rows.{grant, counter_in, counters_of}
 use Rattle.merge_core.specs.Naming.{shown_by}
 use Rattle.admission_core.specs.declared.ask.Ask.{Ask}
 use Rattle.admission_core.specs.declared.ask.Call.{Call}
 use Rattle.admission_core.specs.declared.ask.Call.TheVariants.{Ask as Asks, Merge, Snapshot as Tell}
-use Rattle.admission_core.specs.Account.{Account, Origin, begin, start_origin, own}
+use Rattle.admission_core.specs.Account.{Account, Origin, begin, start_origin, layout_of, own}
 use Rattle.admission_core.specs.Knowledge.{told, hears}
 use Rattle.admission_core.specs.View.{View, view_of}
 use Rattle.admission_core.specs.Replies.{ask_lines, merge_lines}
 use Rattle.admission_core.specs.Serving.{reason, advanced, unless_refused, after}
 use Rattle.admission_core.specs.Sound.{FitsRow, IsSound}
 use Rattle.admission_core.proofs.CounterLemmas.{known_own}
-use Rattle.admission_core.proofs.RowLemmas.{shown_as, start_below}
+use Rattle.admission_core.proofs.RowLemmas.{shown_as, shown_same, start_below}
+use Rattle.admission_core.proofs.SnapshotLemmas.{matches}
 use Rattle.admission_core.proofs.ServingLemmas.{first_both}
 use Rattle.admission_core.proofs.MessageLemmas.{IsTellable, merge_accepted}
 use Rattle.multi_site_world.specs.World.{World, account_at, with_account}
-use Rattle.multi_site_world.proofs.FamilyLemmas.{IsFamily}
+use Rattle.multi_site_world.proofs.FamilyLemmas.{IsFamily, row_fits, same_shown, same_grant}
 
 -- own counters only grow, and an ask tells a site nothing
 pub own_grows : (a : Account) (call : Call) (r : ℕ) (cell : Cell) → own a r cell ≤ own (after a call) r cell
@@ -39,14 +41,21 @@ told_by_ask a ask =
 
 -- a sent row: its place is there, it fits, and its site has done all that it tells
 pub record IsSentRow (layout : LayoutState) (accounts : ℕ → Account) (p : Row) : Type 0 where
-  pub record_there : p.r < length layout.records
-  pub site_there : p.s < layout.sites
-  pub all_sites : length p.out ≡ layout.sites
+  pub record_there : p.r < length (shape_of layout).records
+  pub site_there : p.s < length p.out
+  pub few_sites : length p.out ≤ layout.sites
   pub fits : FitsRow (grant (shape_of layout) p.r p.s) p.s (counter_in (counters_of p))
   pub done : (cell : Cell) → counter_in (counters_of p) cell ≤ own (accounts p.s) p.r cell
 
-abbrev pub IsMessage : LayoutState → (ℕ → Account) → DeltaState → Type 0
-IsMessage layout accounts delta = AllByRecursion (IsSentRow layout accounts) delta.rows
+abbrev pub AreSentRows : LayoutState → (ℕ → Account) → List Row → Type 0
+AreSentRows layout accounts rows = AllByRecursion (IsSentRow layout accounts) rows
+
+-- a sent message: all its rows are of one width, and no two are of one record and site
+pub record IsMessage (layout : LayoutState) (accounts : ℕ → Account) (delta : DeltaState) : Type 0 where
+  pub rows : AreSentRows layout accounts delta.rows
+  pub width : ℕ
+  pub same_width : AllByRecursion (λ p. length p.out ≡ width) delta.rows
+  pub apart : (r s : ℕ) → matches r s delta.rows ≤ 1
 
 -- What is told of a row was done by its site, and so is what any message tells
 pub record IsSoundWorld (w : World) : Type 0 where
@@ -62,7 +71,7 @@ grown_rows layout old new more (p ∷ ps) all = (
   record {
     record_there = all.0.record_there;
     site_there = all.0.site_there;
-    all_sites = all.0.all_sites;
+    few_sites = all.0.few_sites;
     fits = all.0.fits;
     done = λ cell. omega (arith, all.0.done cell, more p.s p.r cell);
   },
@@ -71,7 +80,10 @@ grown_rows layout old new more (p ∷ ps) all = (
 
 grown_messages : (layout : LayoutState) (old new : ℕ → Account) → ((s r : ℕ) (cell : Cell) → own (old s) r cell ≤ own (new s) r cell) → (sent : List DeltaState) → AllByRecursion (IsMessage layout old) sent → AllByRecursion (IsMessage layout new) sent
 grown_messages layout old new more [] all = tt
-grown_messages layout old new more (d ∷ ds) all = (grown_rows layout old new more d.rows all.0, grown_messages layout old new more ds all.1)
+grown_messages layout old new more (d ∷ ds) all = (
+  record { rows = grown_rows layout old new more d.rows all.0.rows; width = all.0.width; same_width = all.0.same_width; apart = all.0.apart },
+  grown_messages layout old new more ds all.1,
+)
 
 pub same_account : (w : World) (i : ℕ) (a : Account) → i < length w.sites → account_at (with_account w i a) i ≡ a
 same_account w i a below = get_or-set_same w.sites i a (begin (start_origin w.layout i)) below
@@ -83,6 +95,7 @@ other_account w i j a apart = get_or-set_other w.sites i j a (begin (start_origi
 pub record IsNext (w : World) (i : ℕ) (a : Account) : Type 0 where
   pub sound : IsSound a
   pub same_origin : a.origin ≡ (account_at w i).origin
+  pub few_sites : a.sites ≤ w.layout.sites
   pub more : (r : ℕ) (cell : Cell) → own (account_at w i) r cell ≤ own a r cell
   pub told_done : (j : ℕ) → j < w.layout.sites → (r : ℕ) (cell : Cell) → told a r j cell ≤ own (account_at w j) r cell
 
@@ -92,8 +105,9 @@ sound_with w i a sound below next = record {
   number = length-set w.sites i a ∙ sound.number;
   family = record {
     sound = λ j there. at (λ b. IsSound b) j (cases_eq j i) next.sound (sound.family.sound j there);
-    same_layout = λ j there. layout_at j there (cases_eq j i);
+    same_records = λ j there. at (λ b. b.origin.layout.records ≡ w.layout.records) j (cases_eq j i) (ap (λ (o : Origin). o.layout.records) next.same_origin ∙ sound.family.same_records i below) (sound.family.same_records j there);
     same_site = λ j there. site_at j there (cases_eq j i);
+    few_sites = λ j there. at (λ b. b.sites ≤ w.layout.sites) j (cases_eq j i) next.few_sites (sound.family.few_sites j there);
   };
   told_done = λ j k there here r cell. told_at j k there here r cell (cases_eq j i);
   sent = grown_messages w.layout (account_at w) (account_at (with_account w i a)) grows w.sent sound.sent;
@@ -108,12 +122,6 @@ sound_with w i a sound below next = record {
     at : (P : Account → Type 0) (j : ℕ) → (j ≡ i) ⊎ (j ≡ i → ⊥) → P a → P (account_at w j) → P (account_at (with_account w i a) j)
     at P j (inl e) new old = subst (λ (x : ℕ). P (account_at (with_account w i a) x)) (sym e) (subst P (sym now) new)
     at P j (inr ne) new old = subst P (sym (other_account w i j a ne)) old
-
-    layout_at : (j : ℕ) → j < w.layout.sites → (j ≡ i) ⊎ (j ≡ i → ⊥) → (account_at (with_account w i a) j).origin.layout ≡ w.layout
-    layout_at j there (inl e) =
-        subst (λ (x : ℕ). (account_at (with_account w i a) x).origin.layout ≡ w.layout) (sym e)
-        (ap (λ (b : Account). b.origin.layout) now ∙ (ap (λ (o : Origin). o.layout) next.same_origin ∙ sound.family.same_layout i below))
-    layout_at j there (inr ne) = ap (λ (b : Account). b.origin.layout) (other_account w i j a ne) ∙ sound.family.same_layout j there
 
     site_at : (j : ℕ) → j < w.layout.sites → (j ≡ i) ⊎ (j ≡ i → ⊥) → (account_at (with_account w i a) j).origin.site ≡ j
     site_at j there (inl e) =
@@ -139,45 +147,55 @@ sound_with w i a sound below next = record {
         let first : told (account_at (with_account w i a) j) r k cell ≡ told (account_at w j) r k cell = ap (λ b. told b r k cell) (other_account w i j a ne) in
         omega (arith, sound.told_done j k there here r cell, grows k r cell)
 
--- what a message shows of a site's row, the site has done
-pub shown_done : (w : World) (delta : DeltaState) → IsSoundWorld w → IsMessage w.layout (account_at w) delta → (j : ℕ) → j < w.layout.sites → (r : ℕ) (cell : Cell) → shown_by (shape_of w.layout) delta.rows r j cell ≤ own (account_at w j) r cell
-shown_done w delta sound message j below r cell =
+-- what sent rows show of a site's row, the site has done
+pub shown_done : (w : World) (rows : List Row) → IsSoundWorld w → AreSentRows w.layout (account_at w) rows → (j : ℕ) → j < w.layout.sites → (r : ℕ) (cell : Cell) → shown_by (shape_of w.layout) rows r j cell ≤ own (account_at w j) r cell
+shown_done w rows sound sent j below r cell =
     shown_as (λ f r2 s2. (c : Cell) → f c ≤ own (account_at w s2) r2 c) (shape_of w.layout)
-    (λ f g r2 s2 same less c. omega (arith, same c, less c)) delta.rows (all_done delta.rows message) r j
-    (start_below (shape_of w.layout) r j (own (account_at w j) r) fits) cell
+    (λ f g r2 s2 same less c. omega (arith, same c, less c)) rows (all_done rows sent) r j
+    (start_below (shape_of w.layout) r j (own (account_at w j) r) (row_fits w.layout (account_at w) sound.family j below r)) cell
   where
-    all_done : (rows : List Row) → AllByRecursion (IsSentRow w.layout (account_at w)) rows → AllByRecursion (λ p. (c : Cell) → counter_in (counters_of p) c ≤ own (account_at w p.s) p.r c) rows
+    all_done : (ps : List Row) → AreSentRows w.layout (account_at w) ps → AllByRecursion (λ p. (c : Cell) → counter_in (counters_of p) c ≤ own (account_at w p.s) p.r c) ps
     all_done [] all = tt
     all_done (p ∷ ps) all = (all.0.done, all_done ps all.1)
 
-    fits : FitsRow (grant (shape_of w.layout) r j) j (own (account_at w j) r)
-    fits =
-        subst (λ (l : LayoutState). FitsRow (grant (shape_of l) r j) j (own (account_at w j) r)) (sound.family.same_layout j below)
-        (subst (λ (x : ℕ). FitsRow (grant (shape_of (account_at w j).origin.layout) r x) x (own (account_at w j) r)) (sound.family.same_site j below)
-        ((sound.family.sound j below).balanced r).fits)
+-- the same as the site itself reads the rows
+pub shown_done_here : (w : World) (i : ℕ) (rows : List Row) → IsSoundWorld w → i < w.layout.sites → AreSentRows w.layout (account_at w) rows → (j : ℕ) → j < w.layout.sites → (r : ℕ) (cell : Cell) → shown_by (shape_of (account_at w i).origin.layout) rows r j cell ≤ own (account_at w j) r cell
+shown_done_here w i rows sound below sent j there r cell =
+    omega (
+      arith,
+      same_shown (account_at w i).origin.layout w.layout (sound.family.same_records i below) rows r j cell,
+      shown_done w rows sound sent j there r cell,
+    )
 
-all_tellable : (v : View) (accounts : ℕ → Account) (rows : List Row) → v.layout.sites ≡ v.sites → AllByRecursion (IsSentRow v.layout accounts) rows → AllByRecursion (IsTellable v) rows
-all_tellable v accounts [] e all = tt
-all_tellable v accounts (p ∷ ps) e all = (
-  record {
-    record_there = all.0.record_there;
-    site_there = omega (arith, all.0.site_there);
-    all_sites = all.0.all_sites ∙ e;
-    fits = all.0.fits;
-  },
-  all_tellable v accounts ps e all.1,
-)
+-- sent rows are tellable to a site that knows as many sites as they have counters for
+pub all_tellable : (w : World) (i : ℕ) (rows : List Row) → IsSoundWorld w → i < w.layout.sites → AreSentRows w.layout (account_at w) rows → AllByRecursion (λ p. length p.out ≤ (account_at w i).sites) rows → AllByRecursion (IsTellable (shape_of (layout_of (account_at w i)))) rows
+all_tellable w i [] sound below all narrow = tt
+all_tellable w i (p ∷ ps) sound below all narrow =
+    let same = sound.family.same_records i below in (
+      record {
+        record_there = subst (λ (records : List RecordSpec). p.r < length (map record_shape records)) (sym same) all.0.record_there;
+        site_there = all.0.site_there;
+        few_sites = narrow.0;
+        fits = subst (λ (x : ℕ). FitsRow x p.s (counter_in (counters_of p))) (sym (same_grant (account_at w i).origin.layout w.layout same p.r p.s)) all.0.fits;
+      },
+      all_tellable w i ps sound below all.1 narrow.1,
+    )
 
--- a merge of a message is never refused
-pub message_accepted : (w : World) (i : ℕ) (delta : DeltaState) → IsSoundWorld w → i < w.layout.sites → IsMessage w.layout (account_at w) delta → reason (view_of (account_at w i)) (Merge delta) ≡ None
-message_accepted w i delta sound below message =
+-- a merge of sent rows is not refused where the site knows as many sites
+pub rows_accepted : (w : World) (i : ℕ) (delta : DeltaState) → IsSoundWorld w → i < w.layout.sites → AreSentRows w.layout (account_at w) delta.rows → AllByRecursion (λ p. length p.out ≤ (account_at w i).sites) delta.rows → reason (view_of (account_at w i)) (Merge delta) ≡ None
+rows_accepted w i delta sound below sent narrow =
     let a = account_at w i in
-    let same_layout = sound.family.same_layout i below in
-    let same_site = sound.family.same_site i below in
-    merge_accepted (view_of a) delta
-    (all_tellable (view_of a) (account_at w) delta.rows refl
-    (subst (λ (l : LayoutState). AllByRecursion (IsSentRow l (account_at w)) delta.rows) (sym same_layout) message))
+    merge_accepted (view_of a) delta (all_tellable w i delta.rows sound below sent narrow)
     (λ r cell.
-    let shown : shown_by (shape_of a.origin.layout) delta.rows r a.origin.site cell ≡ shown_by (shape_of w.layout) delta.rows r i cell =
-    ap (λ l. shown_by (shape_of l) delta.rows r a.origin.site cell) same_layout ∙ ap (λ x. shown_by (shape_of w.layout) delta.rows r x cell) same_site in
-    omega (arith, shown_done w delta sound message i below r cell, known_own a r cell))
+    omega (
+      arith,
+      shown_same (shape_of (layout_of a)) (shape_of a.origin.layout) refl delta.rows r a.origin.site cell,
+      ap (λ x. shown_by (shape_of a.origin.layout) delta.rows r x cell) (sound.family.same_site i below),
+      shown_done_here w i delta.rows sound below sent i below r cell,
+      known_own a r cell,
+    ))
+
+-- where a site knows all sites, all sent rows are narrow enough
+pub all_narrow : (w : World) (i : ℕ) (rows : List Row) → (account_at w i).sites ≡ w.layout.sites → AreSentRows w.layout (account_at w) rows → AllByRecursion (λ p. length p.out ≤ (account_at w i).sites) rows
+all_narrow w i [] grown all = tt
+all_narrow w i (p ∷ ps) grown all = (omega (arith, all.0.few_sites), all_narrow w i ps grown all.1)

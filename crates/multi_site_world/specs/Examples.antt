@@ -7,15 +7,15 @@ use Rattle.merge_core.specs.Delta.{DeltaState}
 use Rattle.merge_core.specs.Layout.{LayoutState}
 use Rattle.admission_core.specs.declared.ask.Ask.TheVariants.{Read, Announce, Quill, Leave, Give, Help}
 use Rattle.admission_core.specs.declared.ask.Phase.TheVariants.{Reader, Waiting, Writer}
-use Rattle.admission_core.specs.declared.reply.Refusal.TheVariants.{NoRecord, BadHolder, AlreadyHere, CounterFull, NoSeat, WriterAnnounced, TooManyWriters, NotAnnounced, AlreadyInside, MissingSeats, NotHere, NoSite as NoSuchSite, ToSelf, ZeroSeats, TooFewRights, NoPlan}
+use Rattle.admission_core.specs.declared.reply.Refusal.TheVariants.{NoRecord, BadHolder, AlreadyHere, CounterFull, NoSeat, WriterAnnounced, TooManyWriters, NotAnnounced, AlreadyInside, MissingSeats, NotHere, NoSite as NoSuchSite, ToSelf, ZeroSeats, TooFewRights, NoPlan, OtherLayout}
 use Rattle.admission_core.specs.declared.reply.Reply.{Reply}
 use Rattle.admission_core.specs.declared.reply.Reply.TheVariants.{Admitted, Announced, Left, Given, Gave, Merged, Refused}
 use Rattle.admission_core.specs.Account.{begin}
 use Rattle.admission_core.specs.View.{View, view_of}
 use Rattle.multi_site_world.specs.declared.event.Event.{Event}
-use Rattle.multi_site_world.specs.declared.event.Event.TheVariants.{Call, Send, Take, Restart}
+use Rattle.multi_site_world.specs.declared.event.Event.TheVariants.{Call, Send, Take, Thin, Restart, Grow}
 use Rattle.multi_site_world.specs.declared.event.WorldReply.{WorldReply}
-use Rattle.multi_site_world.specs.declared.event.WorldReply.TheVariants.{Core, Sent, Restarted, NoSite, NoMessage}
+use Rattle.multi_site_world.specs.declared.event.WorldReply.TheVariants.{Core, Sent, Restarted, Grown, NoSite, NoMessage, NoGrowth}
 
 -- one record with its home at site 0
 abbrev pub small_layout : ℕ → ℕ → ℕ → LayoutState
@@ -75,14 +75,47 @@ seat_kept = Restart 1 ∷ Call 1 (Read 0 9) ∷ Call 1 (Leave 0 8) ∷ Call 1 (R
 abbrev pub seat_kept_replies : List WorldReply
 seat_kept_replies = Restarted ∷ Core (Refused (NoSeat 0)) ∷ Core (Left Reader) ∷ Core Admitted ∷ []
 
--- a restart forgets another site's writer
-abbrev pub writer_forgotten : List Event
-writer_forgotten =
+-- a restart forgets no site's writer
+abbrev pub writer_remembered : List Event
+writer_remembered =
     Call 1 (Announce 0 5) ∷ Call 0 (Read 0 1) ∷ Send 1 ∷ Take 0 0 ∷ Restart 0 ∷ Call 0 (Read 0 2) ∷ []
 
-abbrev pub writer_forgotten_replies : List WorldReply
-writer_forgotten_replies =
-    Core (Announced 1) ∷ Core Admitted ∷ Sent 0 ∷ Core (Merged 1) ∷ Restarted ∷ Core Admitted ∷ []
+abbrev pub writer_remembered_replies : List WorldReply
+writer_remembered_replies =
+    Core (Announced 1) ∷ Core Admitted ∷ Sent 0 ∷ Core (Merged 1) ∷ Restarted ∷ Core (Refused (WriterAnnounced 1)) ∷ []
+
+-- after the writer's three messages, a site that took none takes the last one without the rows of the second;
+-- a number of no message is refused, whichever it is
+abbrev pub thin_taken : List Event
+thin_taken = Thin 2 2 1 ∷ Thin 2 2 1 ∷ Thin 2 3 1 ∷ Thin 2 2 3 ∷ Thin 3 2 1 ∷ []
+
+abbrev pub thin_taken_replies : List WorldReply
+thin_taken_replies = Core (Merged 3) ∷ Core (Merged 0) ∷ NoMessage ∷ NoMessage ∷ NoSite ∷ []
+
+-- the rows of the writer's record in those messages
+abbrev pub told_by : ℕ → List ℕ → ℕ → ℕ → ℕ → Row
+told_by s out taken ann fin = record { r = 0; s = s; out = out; taken = taken; ann = ann; fin = fin }
+
+abbrev pub writer_row : Row
+writer_row = told_by 1 (0 ∷ (0 ∷ (0 ∷ []))) 0 1 0
+
+abbrev pub writer_helped_messages : List DeltaState
+writer_helped_messages =
+    record { from = 1; rows = writer_row ∷ [] }
+    ∷ record { from = 0; rows = told_by 0 (3 ∷ (2 ∷ (0 ∷ []))) 1 0 0 ∷ (writer_row ∷ []) }
+    ∷ record { from = 0; rows = told_by 0 (4 ∷ (3 ∷ (0 ∷ []))) 1 0 0 ∷ (writer_row ∷ []) }
+    ∷ []
+
+-- a site that begins alone knows no other one until it grows; then it takes the other's message, and gives
+abbrev pub layout_grows : List Event
+layout_grows =
+    Call 0 (Read 0 7) ∷ Send 0 ∷ Take 1 0 ∷ Call 0 (Give 0 1 1) ∷ Call 1 (Announce 0 5) ∷ Send 1 ∷ Take 0 1
+    ∷ Grow 0 ∷ Take 0 1 ∷ Call 0 (Give 0 1 1) ∷ Grow 0 ∷ Grow 2 ∷ []
+
+abbrev pub layout_grows_replies : List WorldReply
+layout_grows_replies =
+    Core Admitted ∷ Sent 0 ∷ Core (Merged 1) ∷ Core (Refused NoSuchSite) ∷ Core (Announced 1) ∷ Sent 1
+    ∷ Core (Refused (OtherLayout 0)) ∷ Grown ∷ Core (Merged 1) ∷ Core Given ∷ NoGrowth ∷ NoSite ∷ []
 
 -- one site alone: a writer waits for a reader's seat, and withdraws
 abbrev pub writer_withdraws : List Event

@@ -6,23 +6,23 @@ use Rattle.merge_core.specs.declared.cell.Cell.TheVariants.{Out}
 use Rattle.merge_core.specs.Rows.{counter_in, counters_of}
 use Rattle.merge_core.specs.declared.delta.Row.{Row}
 use Rattle.merge_core.specs.Delta.{DeltaState}
-use Rattle.merge_core.specs.Layout.{LayoutState}
+use Rattle.merge_core.specs.Layout.{LayoutState, IsLayout, at_sites}
 use Rattle.admission_core.specs.declared.ask.Phase.{Phase}
 use Rattle.admission_core.specs.declared.ask.Phase.TheVariants.{Reader, Waiting, Writer}
-use Rattle.admission_core.specs.Sums.{total, total_others}
+use Rattle.merge_core.specs.Sums.{total, total_others}
 use Rattle.admission_core.specs.Account.{Account, Heard, Merged, Restarted, seats_in, own, inside, phase_of, begin, start_origin}
 use Rattle.admission_core.specs.Knowledge.{known}
 use Rattle.admission_core.specs.View.{view_of, rights_of, gained, spent}
 use Rattle.admission_core.specs.Serving.{Step, replay}
 use Rattle.admission_core.specs.Laws.{IsFirstUnfinished}
 use Rattle.admission_core.specs.declared.ask.Ask.TheVariants.{Help}
-use Rattle.admission_core.specs.declared.reply.Refusal.TheVariants.{CounterFull, NoPlan}
+use Rattle.admission_core.specs.declared.reply.Refusal.TheVariants.{CounterFull, NoPlan, OtherLayout}
 use Rattle.admission_core.specs.declared.reply.Reply.TheVariants.{Gave, Merged as Joined, Refused}
 use Rattle.multi_site_world.specs.declared.event.Event.{Event}
 use Rattle.multi_site_world.specs.declared.event.Event.TheVariants.{Call, Send, Take}
 use Rattle.multi_site_world.specs.declared.event.WorldReply.{WorldReply}
 use Rattle.multi_site_world.specs.declared.event.WorldReply.TheVariants.{Core, Sent}
-use Rattle.multi_site_world.specs.World.{World, account_at}
+use Rattle.multi_site_world.specs.World.{World, account_at, start_world, run}
 
 -- seats that site j sent to site i and i does not know of
 abbrev pub in_flight : (ℕ → Account) → ℕ → ℕ → ℕ → ℕ
@@ -60,26 +60,49 @@ abbrev pub IsWriterAlone : (ℕ → Account) → ℕ → ℕ → Type 0
 IsWriterAlone accounts n r =
     (i j h k : ℕ) → i < n → j < n → phase_of (accounts i) r h ≡ Some Writer → IsInside (phase_of (accounts j) r k) → (i ≡ j) × (h ≡ k)
 
--- an account for each site, replayed from a list of the site's own
-abbrev pub replayed : LayoutState → (ℕ → List Step) → ℕ → Account
-replayed layout logs i = replay (begin (start_origin layout i)) (logs i)
+-- a log of the site's own leads to the account, from the start under the layout or with fewer sites
+pub record IsLogged (layout : LayoutState) (i : ℕ) (a : Account) : Type 0 where
+  pub first : ℕ
+  pub site_there : i < first
+  pub steps : List Step
+  pub replayed : a ≡ replay (begin (start_origin (at_sites first layout) i)) steps
+  pub few_sites : a.sites ≤ layout.sites
 
--- What a site counts as sent to it, its sender did send (for this one counter, a consistent cut: Mattern,
--- 1989; Chandy and Lamport, 1985).
-abbrev pub IsSentBefore : LayoutState → (ℕ → Account) → ℕ → Type 0
-IsSentBefore layout accounts r =
-    (i j : ℕ) → i < layout.sites → j < layout.sites → j ≢ i → known (accounts i) r j (Out i) ≤ own (accounts j) r (Out i)
+-- an account for each site, each with a log of its own; nothing is known of an order between the logs
+abbrev pub AreLogged : LayoutState → (ℕ → Account) → Type 0
+AreLogged layout accounts = (i : ℕ) → i < layout.sites → IsLogged layout i (accounts i)
 
--- no delta that was heard tells of a row more than its site did: the cut of all logs is consistent
+-- no delta that was heard tells of a row more than its site did
 abbrev pub HeardNoMore : (ℕ → Account) → List Heard → Type 0
 HeardNoMore accounts [] = Unit {0}
 HeardNoMore accounts (Merged rows ∷ heard) =
     AllByRecursion (λ p. (cell : Cell) → counter_in (counters_of p) cell ≤ own (accounts p.s) p.r cell) rows × HeardNoMore accounts heard
 HeardNoMore accounts (Restarted ∷ heard) = HeardNoMore accounts heard
 
+-- The logs' ends are a consistent cut: what was heard up to there was done up to there (Chandy and Lamport,
+-- 1985; Mattern, 1989; here compared counter by counter).
+abbrev pub IsConsistentCut : LayoutState → (ℕ → Account) → Type 0
+IsConsistentCut layout accounts = (i : ℕ) → i < layout.sites → HeardNoMore accounts (accounts i).heard
+
 -- the reply of a merge that was carried out
 abbrev pub IsMergedReply : WorldReply → Type 0
 IsMergedReply reply = (raised : ℕ) × (reply ≡ Core (Joined raised))
+
+-- the reply of a merge that was refused for a row of a site that the account does not know
+abbrev pub IsOtherLayoutReply : WorldReply → Type 0
+IsOtherLayoutReply reply = (row : ℕ) × (reply ≡ Core (Refused (OtherLayout row)))
+
+-- a site has counted all that the rows tell
+abbrev pub KnowsRows : Account → List Row → Type 0
+KnowsRows a rows = AllByRecursion (λ p. (cell : Cell) → counter_in (counters_of p) cell ≤ known a p.r p.s cell) rows
+
+-- some list of events leads to the world, from sites of which the first so many know one another alone
+pub record IsReachedWorld (w : World) : Type 0 where
+  pub whole : LayoutState
+  pub is_layout : IsLayout whole
+  pub first : ℕ
+  pub events : List Event
+  pub reached : w ≡ run events (start_world first whole)
 
 -- a row stands in a list
 abbrev pub StandsIn : Row → List Row → Type 0
@@ -125,11 +148,12 @@ AreGathered [] = Unit {0}
 AreGathered (helped ∷ (sent ∷ (taken ∷ rest))) = IsHelpReply helped × (IsSentReply sent × (IsMergedReply taken × AreGathered rest))
 AreGathered _ = ⊥
 
--- nobody is inside a record, none of its seats is in flight, and every other site shows w as the least site
--- with an unfinished writer
+-- w knows all sites, nobody is inside a record, none of its seats is in flight, and every other site shows w
+-- as the least site with an unfinished writer
 pub record MayGather (u : World) (r w : ℕ) : Type 0 where
   pub record_there : r < length u.layout.records
   pub site_there : w < u.layout.sites
+  pub all_known : (account_at u w).sites ≡ u.layout.sites
   pub nobody_inside : (i h : ℕ) → i < u.layout.sites → ¬ IsInside (phase_of (account_at u i) r h)
   pub nothing_in_flight : all_in_flight (account_at u) u.layout.sites r ≡ 0
   pub least_writer : (i : ℕ) → i < u.layout.sites → i ≢ w → IsFirstUnfinished (view_of (account_at u i)) r w

@@ -9,8 +9,12 @@ pub enum Event {
     Send(u16),
     /// A site takes the message of this number.
     Take(u16, u64),
+    /// A site takes the message of the first number, without the rows that the message of the second has.
+    Thin(u16, u64, u64),
     /// A site is started again.
     Restart(u16),
+    /// A site is started again under the whole layout.
+    Grow(u16),
 }
 
 /// What an event is answered.
@@ -22,10 +26,14 @@ pub enum WorldReply {
     Sent(u64),
     /// The site was started again.
     Restarted,
+    /// The site knows all sites from now on.
+    Grown,
     /// There is no such site.
     NoSite,
     /// No message has this number.
     NoMessage,
+    /// The site knew all sites before.
+    NoGrowth,
     /// No memory was found; nothing changed.
     Memory,
 }

@@ -1,8 +1,17 @@
-use Rattle.admission_core.proofs.BookLemmas.{rights_in, writers_in, no_writers_in}
-use Rattle.admission_core.proofs.BookRiseLemmas.{raised_in}
-use Rattle.admission_core.proofs.BookSnapshotLemmas.{told_in}
-use Rattle.admission_core.proofs.FailingLemmas.{misplaced_in, invalid_in, checked_in}
+use Rattle.admission_core.proofs.BookLemmas.{rights_there, inside_there, open_here, open_session, rights_in, writers_in, no_writers_in}
 use Rattle.admission_core.proofs.laws.book_law.Goals as goal
+
+pub returns-clause-has_rights : goal.returns-clause-has_rights
+returns-clause-has_rights c = rights_there
+
+pub returns-clause-inside : goal.returns-clause-inside
+returns-clause-inside c = inside_there
+
+pub returns-clause-open : goal.returns-clause-open
+returns-clause-open c = open_here
+
+pub returns-clause-open_session : goal.returns-clause-open_session
+returns-clause-open_session c = open_session
 
 pub returns-clause-rights : goal.returns-clause-rights
 returns-clause-rights c = rights_in
@@ -12,18 +21,3 @@ returns-clause-writers c = writers_in
 
 pub returns-clause-no_writer : goal.returns-clause-no_writer
 returns-clause-no_writer c = no_writers_in
-
-pub returns-clause-told : goal.returns-clause-told
-returns-clause-told c = told_in
-
-pub returns-clause-misplaced : goal.returns-clause-misplaced
-returns-clause-misplaced c = misplaced_in
-
-pub returns-clause-invalid : goal.returns-clause-invalid
-returns-clause-invalid c = invalid_in
-
-pub returns-clause-checked : goal.returns-clause-checked
-returns-clause-checked c = checked_in
-
-pub returns-clause-raised : goal.returns-clause-raised
-returns-clause-raised c = raised_in

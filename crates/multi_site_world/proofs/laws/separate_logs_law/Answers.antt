@@ -1,4 +1,3 @@
-use Rattle.multi_site_world.proofs.FamilyLemmas.{consistent_cut}
 use Rattle.multi_site_world.proofs.LawLemmas.{separate_seats, separate_writer}
 use Rattle.multi_site_world.proofs.laws.separate_logs_law.Goals as goal
 
@@ -7,6 +6,3 @@ returns-clause-seats c = separate_seats
 
 pub returns-clause-writer : goal.returns-clause-writer
 returns-clause-writer c = separate_writer
-
-pub returns-clause-cut : goal.returns-clause-cut
-returns-clause-cut c = consistent_cut
