@@ -48,7 +48,7 @@ fn same_row(a: &RecordState, b: &RecordState, s: u16) -> bool
     requires right_notices { s < length b.now.notices.announced }
     ensures { IsTrue result ↔ (row_in a.now s ≡ row_in b.now s) }
 {
-    a.seats.row(s).as_slice() == b.seats.row(s).as_slice()
+    a.seats.row(s) == b.seats.row(s)
         && a.seats.taken(s) == b.seats.taken(s)
         && a.notices.announced(s) == b.notices.announced(s)
         && a.notices.finished(s) == b.notices.finished(s)

@@ -96,7 +96,7 @@ impl Book {
         ensures { IfOk result (λ row. row ≡ told_row self.now.sites (counter_of self.now) r s) }
     {
         let it = &self.records[usize::from(r)];
-        let out = Vec::from_slice(alloc, it.seats.row(s).as_slice())?;
+        let out = Vec::from_slice(alloc, it.seats.row(s))?;
         Ok(Row {
             r,
             s,

@@ -9,4 +9,4 @@ returns c =
     rw (← c.self.view_is)
     (told_row-read b c.from.result c.args.r c.args.s c.index-it.result.now c.from_vec.result c.taken.result c.announced.result c.finished.result c.self.invariant c.from.ensures
     (rw (← c.self.view_is) at c.requires.record) (rw (← c.self.view_is) at c.requires.site) c.index-it.ensures
-    (c.from_vec.ensures ∙ (c.in_ok-out.ensures.items ∙ (c.as_slice.ensures.counters ∙ c.row.ensures))) c.taken.ensures c.announced.ensures c.finished.ensures)
+    (c.from_vec.ensures ∙ (c.in_ok-out.ensures.items ∙ c.row.ensures)) c.taken.ensures c.announced.ensures c.finished.ensures)
