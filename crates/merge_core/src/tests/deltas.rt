@@ -3,99 +3,104 @@ use grow_counters::Counts;
 use std::alloc::Global;
 use std::test::Fail;
 
-/// A row of site `s` for record 0.
-pub fn row(
-    alloc: Global,
-    s: u16,
-    out: &[u64],
-    taken: u64,
-    ann: u64,
-    fin: u64,
-) -> Result<Row, Fail> {
-    Ok(Row {
+/// A row for record 0: its site, its counters of rights, and what was taken, announced and finished.
+pub type Line = (u16, &'static [u64], u64, u64, u64);
+
+/// The row of a line.
+pub fn row(alloc: Global, line: &Line) -> Option<Row> {
+    let out = Vec::from_slice(alloc, line.1).ok()?;
+    Some(Row {
         r: 0,
-        s,
-        out: Counts::from_vec(Vec::from_slice(alloc, out)?),
-        taken,
-        ann,
-        fin,
+        s: line.0,
+        out: Counts::from_vec(out),
+        taken: line.2,
+        ann: line.3,
+        fin: line.4,
     })
 }
 
-/// The delta of one row.
-pub fn delta(alloc: Global, row: Row) -> Result<Delta, Fail> {
+/// The delta of these rows, from site 0.
+pub fn delta(alloc: Global, lines: &[Line]) -> Option<Delta> {
     let mut rows = Vec::new(alloc);
-    rows.push(row)?;
-    Ok(Delta::new(0, rows)?)
-}
-
-// A helping site's two messages: the rights that it moved to a waiting writer, and the writer's own row.
-fn helper_tells(alloc: Global, out: &[u64]) -> Result<Delta, Fail> {
-    let mut rows = Vec::new(alloc);
-    rows.push(row(alloc, 0, out, 1, 0, 0)?)?;
-    rows.push(row(alloc, 1, &[0, 0, 0], 0, 1, 0)?)?;
-    Ok(Delta::new(0, rows)?)
-}
-
-// What a delta has: of each row its record, its site and its first counter.
-fn outline(alloc: Global, delta: &Delta) -> Result<Vec<(u16, u16, Option<u64>)>, Fail> {
-    let mut all = Vec::new(alloc);
-    for row in delta.rows() {
-        all.push((row.r, row.s, row.out.as_slice().first().copied()))?;
+    for line in lines {
+        rows.push(row(alloc, line)?).ok()?;
     }
-    Ok(all)
+    Delta::new(0, rows).ok()
+}
+
+// How many rows each of two deltas has for which the other has no equal one.
+fn apart(alloc: Global, first: &[Line], second: &[Line]) -> Option<(usize, usize)> {
+    let first = delta(alloc, first)?;
+    let second = delta(alloc, second)?;
+    let forth = second.thin(alloc, &first).ok()?;
+    let back = first.thin(alloc, &second).ok()?;
+    Some((forth.rows().len(), back.rows().len()))
+}
+
+// What a site tells that helps a waiting writer twice: its own row, which moves, and the writer's.
+const FIRST: [Line; 2] = [(0, &[3, 2, 0], 1, 0, 0), (1, &[0, 0, 0], 0, 1, 0)];
+
+const SECOND: [Line; 2] = [(0, &[4, 3, 0], 1, 0, 0), (1, &[0, 0, 0], 0, 1, 0)];
+
+fn thin_of_second(alloc: Global) -> Option<Delta> {
+    let first = delta(alloc, &FIRST)?;
+    let second = delta(alloc, &SECOND)?;
+    second.thin(alloc, &first).ok()
 }
 
 #[test]
 fn a_thin_delta_has_the_rows_that_changed(rt: HostRuntime) -> Result<(), Fail> {
-    let first = helper_tells(rt.alloc(), &[3, 2, 0])?;
-    let second = helper_tells(rt.alloc(), &[4, 3, 0])?;
-    let thin = second.thin(rt.alloc(), &first)?;
-    assert_eq!(rt;
-        outline(rt.alloc(), &thin)?.as_slice(),
-        [(0, 0, Some(4))].as_slice()
-    );
+    let thin = thin_of_second(rt.alloc()).ok_or("no thin delta")?;
+    assert_eq!(rt; thin.rows().len(), 1);
     for row in thin.rows() {
+        assert_eq!(rt; (row.s, row.taken), (0, 1));
         assert_eq!(rt; row.out.as_slice(), [4, 3, 0].as_slice());
     }
-    let none = second.thin(rt.alloc(), &second)?;
-    assert_eq!(rt; none.rows().len(), 0);
-    assert_eq!(rt; none.from_site(), 0);
     Ok(())
 }
 
-// Rows that differ in one counter alone, each of which a thin delta keeps.
 #[test]
-fn each_counter_makes_a_row_another(rt: HostRuntime) -> Result<(), Fail> {
-    let alloc = rt.alloc();
-    let earlier = delta(alloc, row(alloc, 0, &[2, 0], 1, 1, 0)?)?;
-    let out = delta(alloc, row(alloc, 0, &[2, 1], 1, 1, 0)?)?;
-    let longer = delta(alloc, row(alloc, 0, &[2, 0, 0], 1, 1, 0)?)?;
-    let taken = delta(alloc, row(alloc, 0, &[2, 0], 2, 1, 0)?)?;
-    let ann = delta(alloc, row(alloc, 0, &[2, 0], 1, 2, 0)?)?;
-    let fin = delta(alloc, row(alloc, 0, &[2, 0], 1, 1, 1)?)?;
-    let site = delta(alloc, row(alloc, 1, &[2, 0], 1, 1, 0)?)?;
-    for other in [&out, &longer, &taken, &ann, &fin, &site] {
-        assert_eq!(rt; other.thin(alloc, &earlier)?.rows().len(), 1);
-        assert_eq!(rt; earlier.thin(alloc, other)?.rows().len(), 1);
+fn a_delta_is_thin_against_itself(rt: HostRuntime) {
+    assert_eq!(rt; apart(rt.alloc(), &SECOND, &SECOND), Some((0, 0)));
+}
+
+// Rows that differ from the first in one thing alone.
+const OTHERS: [Line; 6] = [
+    (0, &[2, 1], 1, 1, 0),
+    (0, &[2, 0, 0], 1, 1, 0),
+    (0, &[2, 0], 2, 1, 0),
+    (0, &[2, 0], 1, 2, 0),
+    (0, &[2, 0], 1, 1, 1),
+    (1, &[2, 0], 1, 1, 0),
+];
+
+#[test]
+fn each_counter_makes_a_row_another(rt: HostRuntime) {
+    for other in &OTHERS {
+        assert_eq!(rt;
+            apart(rt.alloc(), &[(0, &[2, 0], 1, 1, 0)], &[*other]),
+            Some((1, 1))
+        );
     }
-    Ok(())
 }
 
 #[test]
-fn rows_rise(rt: HostRuntime) -> Result<(), Fail> {
-    let alloc = rt.alloc();
-    let mut rows = Vec::new(alloc);
-    rows.push(row(alloc, 1, &[0, 0], 0, 0, 0)?)?;
-    rows.push(row(alloc, 0, &[2, 0], 0, 0, 0)?)?;
-    assert!(rt; Delta::new(0, rows).is_err(), "rows that fall are a delta");
+fn rows_rise(rt: HostRuntime) {
+    let falling = [(1, [0].as_slice(), 0, 0, 0), (0, [2].as_slice(), 0, 0, 0)];
     assert!(rt;
-        Delta::new(16, Vec::new(alloc)).is_err(),
-        "site 16 labels a delta"
+        delta(rt.alloc(), &falling).is_none(),
+        "rows that fall are a delta"
     );
+}
+
+#[test]
+fn labels_are_sites(rt: HostRuntime) {
     assert!(rt;
-        Delta::new(15, Vec::new(alloc)).is_ok(),
+        Delta::new(15, Vec::new(rt.alloc())).is_ok(),
         "site 15 labels no delta"
     );
-    Ok(())
+    assert!(rt;
+        Delta::new(16, Vec::new(rt.alloc())).is_err(),
+        "site 16 labels a delta"
+    );
 }

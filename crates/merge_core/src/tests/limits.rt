@@ -1,143 +1,188 @@
-use super::layouts::spec;
+use super::books::merged;
 use crate::*;
 use grow_counters::{COUNTER_LIMIT, Counts};
 use std::alloc::Global;
-use std::test::Fail;
 
 // The home of record `r`: one of the first 15 sites, so that a layout of 15 sites may grow to 16.
-const fn home(r: u16) -> u16 {
+fn home(r: u16) -> u16 {
     r % 15
 }
 
-// The layout of so many sites with as many records, each with as many seats, as there may be.
-fn greatest_layout(alloc: Global, sites: u16) -> Result<Layout, Fail> {
+fn greatest_spec(alloc: Global, r: u16) -> Option<RecordSpec> {
+    let text = format!(in alloc; "record-{r}").ok()?;
+    Some(RecordSpec {
+        name: RecordName::from_string(text),
+        seats: 65_535,
+        home: home(r),
+        problem: 2,
+    })
+}
+
+// The layout of 16 sites with as many records, each with as many seats, as there may be.
+fn greatest_layout(alloc: Global) -> Option<Layout> {
     let mut records = Vec::new(alloc);
     for r in 0..256 {
-        let name = format!(in alloc; "record-{r}")?;
-        records.push(spec(alloc, name.as_str(), 65_535, home(r), 2)?)?;
+        records.push(greatest_spec(alloc, r)?).ok()?;
     }
-    Ok(Layout::new(sites, records)?)
+    Layout::new(16, records).ok()?.try_copy(alloc).ok()
+}
+
+// Counters of rights at their greatest, which on the diagonal is the limit above the grant.
+fn greatest_rights(alloc: Global, sites: u16, r: u16, s: u16) -> Option<Vec<u64>> {
+    let mut out = Vec::new(alloc);
+    for j in 0..sites {
+        let grant = if j == s && s == home(r) { 65_535 } else { 0 };
+        out.push(COUNTER_LIMIT + grant).ok()?;
+    }
+    Some(out)
 }
 
 // The row of site `s` for record `r` with every counter at its greatest.
-fn greatest_row(alloc: Global, sites: u16, r: u16, s: u16) -> Result<Row, Fail> {
-    let mut out = vec![in alloc; COUNTER_LIMIT; usize::from(sites)]?;
-    if usize::from(s) < out.len() && s == home(r) {
-        out[usize::from(s)] = COUNTER_LIMIT + 65_535;
-    }
-    Ok(Row {
+fn greatest_row(alloc: Global, sites: u16, r: u16, s: u16) -> Option<Row> {
+    Some(Row {
         r,
         s,
-        out: Counts::from_vec(out),
+        out: Counts::from_vec(greatest_rights(alloc, sites, r, s)?),
         taken: COUNTER_LIMIT,
         ann: COUNTER_LIMIT,
         fin: COUNTER_LIMIT,
     })
 }
 
+fn push_rows(alloc: Global, rows: &mut Vec<Row>, sites: u16, r: u16) -> Option<()> {
+    for s in 0..sites {
+        rows.push(greatest_row(alloc, sites, r, s)?).ok()?;
+    }
+    Some(())
+}
+
 // All rows of all records at so many sites.
-fn greatest_delta(alloc: Global, sites: u16) -> Result<Delta, Fail> {
+fn greatest_delta(alloc: Global, sites: u16) -> Option<Delta> {
     let mut rows = Vec::new(alloc);
     for r in 0..256 {
-        for s in 0..sites {
-            rows.push(greatest_row(alloc, sites, r, s)?)?;
-        }
+        push_rows(alloc, &mut rows, sites, r)?;
     }
-    Ok(Delta::new(15, rows)?)
+    Delta::new(15, rows).ok()?.try_copy(alloc).ok()
 }
 
-// What a book answers to a delta: how many counters rose, or why it does not take it.
-fn merged(book: &mut Book, delta: &Delta) -> Result<u64, CheckError> {
-    book.check(delta)?;
-    Ok(book.join(delta))
+// The book of the greatest layout that took the greatest delta of so many sites, and how many counters rose.
+fn greatest_book(alloc: Global, sites: u16) -> Option<(Book, u64)> {
+    let layout = greatest_layout(alloc)?;
+    let delta = greatest_delta(alloc, sites)?;
+    let mut book = Book::genesis(alloc, &layout).ok()?;
+    let risen = merged(&mut book, &delta).ok()?;
+    Some((book, risen))
 }
 
-// All that a book tells, and a copy of it.
-fn told(alloc: Global, book: &Book) -> Result<Delta, Fail> {
-    let some = if book.sites() > 0 { Some(book) } else { None };
-    let book = some.ok_or("a book without sites")?;
-    Ok(book.snapshot(alloc, 0)?.try_copy(alloc)?)
+fn told(alloc: Global, book: &Book) -> Option<Delta> {
+    if book.sites() == 0 {
+        return None;
+    }
+    book.snapshot(alloc, 0).ok()
+}
+
+// How many rows a book tells, and how many of them a delta lacks.
+fn tells(alloc: Global, book: &Book, delta: &Delta) -> Option<(usize, usize)> {
+    let told = told(alloc, book)?;
+    let thin = told.thin(alloc, delta).ok()?;
+    Some((told.rows().len(), thin.rows().len()))
+}
+
+fn told_and_thin(alloc: Global) -> Option<(u64, (usize, usize))> {
+    let delta = greatest_delta(alloc, 16)?;
+    let (book, risen) = greatest_book(alloc, 16)?;
+    Some((risen, tells(alloc, &book, &delta)?))
 }
 
 #[test]
-fn the_greatest_delta_is_joined(rt: HostRuntime) -> Result<(), Fail> {
-    let layout = greatest_layout(rt.alloc(), 16)?.try_copy(rt.alloc())?;
-    let delta = greatest_delta(rt.alloc(), 16)?;
-    assert_eq!(rt; delta.rows().len(), 4_096);
-    let mut book = Book::genesis(rt.alloc(), &layout)?;
-    assert_eq!(rt; told(rt.alloc(), &book)?.rows().len(), 0);
-    assert_eq!(rt; merged(&mut book, &delta), Ok(4_096 * 19));
-    assert_eq!(rt; merged(&mut book, &delta), Ok(0));
-    let again = told(rt.alloc(), &book)?;
-    assert_eq!(rt; again.rows().len(), 4_096);
-    assert_eq!(rt; again.thin(rt.alloc(), &delta)?.rows().len(), 0);
-    assert_eq!(rt; delta.thin(rt.alloc(), &again)?.rows().len(), 0);
-    Ok(())
+fn the_greatest_delta_is_joined_and_told(rt: HostRuntime) {
+    assert_eq!(rt; told_and_thin(rt.alloc()), Some((4_096 * 19, (4_096, 0))));
 }
 
-// Whether a book that takes a delta alone and one that takes it in a list are the same.
-fn joins_the_same(alloc: Global, layout: &Layout, delta: &Delta) -> Result<Option<bool>, Fail> {
-    let mut one = Book::genesis(alloc, layout)?;
-    let mut other = Book::genesis(alloc, layout)?;
+// Takes each delta of a list, if a book takes them all.
+fn join_all(book: &mut Book, deltas: &[Delta]) -> Option<()> {
+    if deltas.iter().any(|delta| book.check(delta).is_err()) {
+        return None;
+    }
+    book.join_all(deltas);
+    Some(())
+}
+
+fn joined_in_a_list(alloc: Global) -> Option<(usize, usize)> {
+    let layout = greatest_layout(alloc)?;
     let mut deltas = Vec::new(alloc);
-    deltas.push(delta.try_copy(alloc)?)?;
-    let all = deltas.as_slice();
-    if one.check(delta).is_err() || all.iter().any(|d| other.check(d).is_err()) {
-        return Ok(None);
+    deltas.push(greatest_delta(alloc, 15)?).ok()?;
+    deltas.push(greatest_delta(alloc, 16)?).ok()?;
+    let mut book = Book::genesis(alloc, &layout).ok()?;
+    join_all(&mut book, deltas.as_slice())?;
+    tells(alloc, &book, &greatest_delta(alloc, 16)?)
+}
+
+#[test]
+fn the_greatest_deltas_are_joined_in_a_list(rt: HostRuntime) {
+    assert_eq!(rt; joined_in_a_list(rt.alloc()), Some((4_096, 0)));
+}
+
+// Whether two books of one layout are the same before the second takes a delta, and then.
+fn same_until_joined(alloc: Global) -> Option<(bool, bool)> {
+    let layout = greatest_layout(alloc)?;
+    let delta = greatest_delta(alloc, 16)?;
+    let one = Book::genesis(alloc, &layout).ok()?;
+    let mut other = Book::genesis(alloc, &layout).ok()?;
+    let before = one.same(&other);
+    if other.check(&delta).is_err() {
+        return None;
     }
-    one.join(delta);
-    other.join_all(all);
-    Ok(Some(one.same(&other)))
+    other.join(&delta);
+    Some((before, one.same(&other)))
 }
 
 #[test]
-fn the_greatest_delta_is_joined_in_a_list(rt: HostRuntime) -> Result<(), Fail> {
-    let layout = greatest_layout(rt.alloc(), 16)?;
-    let delta = greatest_delta(rt.alloc(), 16)?;
-    assert_eq!(rt; joins_the_same(rt.alloc(), &layout, &delta)?, Some(true));
-    Ok(())
+fn books_are_compared_whole(rt: HostRuntime) {
+    assert_eq!(rt; same_until_joined(rt.alloc()), Some((true, false)));
 }
 
-#[test]
-fn the_greatest_book_restarts(rt: HostRuntime) -> Result<(), Fail> {
-    let layout = greatest_layout(rt.alloc(), 16)?;
-    let delta = greatest_delta(rt.alloc(), 16)?;
-    let mut book = Book::genesis(rt.alloc(), &layout)?;
-    assert_eq!(rt; merged(&mut book, &delta), Ok(4_096 * 19));
-    assert_eq!(rt; book.sites(), 16);
+// How many counters come back after a restart of the last site.
+fn forgotten(alloc: Global) -> Option<u64> {
+    let delta = greatest_delta(alloc, 16)?;
+    let (mut book, _) = greatest_book(alloc, 16)?;
+    if book.sites() < 16 {
+        return None;
+    }
     book.keep(15);
-    // Of each record the 15 other rows lose 15 counters of rights and the taken one.
-    assert_eq!(rt; merged(&mut book, &delta), Ok(256 * 15 * 16));
-    Ok(())
+    merged(&mut book, &delta).ok()
+}
+
+// Of each record the 15 other rows lose 15 counters of rights and the taken one.
+#[test]
+fn the_greatest_book_restarts(rt: HostRuntime) {
+    assert_eq!(rt; forgotten(rt.alloc()), Some(256 * 15 * 16));
 }
 
 // The book of 15 of the layout's 16 sites that took the delta, widened to them all.
-fn grown(alloc: Global, layout: &Layout, delta: &Delta) -> Result<Option<Book>, Fail> {
+fn grown(alloc: Global, layout: &Layout, delta: &Delta) -> Option<Book> {
     if layout.sites() != 16 {
-        return Ok(None);
+        return None;
     }
-    let Some(earlier) = layout.at_sites(alloc, 15)? else {
-        return Ok(None);
-    };
-    let mut book = Book::genesis(alloc, &earlier)?;
+    let earlier = layout.at_sites(alloc, 15).ok()??;
+    let mut book = Book::genesis(alloc, &earlier).ok()?;
     if book.check(delta).is_err() {
-        return Ok(None);
+        return None;
     }
     book.join(delta);
-    Ok(Some(book.widened(alloc, layout)?))
+    book.widened(alloc, layout).ok()
+}
+
+// How many rows the widened book tells, and how many of them a fresh book of the wider layout lacks, which
+// took the same delta.
+fn grown_and_told(alloc: Global) -> Option<(usize, usize)> {
+    let layout = greatest_layout(alloc)?;
+    let wide = grown(alloc, &layout, &greatest_delta(alloc, 15)?)?;
+    let (fresh, _) = greatest_book(alloc, 15)?;
+    tells(alloc, &wide, &told(alloc, &fresh)?)
 }
 
 #[test]
-fn the_greatest_book_grows(rt: HostRuntime) -> Result<(), Fail> {
-    let layout = greatest_layout(rt.alloc(), 16)?;
-    let delta = greatest_delta(rt.alloc(), 15)?;
-    let wide = grown(rt.alloc(), &layout, &delta)?.ok_or("the delta of 15 sites is not taken")?;
-    let mut fresh = Book::genesis(rt.alloc(), &layout)?;
-    assert_eq!(rt; merged(&mut fresh, &delta), Ok(256 * 15 * 18));
-    let left = told(rt.alloc(), &wide)?;
-    let right = told(rt.alloc(), &fresh)?;
-    assert_eq!(rt; left.rows().len(), 256 * 15);
-    assert_eq!(rt; left.thin(rt.alloc(), &right)?.rows().len(), 0);
-    assert_eq!(rt; right.thin(rt.alloc(), &left)?.rows().len(), 0);
-    Ok(())
+fn the_greatest_book_grows(rt: HostRuntime) {
+    assert_eq!(rt; grown_and_told(rt.alloc()), Some((256 * 15, 0)));
 }
