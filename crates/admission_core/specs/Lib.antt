@@ -9,3 +9,4 @@ pub mod Order
 pub mod Reached
 pub mod Laws
 pub mod Books
+pub mod Examples

@@ -6,10 +6,10 @@ ghost use Rattle.merge_core.specs.declared.delta.Row.{Row};
 ghost use Rattle.merge_core.specs.Layout.{LayoutState, shape_of};
 ghost use Rattle.merge_core.specs.Rows.{start_counter};
 ghost use Rattle.merge_core.specs.Naming.{shown_by};
-ghost use Rattle.admission_core.specs.declared.ask.Ask.{Ask as AskOf};
+ghost use Rattle.admission_core.specs.declared.ask.Ask.{Ask};
 ghost use Rattle.admission_core.specs.declared.ask.Ask.TheVariants.{Read};
-ghost use Rattle.admission_core.specs.declared.ask.Call.{Call as CallOf};
-ghost use Rattle.admission_core.specs.declared.ask.Phase.{Phase as PhaseOf};
+ghost use Rattle.admission_core.specs.declared.ask.Call.{Call};
+ghost use Rattle.admission_core.specs.declared.ask.Phase.{Phase};
 ghost use Rattle.admission_core.specs.declared.ask.Call.TheVariants.{Ask as Asks};
 ghost use Rattle.admission_core.specs.declared.reply.Refusal.TheVariants.{WriterAnnounced};
 ghost use Rattle.admission_core.specs.declared.reply.Reply.TheVariants.{Admitted, Refused};
@@ -18,7 +18,7 @@ ghost use Rattle.admission_core.specs.Account.{Account, Origin, Session, begin, 
 ghost use Rattle.admission_core.specs.Knowledge.{known, hears_all, durable_part, resumed, restarted, grown};
 ghost use Rattle.admission_core.specs.View.{View, view_of, rights_of, first_unfinished, plan_of, problem_in};
 ghost use Rattle.admission_core.specs.Merging.{snapshot_of};
-ghost use Rattle.admission_core.specs.Serving.{Step, after, after_step, reason, operation_of, reply_of};
+ghost use Rattle.admission_core.specs.Serving.{Step, after, after_step, replay, reason, operation_of, reply_of};
 ghost use Rattle.admission_core.specs.Sound.{IsOrigin};
 ghost use Rattle.admission_core.specs.Reached.{IsReached};
 ghost use Rattle.admission_core.specs.Books.{ShowsBook};
@@ -27,6 +27,7 @@ ghost use Rattle.seat_rows.specs.Seats.{seat_rights, inside_of, HasSeatRights};
 ghost use Rattle.writer_notices.specs.Notices.{open_count, IsOpen, IsLeastOpen};
 ghost use Rattle.admission_core.specs.Laws.{CountsUnits, CountsSessions, KnowTheSame, NameTheSame, IsFirstUnfinished, MayAsk, DifferInNotices, IsFeasible, ShowTheSame, KeepTheSame, StandsFor};
 ghost use Rattle.admission_core.specs.Order.{sessions_next};
+ghost use Rattle.admission_core.specs.Examples.{answers, wanted, read_cases, announce_cases, write_cases, leave_cases, give_cases, help_cases, merge_cases, snapshot_cases, begun, asks, comings, comings_order};
 
 /// An account may begin at the start of each site, and wherever a stop leaves a reached account, under its
 /// layout or a later one.
@@ -95,7 +96,7 @@ pub fn durable_law()
 /// What stands for an account answers as the account does, and two accounts that show the same show the same
 /// after each step.
 pub fn stands_law()
-    ensures reply { (v : View) → (order : List Session) → (a : Account) → StandsFor v order a → (call : CallOf) → reply_of v call ≡ reply_of (view_of a) call }
+    ensures reply { (v : View) → (order : List Session) → (a : Account) → StandsFor v order a → (call : Call) → reply_of v call ≡ reply_of (view_of a) call }
     ensures step { (a b : Account) → ShowTheSame a b → (step : Step) → ShowTheSame (after_step a step) (after_step b step) }
 {}
 
@@ -103,8 +104,8 @@ pub fn stands_law()
 /// site begins with the sessions of its base, in their order.
 pub fn asked_law()
     ensures base { (o : Origin) → IsOrigin o → sessions_of (begin o) ≡ o.base.sessions }
-    ensures sessions { (a : Account) → (ask : AskOf) → reason (view_of a) (Asks ask) ≡ None → sessions_of (after a (Asks ask)) ≡ sessions_next (operation_of (view_of a) ask) (sessions_of a) }
-    ensures counters { (a : Account) → (ask : AskOf) → reason (view_of a) (Asks ask) ≡ None → (r s : ℕ) → (cell : Cell) → let operation = operation_of (view_of a) ask in known (after a (Asks ask)) r s cell ≡ known a r s cell + (if (s == a.origin.site) && (record_of operation == r) then rise_of (seats_in a.origin.layout) a.origin.site (phase_of a) operation cell else 0) }
+    ensures sessions { (a : Account) → (ask : Ask) → reason (view_of a) (Asks ask) ≡ None → sessions_of (after a (Asks ask)) ≡ sessions_next (operation_of (view_of a) ask) (sessions_of a) }
+    ensures counters { (a : Account) → (ask : Ask) → reason (view_of a) (Asks ask) ≡ None → (r s : ℕ) → (cell : Cell) → let operation = operation_of (view_of a) ask in known (after a (Asks ask)) r s cell ≡ known a r s cell + (if (s == a.origin.site) && (record_of operation == r) then rise_of (seats_in a.origin.layout) a.origin.site (phase_of a) operation cell else 0) }
 {}
 
 /// Where a view shows a book, the model says of it what the book's own crates say.
@@ -114,6 +115,19 @@ pub fn book_law()
     ensures has_rights { (b : BookState) → (a : Account) → IsReached a → IsBook b → ShowsBook b (view_of a) → (r : ℕ) → r < length b.records → HasSeatRights (seats_at b r) a.origin.site }
     ensures inside { (b : BookState) → (a : Account) → IsReached a → IsBook b → ShowsBook b (view_of a) → (r : ℕ) → r < length b.records → inside_of (seats_at b r) a.origin.site ≡ inside a r }
     ensures open { (b : BookState) → (a : Account) → IsReached a → IsBook b → ShowsBook b (view_of a) → (r : ℕ) → r < length b.records → open_count (notices_at b r) a.origin.site ≡ writers_here a r }
-    ensures open_session { (b : BookState) → (a : Account) → IsReached a → IsBook b → ShowsBook b (view_of a) → (r h : ℕ) → (p : PhaseOf) → r < length b.records → phase_of a r h ≡ Some p → 1 ≤ writers p → IsOpen (notices_at b r) a.origin.site }
+    ensures open_session { (b : BookState) → (a : Account) → IsReached a → IsBook b → ShowsBook b (view_of a) → (r h : ℕ) → (p : Phase) → r < length b.records → phase_of a r h ≡ Some p → 1 ≤ writers p → IsOpen (notices_at b r) a.origin.site }
     ensures no_writer { (b : BookState) → (v : View) → (r : ℕ) → IsBook b → ShowsBook b v → r < length b.records → ((first_unfinished v r ≡ None) ↔ ((s : ℕ) → ¬ IsOpen (notices_at b r) s)) }
+{}
+
+/// The reply table by computation: each two refusals that can both apply, and both sides of each limit.
+pub fn reply_examples()
+    ensures read { answers read_cases ≡ wanted read_cases }
+    ensures announce { answers announce_cases ≡ wanted announce_cases }
+    ensures write { answers write_cases ≡ wanted write_cases }
+    ensures leave { answers leave_cases ≡ wanted leave_cases }
+    ensures give { answers give_cases ≡ wanted give_cases }
+    ensures help { answers help_cases ≡ wanted help_cases }
+    ensures merge { answers merge_cases ≡ wanted merge_cases }
+    ensures snapshot { answers snapshot_cases ≡ wanted snapshot_cases }
+    ensures order { sessions_of (replay begun (asks comings)) ≡ comings_order }
 {}
