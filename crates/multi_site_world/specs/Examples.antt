@@ -92,6 +92,14 @@ thin_taken = Thin 2 2 1 ∷ Thin 2 2 1 ∷ Thin 2 3 1 ∷ Thin 2 2 3 ∷ Thin 3 
 abbrev pub thin_taken_replies : List WorldReply
 thin_taken_replies = Core (Merged 3) ∷ Core (Merged 0) ∷ NoMessage ∷ NoMessage ∷ NoSite ∷ []
 
+-- a writer withdraws: the second message differs from the first in one counter, and is told thin
+abbrev pub withdrawal_thin : List Event
+withdrawal_thin = Call 1 (Announce 0 5) ∷ Send 1 ∷ Take 0 0 ∷ Call 1 (Leave 0 5) ∷ Send 1 ∷ Thin 0 1 0 ∷ Thin 0 0 0 ∷ []
+
+abbrev pub withdrawal_thin_replies : List WorldReply
+withdrawal_thin_replies =
+    Core (Announced 1) ∷ Sent 0 ∷ Core (Merged 1) ∷ Core (Left Waiting) ∷ Sent 1 ∷ Core (Merged 1) ∷ Core (Merged 0) ∷ []
+
 -- the rows of the writer's record in those messages
 abbrev pub told_by : ℕ → List ℕ → ℕ → ℕ → ℕ → Row
 told_by s out taken ann fin = record { r = 0; s = s; out = out; taken = taken; ann = ann; fin = fin }

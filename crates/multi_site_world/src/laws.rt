@@ -19,7 +19,9 @@ ghost use Rattle.multi_site_world.specs.declared.event.Event.TheVariants.{Call, 
 ghost use Rattle.multi_site_world.specs.declared.event.WorldReply.TheVariants.{Core};
 ghost use Rattle.multi_site_world.specs.World.{World, account_at, happens, replies, run, start_world, world_reply};
 ghost use Rattle.multi_site_world.specs.Laws.{IsReachedWorld, KnowsRows, IsConserved, IsWriterAlone, AreLogged, IsConsistentCut, WasSent, all_inside, IsMergedReply, IsOtherLayoutReply, gathering, AreTheOthers, IsNeverFull, AreGathered, MayGather};
-ghost use Rattle.multi_site_world.specs.Examples.{small_layout, seat_moves, seat_moves_replies, writer_announced, writer_announced_replies, reader_not_held, writer_helped, writer_helped_replies, writer_done, writer_done_replies, seat_kept, seat_kept_replies, writer_remembered, writer_remembered_replies, layout_grows, layout_grows_replies, thin_taken, thin_taken_replies, writer_helped_messages, writer_withdraws, writer_withdraws_replies, stale_book, stale_book_replies, refusals, refusals_replies, writers_announced, writers_announced_replies, writers_limit, writers_limit_replies, seats_shared, seats_shared_replies, refusals_in_order, refusals_in_order_replies, used_site, seat_moves_message, other_layout_message, bad_row_message};
+ghost use Rattle.admission_core.specs.Examples.{three_records};
+ghost use Rattle.multi_site_world.specs.Instances.{three_sites, writer_heard, others_of_1, gathered_replies, writer_there, second_message, log_of_0, accounts_of, records_used, records_used_replies};
+ghost use Rattle.multi_site_world.specs.Examples.{small_layout, seat_moves, seat_moves_replies, writer_announced, writer_announced_replies, reader_not_held, writer_helped, writer_helped_replies, writer_done, writer_done_replies, seat_kept, seat_kept_replies, writer_remembered, writer_remembered_replies, layout_grows, layout_grows_replies, thin_taken, thin_taken_replies, withdrawal_thin, withdrawal_thin_replies, writer_helped_messages, writer_withdraws, writer_withdraws_replies, stale_book, stale_book_replies, refusals, refusals_replies, writers_announced, writers_announced_replies, writers_limit, writers_limit_replies, seats_shared, seats_shared_replies, refusals_in_order, refusals_in_order_replies, used_site, seat_moves_message, other_layout_message, bad_row_message};
 
 /// Seats are conserved: in every reached world a record's seats are the rights of all sites, the weights inside
 /// and the seats in flight, and no site has spent more than it gained.
@@ -89,6 +91,8 @@ pub fn examples()
     ensures writer_remembered { replies writer_remembered (start_world 3 (small_layout 3 3 2)) ≡ writer_remembered_replies }
     ensures layout_grown { replies layout_grows (start_world 1 (small_layout 2 2 1)) ≡ layout_grows_replies }
     ensures thin_merged { replies (writer_announced ++ (writer_helped ++ thin_taken)) (start_world 3 (small_layout 3 3 2)) ≡ writer_announced_replies ++ (writer_helped_replies ++ thin_taken_replies) }
+    ensures withdrawal_thin { replies withdrawal_thin (start_world 2 (small_layout 2 2 1)) ≡ withdrawal_thin_replies }
+    ensures records_used { replies records_used (start_world 3 three_records) ≡ records_used_replies }
     ensures messages { (run (writer_announced ++ writer_helped) (start_world 3 (small_layout 3 3 2))).sent ≡ writer_helped_messages }
     ensures writer_withdraws { replies writer_withdraws (start_world 1 (small_layout 1 1 1)) ≡ writer_withdraws_replies }
     ensures stale_book { replies stale_book (start_world 3 (small_layout 3 3 2)) ≡ stale_book_replies }
@@ -104,4 +108,19 @@ pub fn examples()
     ensures other_layout { reply_of (view_of (begin (start_origin (small_layout 2 2 1) 1))) (Merge other_layout_message) ≡ Refused (OtherLayout 1) }
     ensures bad_row { reply_of (view_of (begin (start_origin (small_layout 2 2 1) 1))) (Merge bad_row_message) ≡ Refused (BadRow 1) }
     ensures own_row_ahead { reply_of (view_of (begin (start_origin (small_layout 2 2 1) 0))) (Merge seat_moves_message) ≡ Refused (OwnRowAhead 0) }
+{}
+
+/// The premises of the laws are met: three sites of which one may gather all seats and does, a site that knows
+/// an earlier message, logs whose ends are a consistent cut, and the same logs with one cut shorter, whose ends
+/// are none.
+pub fn instances()
+    ensures may_gather { MayGather writer_heard 0 1 }
+    ensures the_others { AreTheOthers 3 1 others_of_1 }
+    ensures gathered { replies (gathering 0 1 (length writer_heard.sent) others_of_1) writer_heard ≡ gathered_replies }
+    ensures all_seats { rights_of (view_of (account_at (run (gathering 0 1 (length writer_heard.sent) others_of_1) writer_heard) 1)) 0 ≡ 3 }
+    ensures knows_rows { KnowsRows (account_at writer_there 1) second_message.rows }
+    ensures logged { AreLogged three_sites (accounts_of log_of_0) }
+    ensures cut { IsConsistentCut three_sites (accounts_of log_of_0) }
+    ensures logged_short { AreLogged three_sites (accounts_of []) }
+    ensures no_cut { ¬ IsConsistentCut three_sites (accounts_of []) }
 {}
