@@ -46,7 +46,7 @@ known_rises a b r s cell same more heard = at (cases_eq s a.origin.site)
     at (inr ne) =
         omega (arith, known_other a r s cell ne, known_other b r s cell (λ e. ne (e ∙ ap (λ o. o.site) same)))
 
-known_after : (a : Account) (call : Call) (r s : ℕ) (cell : Cell) → known a r s cell ≤ known (after a call) r s cell
+pub known_after : (a : Account) (call : Call) (r s : ℕ) (cell : Cell) → known a r s cell ≤ known (after a call) r s cell
 known_after a (Asks ask) r s cell =
     first_both (λ o. known a r s cell ≤ known (unless_refused o a (advanced a (Asks ask))) r s cell) (ask_lines (view_of a) ask) (λ x. omega arith)
     (λ clear. known_rises a (advanced a (Asks ask)) r s cell refl (omega arith) (omega arith))

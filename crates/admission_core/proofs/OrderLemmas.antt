@@ -128,7 +128,7 @@ sessions_asked a ask free =
     ap (λ o. sessions_of (unless_refused o a (advanced a (Asks ask)))) free ∙ sessions_advanced a ask free
 
 -- each stored session is found, where none is stored twice
-abbrev Once : List Session → Type 0
+abbrev pub Once : List Session → Type 0
 Once ss = (r h : ℕ) (p : Phase) → stored_phase ss r h ≡ Some p → occurs r h (map key_of ss) ≡ 1
 
 -- a holder that is in the list occurs in it
@@ -151,7 +151,7 @@ later_once s ss once r h p e = at (cases_Bool (is_key r h s.r s.h))
         let first = once r h p (cond-false (is_key r h s.r s.h) (Some s.phase) (stored_phase ss r h) f ∙ e) in
         omega (arith, first, cond-false {A = ℕ} (is_key r h s.r s.h) 1 0 f)
 
-abbrev IsStored : (ℕ → ℕ → Option Phase) → Session → Type 0
+abbrev pub IsStored : (ℕ → ℕ → Option Phase) → Session → Type 0
 IsStored phase s = phase s.r s.h ≡ Some s.phase
 
 -- a session of a later place occurs there
@@ -173,7 +173,7 @@ both : {X : Type 0} (P Q : X → Type 0) (xs : List X) → AllByRecursion P xs �
 both P Q [] p q = tt
 both P Q (x ∷ xs) p q = ((p.0, q.0), both P Q xs p.1 q.1)
 
-all_stored : (ss : List Session) → Once ss → AllByRecursion (IsStored (stored_phase ss)) ss
+pub all_stored : (ss : List Session) → Once ss → AllByRecursion (IsStored (stored_phase ss)) ss
 all_stored [] once = tt
 all_stored (s ∷ ss) once = (
   cond-true (is_key s.r s.h s.r s.h) (Some s.phase) (stored_phase ss s.r s.h) (is_key-refl s.r s.h),

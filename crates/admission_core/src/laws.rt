@@ -26,6 +26,7 @@ ghost use Rattle.merge_core.specs.Book.{BookState, HasCell, seats_at, notices_at
 ghost use Rattle.seat_rows.specs.Seats.{seat_rights, inside_of, HasSeatRights};
 ghost use Rattle.writer_notices.specs.Notices.{open_count, IsOpen, IsLeastOpen};
 ghost use Rattle.admission_core.specs.Laws.{CountsUnits, CountsSessions, KnowTheSame, NameTheSame, IsFirstUnfinished, MayAsk, DifferInNotices, IsFeasible, ShowTheSame, KeepTheSame, StandsFor};
+ghost use Rattle.admission_core.specs.Durable.{durable_cells, AreRising, put_cells, change_between, IsEmpty};
 ghost use Rattle.admission_core.specs.Order.{sessions_next};
 ghost use Rattle.admission_core.specs.Examples.{answers, wanted, read_cases, announce_cases, write_cases, leave_cases, give_cases, help_cases, merge_cases, snapshot_cases, begun, asks, comings, comings_order};
 
@@ -106,6 +107,14 @@ pub fn asked_law()
     ensures base { (o : Origin) → IsOrigin o → sessions_of (begin o) ≡ o.base.sessions }
     ensures sessions { (a : Account) → (ask : Ask) → reason (view_of a) (Asks ask) ≡ None → sessions_of (after a (Asks ask)) ≡ sessions_next (operation_of (view_of a) ask) (sessions_of a) }
     ensures counters { (a : Account) → (ask : Ask) → reason (view_of a) (Asks ask) ≡ None → (r s : ℕ) → (cell : Cell) → let operation = operation_of (view_of a) ask in known (after a (Asks ask)) r s cell ≡ known a r s cell + (if (s == a.origin.site) && (record_of operation == r) then rise_of (seats_in a.origin.layout) a.origin.site (phase_of a) operation cell else 0) }
+{}
+
+/// The cells of a durable part rise; those of a call's change, put at their places, make the old cells the new
+/// ones; and a change is empty where the durable part stays the same.
+pub fn change_law()
+    ensures rising { (a : Account) → AreRising (durable_cells a) }
+    ensures put { (a : Account) → IsReached a → (call : Call) → put_cells (change_between a (after a call)).cells (durable_cells a) ≡ durable_cells (after a call) }
+    ensures empty { (a : Account) → IsReached a → (call : Call) → KeepTheSame (durable_part (after a call)) (durable_part a) → IsEmpty (change_between a (after a call)) }
 {}
 
 /// Where a view shows a book, the model says of it what the book's own crates say.
