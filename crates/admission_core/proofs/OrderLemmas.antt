@@ -4,7 +4,7 @@ use Rattle.std.specs.List.{AllByRecursion}
 use Rattle.std.proofs.lemmas.Bool.{cases_Bool, cond-true, cond-false}
 use Rattle.admission_core.specs.declared.ask.Ask.{Ask}
 use Rattle.admission_core.specs.declared.ask.Ask.TheVariants.{Read, Announce, Quill, Leave, Give, Help}
-use Rattle.admission_core.specs.declared.ask.Call.TheVariants.{Ask as Asks}
+use Rattle.admission_core.specs.declared.ask.Call.TheVariants.{Ask as AskCall}
 use Rattle.admission_core.specs.declared.ask.Phase.{Phase}
 use Rattle.admission_core.specs.declared.ask.Phase.TheVariants.{Reader, Waiting, Writer}
 use Rattle.admission_core.specs.Account.{Account, Origin, Session, Key, Operation, EnteredRead, AnnouncedWriter, EnteredWrite, LeftRecord, begin, is_key, key_of, without, occurs, stored_phase, with_phase, present, arrivals, phase_of, sessions_of}
@@ -109,7 +109,7 @@ leaves_gap r h phase (k ∷ ks) = at (cases_Bool (is_key r h k.r k.h)) (phase k.
         ∙ ap (λ o. without_session r h (with_phase k o (present phase ks))) (sym is)))
 
 -- the sessions after an ask that nothing refuses
-pub sessions_advanced : (a : Account) (ask : Ask) → reason (view_of a) (Asks ask) ≡ None → sessions_of (advanced a (Asks ask)) ≡ sessions_next (operation_of (view_of a) ask) (sessions_of a)
+pub sessions_advanced : (a : Account) (ask : Ask) → reason (view_of a) (AskCall ask) ≡ None → sessions_of (advanced a (AskCall ask)) ≡ sessions_next (operation_of (view_of a) ask) (sessions_of a)
 sessions_advanced a (Read r h) free =
     let clear = clear_of (read_lines (view_of a) r h) free in
     arrives_last r h Reader (phase_of a) (arrivals a.origin a.done) (none_of (phase_of a r h) clear.1.1.0)
@@ -123,9 +123,9 @@ sessions_advanced a (Leave r h) free = leaves_gap r h (phase_of a) (arrivals a.o
 sessions_advanced a (Give r to seats) free = refl
 sessions_advanced a (Help r) free = refl
 
-pub sessions_asked : (a : Account) (ask : Ask) → reason (view_of a) (Asks ask) ≡ None → sessions_of (after a (Asks ask)) ≡ sessions_next (operation_of (view_of a) ask) (sessions_of a)
+pub sessions_asked : (a : Account) (ask : Ask) → reason (view_of a) (AskCall ask) ≡ None → sessions_of (after a (AskCall ask)) ≡ sessions_next (operation_of (view_of a) ask) (sessions_of a)
 sessions_asked a ask free =
-    ap (λ o. sessions_of (unless_refused o a (advanced a (Asks ask)))) free ∙ sessions_advanced a ask free
+    ap (λ o. sessions_of (unless_refused o a (advanced a (AskCall ask)))) free ∙ sessions_advanced a ask free
 
 -- each stored session is found, where none is stored twice
 abbrev pub Once : List Session → Type 0

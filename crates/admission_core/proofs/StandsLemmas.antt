@@ -10,7 +10,7 @@ use Rattle.merge_core.specs.Naming.{shown_by}
 use Rattle.merge_core.specs.Changes.{keeps_counter}
 use Rattle.admission_core.specs.declared.ask.Ask.{Ask}
 use Rattle.admission_core.specs.declared.ask.Call.{Call}
-use Rattle.admission_core.specs.declared.ask.Call.TheVariants.{Ask as Asks, Merge, Snapshot as Tell}
+use Rattle.admission_core.specs.declared.ask.Call.TheVariants.{Ask as AskCall, Merge, Snapshot as SnapshotCall}
 use Rattle.admission_core.specs.declared.ask.Phase.{Phase}
 use Rattle.admission_core.specs.declared.ask.Phase.TheVariants.{Reader, Waiting, Writer}
 use Rattle.admission_core.specs.declared.reply.Refusal.{Refusal}
@@ -63,9 +63,9 @@ known_does a operation r s cell = at (cases_eq s a.origin.site)
           ap (λ b. cond (b && eqb (record_of operation) r) (rise_of (seats_in a.origin.layout) a.origin.site (phase_of a) operation cell) 0) (ne_eqb s a.origin.site ne),
         )
 
-pub known_asked : (a : Account) (ask : Ask) → reason (view_of a) (Asks ask) ≡ None → (r s : ℕ) (cell : Cell) → known (after a (Asks ask)) r s cell ≡ known a r s cell + cond (eqb s a.origin.site && eqb (record_of (operation_of (view_of a) ask)) r) (rise_of (seats_in a.origin.layout) a.origin.site (phase_of a) (operation_of (view_of a) ask) cell) 0
+pub known_asked : (a : Account) (ask : Ask) → reason (view_of a) (AskCall ask) ≡ None → (r s : ℕ) (cell : Cell) → known (after a (AskCall ask)) r s cell ≡ known a r s cell + cond (eqb s a.origin.site && eqb (record_of (operation_of (view_of a) ask)) r) (rise_of (seats_in a.origin.layout) a.origin.site (phase_of a) (operation_of (view_of a) ask) cell) 0
 known_asked a ask free r s cell =
-    ap (λ o. known (unless_refused o a (advanced a (Asks ask))) r s cell) free ∙ known_does a (operation_of (view_of a) ask) r s cell
+    ap (λ o. known (unless_refused o a (advanced a (AskCall ask))) r s cell) free ∙ known_does a (operation_of (view_of a) ask) r s cell
 
 -- what is known after a delta was heard
 pub heard_own : (a : Account) (rows : List Row) (r s : ℕ) (cell : Cell) → s ≡ a.origin.site → known (hears a rows) r s cell ≡ own a r cell
@@ -171,13 +171,13 @@ module _ (a b : Account) (same : ShowTheSame a b) where
 
   same_called : (call : Call) (o : Option Refusal) → reason (view_of a) call ≡ o → reason (view_of b) call ≡ o → ShowTheSame (unless_refused o a (advanced a call)) (unless_refused o b (advanced b call))
   same_called call (Some refusal) e f = same
-  same_called (Asks ask) None e f =
+  same_called (AskCall ask) None e f =
       let operation : operation_of (view_of a) ask ≡ operation_of (view_of b) ask = ap (λ v. operation_of v ask) views in
-      subst (λ (x : Operation). ShowTheSame (advanced a (Asks ask)) (does x b)) operation
+      subst (λ (x : Operation). ShowTheSame (advanced a (AskCall ask)) (does x b)) operation
       (same_done (operation_of (view_of a) ask) (sessions_advanced a ask e)
       (subst (λ (x : Operation). sessions_of (does x b) ≡ sessions_next x (sessions_of b)) (sym operation) (sessions_advanced b ask f)))
   same_called (Merge delta) None e f = same_heard delta.rows
-  same_called Tell None e f = same
+  same_called SnapshotCall None e f = same
 
   same_after : (call : Call) → ShowTheSame (after a call) (after b call)
   same_after call =

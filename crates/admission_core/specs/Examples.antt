@@ -10,13 +10,13 @@ use Rattle.merge_core.specs.Rows.{start_counter}
 use Rattle.admission_core.specs.declared.ask.Ask.{Ask}
 use Rattle.admission_core.specs.declared.ask.Ask.TheVariants.{Read, Announce, Quill, Leave, Give, Help}
 use Rattle.admission_core.specs.declared.ask.Call.{Call}
-use Rattle.admission_core.specs.declared.ask.Call.TheVariants.{Ask as Asks, Merge, Snapshot as Tell}
+use Rattle.admission_core.specs.declared.ask.Call.TheVariants.{Ask as AskCall, Merge, Snapshot as SnapshotCall}
 use Rattle.admission_core.specs.declared.ask.Phase.{Phase}
 use Rattle.admission_core.specs.declared.ask.Phase.TheVariants.{Reader, Waiting, Writer}
 use Rattle.admission_core.specs.declared.reply.Refusal.{Refusal}
 use Rattle.admission_core.specs.declared.reply.Refusal.TheVariants.{NoRecord, BadHolder, AlreadyHere, CounterFull, WriterAnnounced, NoSeat, TooManyWriters, NotAnnounced, AlreadyInside, MissingSeats, NotHere, NoSite, ToSelf, ZeroSeats, TooFewRights, NoPlan, OtherLayout, BadRow, OwnRowAhead}
 use Rattle.admission_core.specs.declared.reply.Reply.{Reply}
-use Rattle.admission_core.specs.declared.reply.Reply.TheVariants.{Admitted, Announced, Left, Given, Gave, Merged as Joined, Snapshot as Told, Refused}
+use Rattle.admission_core.specs.declared.reply.Reply.TheVariants.{Admitted, Announced, Left, Given, Gave, Merged, Snapshot as SnapshotReply, Refused}
 use Rattle.admission_core.specs.Account.{Account, Session, begin}
 use Rattle.admission_core.specs.View.{View}
 use Rattle.admission_core.specs.Serving.{Step, Serves, reply_of}
@@ -70,7 +70,7 @@ with_writer s counter r t cell = counter r t cell
 
 -- a case of an ask
 abbrev pub asked : (ℕ → ℕ → Option Phase) → (ℕ → ℕ → Cell → ℕ) → Ask → Reply → Case
-asked phase counter ask reply = record { view = at_one phase counter; call = Asks ask; reply = reply }
+asked phase counter ask reply = record { view = at_one phase counter; call = AskCall ask; reply = reply }
 
 abbrev pub refused : (ℕ → ℕ → Option Phase) → (ℕ → ℕ → Cell → ℕ) → Ask → Refusal → Case
 refused phase counter ask refusal = asked phase counter ask (Refused refusal)
@@ -193,39 +193,39 @@ merge_cases =
     ∷ told_at_start (row_of_home (three 2 0 0) 0 0 1 ∷ (row_with 0 3 (three 0 0 0) 0 0 0 ∷ [])) (Refused (OtherLayout 1))
     ∷ told_at_start (row_with 1 1 (2 ∷ (9 ∷ (0 ∷ (0 ∷ [])))) 0 0 0 ∷ []) (Refused (OtherLayout 0))
     ∷ told_at_start (row_with 0 1 (0 ∷ []) 0 0 0 ∷ []) (Refused (OtherLayout 0))
-    ∷ told_at_start (row_of_home (2 ∷ []) 1 0 0 ∷ []) (Joined 1)
+    ∷ told_at_start (row_of_home (2 ∷ []) 1 0 0 ∷ []) (Merged 1)
     ∷ told_at_start (row_of_home (three 2 0 0) 0 1 1 ∷ (row_with 1 1 (three 0 4 0) 0 0 0 ∷ [])) (Refused (BadRow 1))
     ∷ told_at_start (row_of_home (three 1 0 0) 0 0 0 ∷ []) (Refused (BadRow 0))
     ∷ told_at_start (row_of_home (three 4 0 0) 1 0 0 ∷ []) (Refused (BadRow 0))
-    ∷ told_at_start (row_of_home (three 4 0 0) 2 0 0 ∷ []) (Joined 2)
+    ∷ told_at_start (row_of_home (three 4 0 0) 2 0 0 ∷ []) (Merged 2)
     ∷ told_at_start (row_of_home (three 2 0 0) 1000000000001 0 0 ∷ []) (Refused (BadRow 0))
-    ∷ told_at_start (row_of_home (three 2 0 0) 1000000000000 0 0 ∷ []) (Joined 1)
+    ∷ told_at_start (row_of_home (three 2 0 0) 1000000000000 0 0 ∷ []) (Merged 1)
     ∷ told_at_start (row_of_home (three 2 1000000000001 0) 0 0 0 ∷ []) (Refused (BadRow 0))
-    ∷ told_at_start (row_of_home (three 2 1000000000000 0) 0 0 0 ∷ []) (Joined 1)
-    ∷ told_at_start (row_of_home (three 1000000000002 0 0) 1000000000000 0 0 ∷ []) (Joined 2)
+    ∷ told_at_start (row_of_home (three 2 1000000000000 0) 0 0 0 ∷ []) (Merged 1)
+    ∷ told_at_start (row_of_home (three 1000000000002 0 0) 1000000000000 0 0 ∷ []) (Merged 2)
     ∷ told_at_start (row_of_home (three 2 0 0) 0 1 2 ∷ []) (Refused (BadRow 0))
     ∷ told_at_start (row_of_home (three 2 0 0) 0 1000000000001 0 ∷ []) (Refused (BadRow 0))
-    ∷ told_at_start (row_of_home (three 2 0 0) 0 1000000000000 1000000000000 ∷ []) (Joined 2)
+    ∷ told_at_start (row_of_home (three 2 0 0) 0 1000000000000 1000000000000 ∷ []) (Merged 2)
     ∷ told_at_start (row_with 1 1 (three 0 3 1) 0 0 0 ∷ (row_with 2 1 (three 0 0 0) 1 0 0 ∷ [])) (Refused (OwnRowAhead 1))
     ∷ told_at_start (row_with 2 1 (three 0 0 0) 0 1 0 ∷ []) (Refused (OwnRowAhead 2))
-    ∷ told_at_start (row_with 1 1 (three 0 3 0) 0 0 0 ∷ (row_with 2 2 (three 0 1 5) 0 1 1 ∷ [])) (Joined 3)
+    ∷ told_at_start (row_with 1 1 (three 0 3 0) 0 0 0 ∷ (row_with 2 2 (three 0 1 5) 0 1 1 ∷ [])) (Merged 3)
     ∷ []
 
 -- what a site tells: its number, and the rows that have left their start, by record and then by site
 abbrev pub snapshot_cases : List Case
 snapshot_cases =
-    record { view = at_one (everyone None) (start_counter (shape_of three_records)); call = Tell; reply = Told (record { from = 1; rows = [] }) }
+    record { view = at_one (everyone None) (start_counter (shape_of three_records)); call = SnapshotCall; reply = SnapshotReply (record { from = 1; rows = [] }) }
     ∷ record {
       view = at_one (everyone None) (λ r s cell. start_counter (shape_of three_records) r s cell + (if (r == 2) && (s == 1) then own_row 0 1 0 1 0 cell else 0) + (if (r == 1) && (s == 2) then own_row 0 0 0 0 0 cell else 0));
-      call = Tell;
-      reply = Told (record { from = 1; rows = row_with 2 1 (three 1 0 0) 0 1 0 ∷ [] });
+      call = SnapshotCall;
+      reply = SnapshotReply (record { from = 1; rows = row_with 2 1 (three 1 0 0) 0 1 0 ∷ [] });
     }
     ∷ []
 
 -- calls at one site, newest first
 abbrev pub asks : List Ask → List Step
 asks [] = []
-asks (ask ∷ rest) = Serves (Asks ask) ∷ asks rest
+asks (ask ∷ rest) = Serves (AskCall ask) ∷ asks rest
 
 -- site 1, which began with a reader of record 2 and a waiting writer of record 1
 abbrev pub begun : Account

@@ -10,7 +10,7 @@ ghost use Rattle.admission_core.specs.declared.ask.Ask.{Ask};
 ghost use Rattle.admission_core.specs.declared.ask.Ask.TheVariants.{Read};
 ghost use Rattle.admission_core.specs.declared.ask.Call.{Call};
 ghost use Rattle.admission_core.specs.declared.ask.Phase.{Phase};
-ghost use Rattle.admission_core.specs.declared.ask.Call.TheVariants.{Ask as Asks};
+ghost use Rattle.admission_core.specs.declared.ask.Call.TheVariants.{Ask as AskCall};
 ghost use Rattle.admission_core.specs.declared.reply.Refusal.TheVariants.{WriterAnnounced};
 ghost use Rattle.admission_core.specs.declared.reply.Reply.TheVariants.{Admitted, Refused};
 ghost use Rattle.admission_core.specs.declared.reply.Plan.{Plan};
@@ -25,7 +25,7 @@ ghost use Rattle.admission_core.specs.Books.{ShowsBook};
 ghost use Rattle.merge_core.specs.Book.{BookState, HasCell, seats_at, notices_at, IsBook};
 ghost use Rattle.seat_rows.specs.Seats.{seat_rights, inside_of, HasSeatRights};
 ghost use Rattle.writer_notices.specs.Notices.{open_count, IsOpen, IsLeastOpen};
-ghost use Rattle.admission_core.specs.Laws.{CountsUnits, CountsSessions, KnowTheSame, NameTheSame, IsFirstUnfinished, MayAsk, DifferInNotices, IsFeasible, ShowTheSame, KeepTheSame, StandsFor};
+ghost use Rattle.admission_core.specs.Laws.{CountsUnits, CountsSessions, SourcesAgree, DeltasAgree, IsFirstUnfinished, MayAsk, DifferInNotices, IsFeasible, ShowTheSame, KeepTheSame, StandsFor};
 ghost use Rattle.admission_core.specs.Durable.{durable_cells, AreRising, put_cells, change_between, IsEmpty};
 ghost use Rattle.admission_core.specs.Order.{sessions_next};
 ghost use Rattle.admission_core.specs.Examples.{answers, wanted, read_cases, announce_cases, write_cases, leave_cases, give_cases, help_cases, merge_cases, snapshot_cases, begun, asks, comings, comings_order};
@@ -68,16 +68,16 @@ pub fn snapshot_law()
 /// Sites that know the same units have equal counters, however many sites each knows; and deltas that name
 /// the same units, in whatever order, grouping and repetition they are merged, leave equal counters.
 pub fn equal_books_law()
-    ensures counters { (a b : Account) → IsReached a → IsReached b → KnowTheSame a b → (r s : ℕ) → (cell : Cell) → known a r s cell ≡ known b r s cell }
-    ensures merges { (a : Account) → (first second : List (List Row)) → NameTheSame (shape_of a.origin.layout) first second → (r s : ℕ) → (cell : Cell) → known (hears_all a first) r s cell ≡ known (hears_all a second) r s cell }
+    ensures counters { (a b : Account) → IsReached a → IsReached b → SourcesAgree a b → (r s : ℕ) → (cell : Cell) → known a r s cell ≡ known b r s cell }
+    ensures merges { (a : Account) → (first second : List (List Row)) → DeltasAgree (shape_of a.origin.layout) first second → (r s : ℕ) → (cell : Cell) → known (hears_all a first) r s cell ≡ known (hears_all a second) r s cell }
 {}
 
 /// Under problem 2 no reader is admitted where some site shows an unfinished writer, and one whom nothing else
 /// refuses is told of the least such site; under problem 1 notices change nothing for a reader.
 pub fn announced_writer_law()
-    ensures none_admitted { (a : Account) → IsReached a → (r h s : ℕ) → problem_in a.origin.layout r ≡ 2 → known a r s Fin < known a r s Ann → reply_of (view_of a) (Asks (Read r h)) ≢ Admitted }
-    ensures held { (v : View) → (r h s : ℕ) → problem_in v.layout r ≡ 2 → MayAsk v r h → IsFirstUnfinished v r s → reply_of v (Asks (Read r h)) ≡ Refused (WriterAnnounced s) }
-    ensures not_held { (v w : View) → (r h : ℕ) → problem_in v.layout r ≡ 1 → DifferInNotices v w → reply_of w (Asks (Read r h)) ≡ reply_of v (Asks (Read r h)) }
+    ensures none_admitted { (a : Account) → IsReached a → (r h s : ℕ) → problem_in a.origin.layout r ≡ 2 → known a r s Fin < known a r s Ann → reply_of (view_of a) (AskCall (Read r h)) ≢ Admitted }
+    ensures held { (v : View) → (r h s : ℕ) → problem_in v.layout r ≡ 2 → MayAsk v r h → IsFirstUnfinished v r s → reply_of v (AskCall (Read r h)) ≡ Refused (WriterAnnounced s) }
+    ensures not_held { (v w : View) → (r h : ℕ) → problem_in v.layout r ≡ 1 → DifferInNotices v w → reply_of w (AskCall (Read r h)) ≡ reply_of v (AskCall (Read r h)) }
 {}
 
 /// A plan sends seats to another site of the layout, and no more than the site has rights to.
@@ -105,8 +105,8 @@ pub fn stands_law()
 /// site begins with the sessions of its base, in their order.
 pub fn asked_law()
     ensures base { (o : Origin) → IsOrigin o → sessions_of (begin o) ≡ o.base.sessions }
-    ensures sessions { (a : Account) → (ask : Ask) → reason (view_of a) (Asks ask) ≡ None → sessions_of (after a (Asks ask)) ≡ sessions_next (operation_of (view_of a) ask) (sessions_of a) }
-    ensures counters { (a : Account) → (ask : Ask) → reason (view_of a) (Asks ask) ≡ None → (r s : ℕ) → (cell : Cell) → let operation = operation_of (view_of a) ask in known (after a (Asks ask)) r s cell ≡ known a r s cell + (if (s == a.origin.site) && (record_of operation == r) then rise_of (seats_in a.origin.layout) a.origin.site (phase_of a) operation cell else 0) }
+    ensures sessions { (a : Account) → (ask : Ask) → reason (view_of a) (AskCall ask) ≡ None → sessions_of (after a (AskCall ask)) ≡ sessions_next (operation_of (view_of a) ask) (sessions_of a) }
+    ensures counters { (a : Account) → (ask : Ask) → reason (view_of a) (AskCall ask) ≡ None → (r s : ℕ) → (cell : Cell) → let operation = operation_of (view_of a) ask in known (after a (AskCall ask)) r s cell ≡ known a r s cell + (if (s == a.origin.site) && (record_of operation == r) then rise_of (seats_in a.origin.layout) a.origin.site (phase_of a) operation cell else 0) }
 {}
 
 /// The cells of a durable part rise; those of a call's change, put at their places, make the old cells the new

@@ -14,7 +14,7 @@ use Rattle.admission_core.specs.View.{view_of}
 use Rattle.admission_core.specs.Serving.{Step}
 use Rattle.admission_core.specs.Laws.{IsFirstUnfinished}
 use Rattle.multi_site_world.specs.World.{account_at}
-use Rattle.multi_site_world.specs.Laws.{IsInside, MayGather, AreTheOthers, IsOneOf, KnowsRows, AreLogged, IsLogged, IsConsistentCut, HeardNoMore}
+use Rattle.multi_site_world.specs.Laws.{IsInside, MayGather, CanGather, AreTheOthers, IsOneOf, HasCounted, AreLogged, IsLogged, IsConsistentCut, HeardNoMore}
 use Rattle.multi_site_world.specs.Instances.{three_sites, writer_heard, others_of_1, writer_there, second_message, log_of_0, logs, accounts_of}
 
 -- a row of three sites' counters is below others where each counter is
@@ -69,8 +69,11 @@ the_others = record {
     others (suc (suc zero)) below apart = inr (inl refl)
     others (suc (suc (suc i))) below apart = absurd (omega arith)
 
+pub can_gather : CanGather writer_heard 0 1 others_of_1
+can_gather = record { may = may_gather; the_others = the_others; never_full = ((λ e. cc), ((λ e. cc), ((λ e. cc), ((λ e. cc), ((λ e. cc), ((λ e. cc), tt)))))) }
+
 -- site 1 counted all that the second message tells
-pub knows_second : KnowsRows (account_at writer_there 1) second_message.rows
+pub knows_second : HasCounted (account_at writer_there 1) second_message.rows
 knows_second = (
   below_each (known (account_at writer_there 1) 0 0) 3 2 0 1 0 0 (omega arith) (omega arith) (omega arith) (omega arith) (omega arith) (omega arith),
   (below_each (known (account_at writer_there 1) 0 1) 0 0 0 0 1 0 (omega arith) (omega arith) (omega arith) (omega arith) (omega arith) (omega arith), tt),

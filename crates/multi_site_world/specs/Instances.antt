@@ -4,7 +4,7 @@ use Rattle.merge_core.specs.declared.delta.Row.{Row}
 use Rattle.merge_core.specs.Delta.{DeltaState}
 use Rattle.merge_core.specs.Layout.{LayoutState, at_sites}
 use Rattle.admission_core.specs.declared.ask.Ask.TheVariants.{Read, Announce, Quill, Leave, Give, Help}
-use Rattle.admission_core.specs.declared.ask.Call.TheVariants.{Ask as Asks, Merge, Snapshot as Tell}
+use Rattle.admission_core.specs.declared.ask.Call.TheVariants.{Ask as AskCall, Merge, Snapshot as SnapshotCall}
 use Rattle.admission_core.specs.declared.ask.Phase.TheVariants.{Reader, Waiting, Writer}
 use Rattle.admission_core.specs.declared.reply.Refusal.TheVariants.{WriterAnnounced, MissingSeats, NoPlan}
 use Rattle.admission_core.specs.declared.reply.Reply.TheVariants.{Admitted, Announced, Left, Given, Gave, Merged, Refused}
@@ -48,14 +48,14 @@ third_message = record { from = 0; rows = told_by 0 (4 ∷ (3 ∷ (0 ∷ []))) 1
 -- the same as logs of the sites' own, newest first: what site 0 did
 abbrev pub log_of_0 : List Step
 log_of_0 =
-    Serves Tell ∷ (Serves (Asks (Help 0)) ∷ (Serves (Asks (Leave 0 1)) ∷ (Serves Tell ∷ (Serves (Asks (Help 0))
-    ∷ (Serves (Asks (Read 0 2)) ∷ (Serves (Merge (record { from = 1; rows = writer_row ∷ [] })) ∷ (Serves (Asks (Read 0 1)) ∷ [])))))))
+    Serves SnapshotCall ∷ (Serves (AskCall (Help 0)) ∷ (Serves (AskCall (Leave 0 1)) ∷ (Serves SnapshotCall ∷ (Serves (AskCall (Help 0))
+    ∷ (Serves (AskCall (Read 0 2)) ∷ (Serves (Merge (record { from = 1; rows = writer_row ∷ [] })) ∷ (Serves (AskCall (Read 0 1)) ∷ [])))))))
 
 -- .. and site 1
 abbrev pub log_of_1 : List Step
 log_of_1 =
-    Serves (Asks (Quill 0 5)) ∷ (Serves (Merge third_message) ∷ (Serves (Asks (Quill 0 5)) ∷ (Serves (Merge second_message)
-    ∷ (Serves Tell ∷ (Serves (Asks (Announce 0 5)) ∷ [])))))
+    Serves (AskCall (Quill 0 5)) ∷ (Serves (Merge third_message) ∷ (Serves (AskCall (Quill 0 5)) ∷ (Serves (Merge second_message)
+    ∷ (Serves SnapshotCall ∷ (Serves (AskCall (Announce 0 5)) ∷ [])))))
 
 -- the log of each site, where site 0's may be cut to nothing
 abbrev pub logs : List Step → ℕ → List Step

@@ -1,11 +1,8 @@
-use Rattle.multi_site_world.proofs.InstanceLemmas.{may_gather, the_others, knows_second, logged_whole, whole_cut, logged_short, short_cut}
+use Rattle.multi_site_world.proofs.InstanceLemmas.{can_gather, knows_second, logged_whole, whole_cut, logged_short, short_cut}
 use Rattle.multi_site_world.proofs.laws.instances.Goals as goal
 
-pub returns-clause-may_gather : goal.returns-clause-may_gather
-returns-clause-may_gather c = may_gather
-
-pub returns-clause-the_others : goal.returns-clause-the_others
-returns-clause-the_others c = the_others
+pub returns-clause-can_gather : goal.returns-clause-can_gather
+returns-clause-can_gather c = can_gather
 
 pub returns-clause-knows_rows : goal.returns-clause-knows_rows
 returns-clause-knows_rows c = knows_second
