@@ -65,6 +65,13 @@ abbrev pub seat_grows_replies : List WorldReply
 seat_grows_replies =
     Core Given ∷ Sent 0 ∷ Core (Merged 1) ∷ Grown ∷ Core Admitted ∷ Core (Refused (TooFewRights 0)) ∷ []
 
+-- a site grows to the whole layout at once
+abbrev pub grows_whole : List Event
+grows_whole = Grow 0 ∷ Grow 0 ∷ Call 0 (Give 0 2 1) ∷ []
+
+abbrev pub grows_whole_replies : List WorldReply
+grows_whole_replies = Grown ∷ NoGrowth ∷ Core Given ∷ []
+
 -- a writer announces itself at site 1; site 0 admits a reader until it hears of it
 abbrev pub writer_announced : List Event
 writer_announced =

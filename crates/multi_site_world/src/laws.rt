@@ -6,14 +6,14 @@ ghost use Rattle.merge_core.specs.declared.cell.Cell.TheVariants.{Ann, Fin};
 ghost use Rattle.merge_core.specs.Delta.{DeltaState};
 ghost use Rattle.merge_core.specs.Layout.{LayoutState, IsLayout};
 ghost use Rattle.admission_core.specs.declared.ask.Ask.TheVariants.{Read, Announce};
-ghost use Rattle.admission_core.specs.declared.ask.Call.TheVariants.{Ask as AskCall, Merge};
+ghost use Rattle.admission_core.specs.declared.ask.Call.TheVariants.{Ask as AskCall, Merge, Snapshot as SnapshotCall};
 ghost use Rattle.admission_core.specs.declared.ask.Phase.TheVariants.{Writer};
 ghost use Rattle.admission_core.specs.declared.reply.Refusal.TheVariants.{CounterFull, WriterAnnounced, OtherLayout, BadRow, OwnRowAhead};
-ghost use Rattle.admission_core.specs.declared.reply.Reply.TheVariants.{Admitted, Announced, Refused};
+ghost use Rattle.admission_core.specs.declared.reply.Reply.TheVariants.{Admitted, Announced, Refused, Snapshot as SnapshotReply};
 ghost use Rattle.admission_core.specs.Account.{Account, begin, seats_in, sessions_of, start_origin};
 ghost use Rattle.admission_core.specs.Knowledge.{known};
 ghost use Rattle.admission_core.specs.View.{problem_in, view_of, rights_of};
-ghost use Rattle.admission_core.specs.Serving.{reply_of};
+ghost use Rattle.admission_core.specs.Serving.{after, reply_of};
 ghost use Rattle.admission_core.specs.Laws.{SourcesAgree, MayAsk, IsFirstUnfinished};
 ghost use Rattle.multi_site_world.specs.declared.event.Event.{Event};
 ghost use Rattle.multi_site_world.specs.declared.event.Event.TheVariants.{Call, Take, Thin};
@@ -22,7 +22,7 @@ ghost use Rattle.multi_site_world.specs.World.{World, account_at, happens, repli
 ghost use Rattle.multi_site_world.specs.Laws.{IsReachedWorld, HasCounted, IsConserved, IsWriterAlone, AreLogged, IsConsistentCut, WasSent, all_inside, IsMergedReply, IsMergedOrOther, KnowsAllSites, gathering, CanGather, AreGathered};
 ghost use Rattle.admission_core.specs.Examples.{three_records};
 ghost use Rattle.multi_site_world.specs.Instances.{three_sites, writer_heard, others_of_1, gathered_replies, writer_there, second_message, log_of_0, accounts_of, records_used, records_used_replies};
-ghost use Rattle.multi_site_world.specs.Examples.{small_layout, seats_at_home, seats_at_home_replies, message_again, message_again_replies, seat_grows, seat_grows_replies, seats_shown, seat_moves, seat_moves_replies, writer_announced, writer_announced_replies, reader_not_held, writer_helped, writer_helped_replies, writer_done, writer_done_replies, seat_kept, seat_kept_replies, writer_remembered, writer_remembered_replies, layout_grows, layout_grows_replies, thin_taken, thin_taken_replies, withdrawal_thin, withdrawal_thin_replies, writer_helped_messages, writer_withdraws, writer_withdraws_replies, stale_book, stale_book_replies, refusals, refusals_replies, writers_announced, writers_announced_replies, writers_limit, writers_limit_replies, seats_shared, seats_shared_replies, refusals_in_order, refusals_in_order_replies, used_site, seat_moves_message, other_layout_message, bad_row_message};
+ghost use Rattle.multi_site_world.specs.Examples.{small_layout, seats_at_home, seats_at_home_replies, message_again, message_again_replies, seat_grows, seat_grows_replies, grows_whole, grows_whole_replies, seats_shown, seat_moves, seat_moves_replies, writer_announced, writer_announced_replies, reader_not_held, writer_helped, writer_helped_replies, writer_done, writer_done_replies, seat_kept, seat_kept_replies, writer_remembered, writer_remembered_replies, layout_grows, layout_grows_replies, thin_taken, thin_taken_replies, withdrawal_thin, withdrawal_thin_replies, writer_helped_messages, writer_withdraws, writer_withdraws_replies, stale_book, stale_book_replies, refusals, refusals_replies, writers_announced, writers_announced_replies, writers_limit, writers_limit_replies, seats_shared, seats_shared_replies, refusals_in_order, refusals_in_order_replies, used_site, seat_moves_message, other_layout_message, bad_row_message};
 
 /// Seats are conserved: in every reached world a record's seats are the rights of all sites, the weights inside
 /// and the seats in flight, and no site has spent more than it gained.
@@ -86,6 +86,7 @@ pub fn examples()
     ensures seats_at_home { replies seats_at_home (start_world 2 (small_layout 2 2 1)) ≡ seats_at_home_replies }
     ensures message_again { replies (seat_moves ++ message_again) (start_world 2 (small_layout 2 2 1)) ≡ seat_moves_replies ++ message_again_replies }
     ensures seat_grown { replies seat_grows (start_world 2 (small_layout 3 2 1)) ≡ seat_grows_replies }
+    ensures grown_whole { replies grows_whole (start_world 1 (small_layout 3 2 1)) ≡ grows_whole_replies }
     ensures helper_shows { seats_shown writer_there 0 ≡ 0 ∷ (0 ∷ (0 ∷ [])) }
     ensures writer_shows { seats_shown writer_there 1 ≡ 0 ∷ (3 ∷ (1 ∷ [])) }
     ensures other_shows { seats_shown writer_there 2 ≡ 0 ∷ (0 ∷ (0 ∷ [])) }
@@ -116,6 +117,7 @@ pub fn examples()
     ensures message { (run seat_moves (start_world 2 (small_layout 2 2 1))).sent ≡ seat_moves_message ∷ [] }
     ensures other_layout { reply_of (view_of (begin (start_origin (small_layout 2 2 1) 1))) (Merge other_layout_message) ≡ Refused (OtherLayout 1) }
     ensures bad_row { reply_of (view_of (begin (start_origin (small_layout 2 2 1) 1))) (Merge bad_row_message) ≡ Refused (BadRow 1) }
+    ensures nothing_taken { reply_of (view_of (after (begin (start_origin (small_layout 2 2 1) 0)) (Merge seat_moves_message))) SnapshotCall ≡ SnapshotReply (record { from = 0; rows = [] }) }
     ensures own_row_ahead { reply_of (view_of (begin (start_origin (small_layout 2 2 1) 0))) (Merge seat_moves_message) ≡ Refused (OwnRowAhead 0) }
 {}
 
