@@ -1,5 +1,5 @@
 -- The statements of one site's laws.
-use Rattle.std.specs.Prelude.{◌≡◌, ◌≢◌, ◌↔◌, ℕ, ◌+◌, ◌-◌, ◌<◌, ◌≤◌, ◌⊎◌, List, [], ◌∷◌, length, None}
+use Rattle.std.specs.Prelude.{◌≡◌, ◌≢◌, ◌↔◌, ℕ, ◌==◌, ◌&&◌, if◌then◌else◌, ◌+◌, ◌-◌, ◌<◌, ◌≤◌, ◌⊎◌, List, [], ◌∷◌, length, None}
 use Rattle.merge_core.specs.declared.cell.Cell.{Cell}
 use Rattle.merge_core.specs.declared.cell.Cell.TheVariants.{Out, Taken, Ann, Fin}
 use Rattle.merge_core.specs.declared.delta.Row.{Row}
@@ -9,7 +9,7 @@ use Rattle.merge_core.specs.Rows.{grant}
 use Rattle.merge_core.specs.Naming.{ReachesUnit, RowsName}
 use Rattle.admission_core.specs.declared.reply.Plan.{Plan}
 use Rattle.merge_core.specs.Sums.{total_others}
-use Rattle.admission_core.specs.Account.{Account, DurablePart, Session, layout_of, own, inside, writers_here, phase_of, sessions_of}
+use Rattle.admission_core.specs.Account.{Account, Operation, DurablePart, Session, seats_in, record_of, rise_of, layout_of, own, inside, writers_here, phase_of, sessions_of}
 use Rattle.admission_core.specs.Knowledge.{known, SourceNames}
 use Rattle.admission_core.specs.View.{View, view_of, rights_of}
 use Rattle.admission_core.specs.Replies.{holder_limit}
@@ -36,6 +36,19 @@ pub record CountsSessions (a : Account) (r : ℕ) : Type 0 where
 -- two sites know the same units
 abbrev pub SourcesAgree : Account → Account → Type 0
 SourcesAgree a b = (r s : ℕ) (cell : Cell) (k : ℕ) → SourceNames a r s cell k ↔ SourceNames b r s cell k
+
+-- two sites know the same counters
+abbrev pub SameCounters : Account → Account → Type 0
+SameCounters a b = (r s : ℕ) (cell : Cell) → known a r s cell ≡ known b r s cell
+
+-- the site knows of a writer of record r that site s announced and has not finished
+abbrev pub KnowsUnfinished : Account → ℕ → ℕ → Type 0
+KnowsUnfinished a r s = known a r s Fin < known a r s Ann
+
+-- by how much an operation raises a counter that the site knows: its own row's at the operation's record
+abbrev pub raised_to : Account → Operation → ℕ → ℕ → Cell → ℕ
+raised_to a operation r s cell =
+    if (s == a.origin.site) && (record_of operation == r) then rise_of (seats_in a.origin.layout) a.origin.site (phase_of a) operation cell else 0
 
 -- some delta of a list names the unit
 abbrev pub SomeDeltaNames : Shape → List (List Row) → ℕ → ℕ → Cell → ℕ → Type 0

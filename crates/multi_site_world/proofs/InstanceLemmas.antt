@@ -14,7 +14,7 @@ use Rattle.admission_core.specs.View.{view_of}
 use Rattle.admission_core.specs.Serving.{Step}
 use Rattle.admission_core.specs.Laws.{IsFirstUnfinished}
 use Rattle.multi_site_world.specs.World.{account_at}
-use Rattle.multi_site_world.specs.Laws.{IsInside, MayGather, CanGather, AreTheOthers, IsOneOf, HasCounted, AreLogged, IsLogged, IsConsistentCut, HeardNoMore}
+use Rattle.multi_site_world.specs.Laws.{IsInside, MayGather, CanGather, AreTheOthers, IsOneOf, HasCounted, HasTaken, AreLogged, IsLogged, IsConsistentCut, HeardNoMore}
 use Rattle.multi_site_world.specs.Instances.{three_sites, writer_heard, others_of_1, writer_there, second_message, log_of_0, logs, accounts_of}
 
 -- a row of three sites' counters is below others where each counter is
@@ -78,6 +78,9 @@ knows_second = (
   below_each (known (account_at writer_there 1) 0 0) 3 2 0 1 0 0 (omega arith) (omega arith) (omega arith) (omega arith) (omega arith) (omega arith),
   (below_each (known (account_at writer_there 1) 0 1) 0 0 0 0 1 0 (omega arith) (omega arith) (omega arith) (omega arith) (omega arith) (omega arith), tt),
 )
+
+pub has_taken : HasTaken writer_there 1 1
+has_taken = record { message = second_message; there = refl; counted = knows_second }
 
 pub logged : (log_0 : List Step) → (accounts_of log_0 0).sites ≡ 3 → AreLogged three_sites (accounts_of log_0)
 logged log_0 same zero below = record { first = 3; site_there = omega arith; steps = log_0; replayed = refl; few_sites = omega (arith, same) }

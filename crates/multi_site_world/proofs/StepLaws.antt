@@ -28,7 +28,7 @@ use Rattle.admission_core.proofs.ThinLemmas.{thin_raises, all_thin}
 use Rattle.multi_site_world.specs.declared.event.Event.{Event}
 use Rattle.multi_site_world.specs.declared.event.Event.TheVariants.{Call, Send, Take, Thin, Restart, Grow}
 use Rattle.multi_site_world.specs.World.{World, account_at, with_account, world_taken, thin, thin_message, world_grown, world_here, place_of, happens}
-use Rattle.multi_site_world.specs.Laws.{IsReachedWorld, HasCounted}
+use Rattle.multi_site_world.specs.Laws.{IsReachedWorld, HasCounted, HasTaken}
 use Rattle.multi_site_world.proofs.WorldLemmas.{IsSoundWorld, IsSentRow, IsMessage, same_account, other_account, rows_accepted}
 use Rattle.multi_site_world.proofs.EventLemmas.{message_there, thin_sent, sound_reached}
 
@@ -148,23 +148,23 @@ thin_after w i k delta earlier sound below e knows r s cell = at (cases_lt (acco
         ∙ sym (heard delta (rows_accepted w i delta sound below message.rows (all_narrower a.sites message.width delta.rows narrow message.same_width))))
 
 -- where a site knows each row of an earlier message, a thin message leaves the counters that the whole one does
-pub thin_leaves : (w : World) → IsReachedWorld w → (i k l : ℕ) (earlier : DeltaState) → slice_get w.sent l ≡ Some earlier → HasCounted (account_at w i) earlier.rows → (r s : ℕ) (cell : Cell) → known (account_at (happens w (Thin i k l)) i) r s cell ≡ known (account_at (happens w (Take i k)) i) r s cell
-thin_leaves w is i k l earlier there knows r s cell = at (cases_Bool (ltb i (length w.sites)))
+pub thin_leaves : (w : World) → IsReachedWorld w → (i k l : ℕ) → HasTaken w i l → (r s : ℕ) (cell : Cell) → known (account_at (happens w (Thin i k l)) i) r s cell ≡ known (account_at (happens w (Take i k)) i) r s cell
+thin_leaves w is i k l has r s cell = at (cases_Bool (ltb i (length w.sites)))
   where
     sound : IsSoundWorld w
     sound = sound_reached w is
 
-    taken : (o : Option DeltaState) → slice_get w.sent k ≡ o → i < length w.sites → known (account_at (world_taken w i (thin_message o (Some earlier))) i) r s cell ≡ known (account_at (world_taken w i o) i) r s cell
+    taken : (o : Option DeltaState) → slice_get w.sent k ≡ o → i < length w.sites → known (account_at (world_taken w i (thin_message o (Some has.message))) i) r s cell ≡ known (account_at (world_taken w i o) i) r s cell
     taken None e below = refl
     taken (Some delta) e below =
-        ap (λ b. known b r s cell) (same_account w i (after (account_at w i) (Merge (thin delta earlier))) below)
-        ∙ (thin_after w i k delta earlier sound (omega (arith, sound.number)) e knows r s cell
+        ap (λ b. known b r s cell) (same_account w i (after (account_at w i) (Merge (thin delta has.message))) below)
+        ∙ (thin_after w i k delta has.message sound (omega (arith, sound.number)) e has.counted r s cell
         ∙ sym (ap (λ b. known b r s cell) (same_account w i (after (account_at w i) (Merge delta)) below)))
 
     at : (ltb i (length w.sites) ≡ true) ⊎ (ltb i (length w.sites) ≡ false) → known (account_at (happens w (Thin i k l)) i) r s cell ≡ known (account_at (happens w (Take i k)) i) r s cell
     at (inl e) =
         ap (λ u. known (account_at u i) r s cell) (cond-true (ltb i (length w.sites)) (world_here w (Thin i k l)) w e)
-        ∙ (ap (λ o. known (account_at (world_taken w i (thin_message (slice_get w.sent k) o)) i) r s cell) there
+        ∙ (ap (λ o. known (account_at (world_taken w i (thin_message (slice_get w.sent k) o)) i) r s cell) has.there
         ∙ (taken (slice_get w.sent k) refl (ltb-true i (length w.sites) e)
         ∙ sym (ap (λ u. known (account_at u i) r s cell) (cond-true (ltb i (length w.sites)) (world_here w (Take i k)) w e))))
     at (inr e) =

@@ -1,5 +1,5 @@
 -- The statements of the laws.
-use Rattle.std.specs.Prelude.{◌≡◌, ◌≢◌, ℕ, ◌+◌, ◌-◌, ◌<◌, ◌≤◌, ◌⊎◌, List, [], ◌∷◌, length, Option, Some, None}
+use Rattle.std.specs.Prelude.{◌≡◌, ◌≢◌, ℕ, ◌+◌, ◌-◌, ◌<◌, ◌≤◌, ◌⊎◌, List, [], ◌∷◌, length, slice_get, Option, Some, None}
 use Rattle.std.specs.List.{AllByRecursion}
 use Rattle.merge_core.specs.declared.cell.Cell.{Cell}
 use Rattle.merge_core.specs.declared.cell.Cell.TheVariants.{Out}
@@ -104,6 +104,12 @@ pub record KnowsAllSites (w : World) (i : ℕ) : Type 0 where
 -- a site has counted all that the rows tell
 abbrev pub HasCounted : Account → List Row → Type 0
 HasCounted a rows = AllByRecursion (λ p. (cell : Cell) → counter_in (counters_of p) cell ≤ known a p.r p.s cell) rows
+
+-- site i has counted all that message l tells
+pub record HasTaken (w : World) (i l : ℕ) : Type 0 where
+  pub message : DeltaState
+  pub there : slice_get w.sent l ≡ Some message
+  pub counted : HasCounted (account_at w i) message.rows
 
 -- some list of events leads to the world, from sites of which the first so many know one another alone
 pub record IsReachedWorld (w : World) : Type 0 where

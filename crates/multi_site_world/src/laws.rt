@@ -1,5 +1,5 @@
 //! Laws of the definitions in specs/: functions that do nothing, whose contracts are the laws.
-ghost use Rattle.std.specs.Prelude.{◌≡◌, ◌≢◌, ◌⊎◌, ◌++◌, ◌∷◌, [], ℕ, ◌<◌, ◌≤◌, List, length, slice_get, Some};
+ghost use Rattle.std.specs.Prelude.{◌≡◌, ◌≢◌, ◌⊎◌, ◌++◌, ◌∷◌, [], ℕ, ◌<◌, ◌≤◌, List, length};
 ghost use Rattle.std.specs.List.{AllByRecursion};
 ghost use Rattle.merge_core.specs.declared.cell.Cell.{Cell};
 ghost use Rattle.merge_core.specs.declared.cell.Cell.TheVariants.{Ann, Fin};
@@ -14,14 +14,14 @@ ghost use Rattle.admission_core.specs.Account.{Account, begin, seats_in, session
 ghost use Rattle.admission_core.specs.Knowledge.{known};
 ghost use Rattle.admission_core.specs.View.{problem_in, view_of, rights_of};
 ghost use Rattle.admission_core.specs.Serving.{after, reply_of};
-ghost use Rattle.admission_core.specs.Laws.{SourcesAgree, MayAsk, IsFirstUnfinished};
+ghost use Rattle.admission_core.specs.Laws.{SameCounters, KnowsUnfinished, SourcesAgree, MayAsk, IsFirstUnfinished};
 ghost use Rattle.multi_site_world.specs.declared.event.Event.{Event};
 ghost use Rattle.multi_site_world.specs.declared.event.Event.TheVariants.{Call, Take, Thin};
 ghost use Rattle.multi_site_world.specs.declared.event.WorldReply.TheVariants.{Core};
 ghost use Rattle.multi_site_world.specs.World.{World, account_at, happens, replies, run, start_world, world_reply};
-ghost use Rattle.multi_site_world.specs.Laws.{IsReachedWorld, HasCounted, IsConserved, IsWriterAlone, AreLogged, IsConsistentCut, WasSent, all_inside, IsMergedReply, IsMergedOrOther, KnowsAllSites, gathering, CanGather, AreGathered};
+ghost use Rattle.multi_site_world.specs.Laws.{IsReachedWorld, HasTaken, IsConserved, IsWriterAlone, AreLogged, IsConsistentCut, WasSent, all_inside, IsMergedReply, IsMergedOrOther, KnowsAllSites, gathering, CanGather, AreGathered};
 ghost use Rattle.admission_core.specs.Examples.{three_records};
-ghost use Rattle.multi_site_world.specs.Instances.{three_sites, writer_heard, others_of_1, gathered_replies, writer_there, second_message, log_of_0, accounts_of, records_used, records_used_replies};
+ghost use Rattle.multi_site_world.specs.Instances.{three_sites, writer_heard, others_of_1, gathered_replies, writer_there, log_of_0, accounts_of, records_used, records_used_replies};
 ghost use Rattle.multi_site_world.specs.Examples.{small_layout, seats_at_home, seats_at_home_replies, message_again, message_again_replies, seat_grows, seat_grows_replies, grows_whole, grows_whole_replies, seats_shown, seat_moves, seat_moves_replies, writer_announced, writer_announced_replies, reader_not_held, writer_helped, writer_helped_replies, writer_done, writer_done_replies, seat_kept, seat_kept_replies, writer_remembered, writer_remembered_replies, layout_grows, layout_grows_replies, thin_taken, thin_taken_replies, withdrawal_thin, withdrawal_thin_replies, writer_helped_messages, writer_withdraws, writer_withdraws_replies, stale_book, stale_book_replies, refusals, refusals_replies, writers_announced, writers_announced_replies, writers_limit, writers_limit_replies, seats_shared, seats_shared_replies, refusals_in_order, refusals_in_order_replies, used_site, seat_moves_message, other_layout_message, bad_row_message};
 
 /// Seats are conserved: in every reached world a record's seats are the rights of all sites, the weights inside
@@ -45,7 +45,7 @@ pub fn message_law()
 /// Where a site knows each row of an earlier message, a thin message leaves the counters that the whole one
 /// leaves.
 pub fn thin_law()
-    ensures { (w : World) → IsReachedWorld w → (i k l : ℕ) → (earlier : DeltaState) → slice_get w.sent l ≡ Some earlier → HasCounted (account_at w i) earlier.rows → (r s : ℕ) → (cell : Cell) → known (account_at (happens w (Thin i k l)) i) r s cell ≡ known (account_at (happens w (Take i k)) i) r s cell }
+    ensures { (w : World) → IsReachedWorld w → (i k l : ℕ) → HasTaken w i l → SameCounters (account_at (happens w (Thin i k l)) i) (account_at (happens w (Take i k)) i) }
 {}
 
 /// No event takes a known announced or finished writer from a site.
@@ -75,10 +75,10 @@ pub fn gather_law()
 /// own book shows an unfinished writer admits no reader, and tells one whom nothing else refuses of the least
 /// site with such a writer.
 pub fn headline_law()
-    ensures equal_books { (w : World) → IsReachedWorld w → (i j : ℕ) → i < w.layout.sites → j < w.layout.sites → SourcesAgree (account_at w i) (account_at w j) → (r s : ℕ) → (cell : Cell) → known (account_at w i) r s cell ≡ known (account_at w j) r s cell }
+    ensures equal_books { (w : World) → IsReachedWorld w → (i j : ℕ) → i < w.layout.sites → j < w.layout.sites → SourcesAgree (account_at w i) (account_at w j) → SameCounters (account_at w i) (account_at w j) }
     ensures writer_alone { (w : World) → IsReachedWorld w → (r : ℕ) → IsWriterAlone (account_at w) w.layout.sites r }
-    ensures no_reader_admitted { (w : World) → IsReachedWorld w → (i r h s : ℕ) → i < w.layout.sites → problem_in w.layout r ≡ 2 → known (account_at w i) r s Fin < known (account_at w i) r s Ann → world_reply w (Call i (Read r h)) ≢ Core Admitted }
-    ensures announced_writer_first { (w : World) → IsReachedWorld w → (i r h s : ℕ) → i < w.layout.sites → problem_in w.layout r ≡ 2 → MayAsk (view_of (account_at w i)) r h → IsFirstUnfinished (view_of (account_at w i)) r s → world_reply w (Call i (Read r h)) ≡ Core (Refused (WriterAnnounced s)) }
+    ensures no_reader_admitted { (w : World) → IsReachedWorld w → (i r h s : ℕ) → i < w.layout.sites → problem_in w.layout r ≡ 2 → KnowsUnfinished (account_at w i) r s → world_reply w (Call i (Read r h)) ≢ Core Admitted }
+    ensures announced_writer_first { (w : World) → IsReachedWorld w → (i r h s : ℕ) → i < w.layout.sites → problem_in w.layout r ≡ 2 → let v = view_of (account_at w i) in MayAsk v r h → IsFirstUnfinished v r s → world_reply w (Call i (Read r h)) ≡ Core (Refused (WriterAnnounced s)) }
 {}
 
 /// Short scripts and their replies, by computation alone.
@@ -128,7 +128,7 @@ pub fn instances()
     ensures can_gather { CanGather writer_heard 0 1 others_of_1 }
     ensures gathered { replies (gathering 0 1 (length writer_heard.sent) others_of_1) writer_heard ≡ gathered_replies }
     ensures all_seats { rights_of (view_of (account_at (run (gathering 0 1 (length writer_heard.sent) others_of_1) writer_heard) 1)) 0 ≡ 3 }
-    ensures knows_rows { HasCounted (account_at writer_there 1) second_message.rows }
+    ensures has_taken { HasTaken writer_there 1 1 }
     ensures logged { AreLogged three_sites (accounts_of log_of_0) }
     ensures cut { IsConsistentCut three_sites (accounts_of log_of_0) }
     ensures logged_short { AreLogged three_sites (accounts_of []) }

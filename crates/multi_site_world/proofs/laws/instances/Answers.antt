@@ -1,11 +1,11 @@
-use Rattle.multi_site_world.proofs.InstanceLemmas.{can_gather, knows_second, logged_whole, whole_cut, logged_short, short_cut}
+use Rattle.multi_site_world.proofs.InstanceLemmas.{can_gather, has_taken, logged_whole, whole_cut, logged_short, short_cut}
 use Rattle.multi_site_world.proofs.laws.instances.Goals as goal
 
 pub returns-clause-can_gather : goal.returns-clause-can_gather
 returns-clause-can_gather c = can_gather
 
-pub returns-clause-knows_rows : goal.returns-clause-knows_rows
-returns-clause-knows_rows c = knows_second
+pub returns-clause-has_taken : goal.returns-clause-has_taken
+returns-clause-has_taken c = has_taken
 
 pub returns-clause-logged : goal.returns-clause-logged
 returns-clause-logged c = logged_whole
