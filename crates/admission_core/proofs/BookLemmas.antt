@@ -13,7 +13,6 @@ use Rattle.merge_core.specs.Book.{BookState, nothing_known, record_at, seats_at,
 use Rattle.merge_core.specs.Sums.{total, total_others}
 use Rattle.admission_core.specs.declared.ask.Phase.{Phase}
 use Rattle.admission_core.specs.Account.{Account, phase_of, arrivals, inside, writers, writers_here, on_phase}
-use Rattle.admission_core.specs.Reached.{IsReached}
 use Rattle.admission_core.proofs.SessionLemmas.{adds, sessions-keys, keys_member}
 use Rattle.admission_core.proofs.CounterLemmas.{known_own}
 use Rattle.admission_core.proofs.LawLemmas.{sound_reached}

@@ -1,11 +1,11 @@
 -- The cells of a durable part, and what a change puts.
-use Rattle.std.proofs.Common.{◌≡◌, ◌≢◌, ℕ, zero, suc, ◌+◌, ◌-◌, ◌<◌, ◌≤◌, ◌⊎◌, inl, inr, Bool, true, false, not, ◌&&◌, ◌||◌, cond, eqb, ltb, List, [], ◌∷◌, ◌++◌, length, Option, Some, None, is_none, refl, sym, ap, subst, ◌∙◌, arith}
-use Rattle.std.specs.List.{AllByRecursion, filter}
-use Rattle.std.proofs.lemmas.Bool.{cases_eq, cases_Bool, cond_both, eqb-true, eqb-false, eq-eqb, ne_eqb, ltb-true, ltb-false, lt-ltb, le-ltb, and_parts, and_left, and_from, and_right, or_left, or_right, or_from, not-false, false≢true, cond-true, cond-false}
+use Rattle.std.proofs.Common.{◌≡◌, ℕ, zero, suc, ◌+◌, ◌-◌, ◌≤◌, ◌⊎◌, inl, inr, Bool, true, false, not, ◌&&◌, ◌||◌, cond, eqb, ltb, List, [], ◌∷◌, ◌++◌, Option, Some, None, refl, sym, ap, subst, ◌∙◌, arith}
+use Rattle.std.specs.List.{AllByRecursion}
+use Rattle.std.proofs.lemmas.Bool.{cases_eq, cases_Bool, cond_both, eqb-true, eq-eqb, ne_eqb, ltb-true, ltb-false, lt-ltb, le-ltb, and_parts, and_left, and_from, and_right, or_left, or_right, or_from, cond-true, cond-false}
 use Rattle.merge_core.specs.declared.cell.Cell.{Cell}
-use Rattle.merge_core.specs.declared.cell.Cell.TheVariants.{Out, Taken, Ann, Fin}
+use Rattle.merge_core.specs.declared.cell.Cell.TheVariants.{Out, Ann, Fin}
 use Rattle.merge_core.specs.Changes.{keeps_counter}
-use Rattle.admission_core.specs.Durable.{Named, Place, DurableCell, of_other, named, counter_named, at_slot, slots_from, places_from, slot_count, pick, kept_cells, risen_cells, is_before, is_same_place, AreRising, put_cell, put_cells}
+use Rattle.admission_core.specs.Durable.{Named, Place, DurableCell, of_other, named, counter_named, slots_from, places_from, slot_count, pick, kept_cells, risen_cells, is_before, is_same_place, AreRising, put_cell, put_cells}
 
 -- a place stands before another
 abbrev pub is_earlier : Place → Place → Bool

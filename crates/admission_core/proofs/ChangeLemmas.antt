@@ -1,9 +1,9 @@
 -- What a call changes of the durable part.
-use Rattle.std.proofs.Common.{◌≡◌, ℕ, ◌≤◌, true, false, not, cond, List, [], ◌∷◌, length, Option, Some, None, is_none, refl, sym, ap, ◌∙◌, arith}
+use Rattle.std.proofs.Common.{◌≡◌, ℕ, ◌≤◌, true, not, List, [], ◌∷◌, length, Option, is_none, refl, sym, ap, ◌∙◌, arith}
 use Rattle.std.specs.List.{AllByRecursion, filter}
 use Rattle.std.proofs.lemmas.Bool.{cond-false}
 use Rattle.merge_core.specs.declared.cell.Cell.{Cell}
-use Rattle.merge_core.specs.Layout.{LayoutState, shape_of}
+use Rattle.merge_core.specs.Layout.{shape_of}
 use Rattle.merge_core.specs.Rows.{start_counter}
 use Rattle.merge_core.specs.Changes.{keeps_counter}
 use Rattle.admission_core.specs.declared.ask.Call.{Call}

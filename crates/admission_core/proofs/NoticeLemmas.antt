@@ -1,20 +1,18 @@
 -- Known notices are never forgotten, and a reader is never admitted where one is unfinished.
-use Rattle.std.proofs.Common.{◌≡◌, ◌≢◌, ℕ, ◌<◌, ◌≤◌, ◌⊎◌, inl, inr, true, false, leb, eqb, ltb, length, Option, Some, None, is_some, refl, sym, ap, ◌∙◌, arith}
-use Rattle.std.proofs.lemmas.Bool.{cases_eq, cases_lt, cases_Bool, cond_both, cond-true, cond-false, eq-eqb, lt-ltb, and_from, false≢true}
+use Rattle.std.proofs.Common.{◌≡◌, ◌≢◌, ℕ, ◌<◌, ◌≤◌, ◌⊎◌, inl, inr, true, leb, eqb, Option, Some, None, is_some, refl, sym, ap, ◌∙◌, arith}
+use Rattle.std.proofs.lemmas.Bool.{cases_eq, cases_lt, cond_both, eq-eqb, lt-ltb, and_from, false≢true}
 use Rattle.merge_core.specs.declared.cell.Cell.{Cell}
 use Rattle.merge_core.specs.declared.cell.Cell.TheVariants.{Out, Taken, Ann, Fin}
 use Rattle.merge_core.specs.Changes.{keeps_counter}
-use Rattle.merge_core.specs.Rows.{start_counter}
 use Rattle.admission_core.specs.declared.ask.Ask.TheVariants.{Read}
 use Rattle.admission_core.specs.declared.ask.Call.{Call}
 use Rattle.admission_core.specs.declared.ask.Call.TheVariants.{Ask as AskCall, Merge, Snapshot as SnapshotCall}
-use Rattle.admission_core.specs.declared.reply.Refusal.{Refusal}
-use Rattle.admission_core.specs.declared.reply.Reply.TheVariants.{Admitted, Refused}
+use Rattle.admission_core.specs.declared.reply.Reply.TheVariants.{Admitted}
 use Rattle.admission_core.specs.Account.{Account, own}
 use Rattle.admission_core.specs.Knowledge.{known, told, hears, grown}
 use Rattle.admission_core.specs.View.{view_of, problem_in, first_unfinished, shows_writer}
 use Rattle.admission_core.specs.Replies.{must_wait, read_lines, ask_lines, merge_lines}
-use Rattle.admission_core.specs.Serving.{reply_of, reason, replied, advanced, unless_refused, after, Step, Serves, Restarts, Grows, after_step}
+use Rattle.admission_core.specs.Serving.{reply_of, replied, advanced, unless_refused, after, Step, Serves, Restarts, Grows, after_step}
 use Rattle.admission_core.specs.Sound.{IsSound}
 use Rattle.admission_core.proofs.CounterLemmas.{known_own, known_other}
 use Rattle.admission_core.proofs.LeastLemmas.{least_below-none}

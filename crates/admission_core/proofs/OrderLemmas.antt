@@ -1,5 +1,5 @@
 -- The order of sessions.
-use Rattle.std.proofs.Common.{◌≡◌, ℕ, ◌+◌, ◌≤◌, ◌⊎◌, inl, inr, true, false, cond, List, [], ◌∷◌, ◌++◌, map, Option, Some, None, refl, sym, ap, ◌∙◌, arith}
+use Rattle.std.proofs.Common.{◌≡◌, ℕ, ◌≤◌, ◌⊎◌, inl, inr, true, false, List, [], ◌∷◌, ◌++◌, map, Option, Some, None, refl, sym, ap, ◌∙◌, arith}
 use Rattle.std.specs.List.{AllByRecursion}
 use Rattle.std.proofs.lemmas.Bool.{cases_Bool, cond-true, cond-false}
 use Rattle.admission_core.specs.declared.ask.Ask.{Ask}
@@ -7,17 +7,16 @@ use Rattle.admission_core.specs.declared.ask.Ask.TheVariants.{Read, Announce, Qu
 use Rattle.admission_core.specs.declared.ask.Call.TheVariants.{Ask as AskCall}
 use Rattle.admission_core.specs.declared.ask.Phase.{Phase}
 use Rattle.admission_core.specs.declared.ask.Phase.TheVariants.{Reader, Waiting, Writer}
-use Rattle.admission_core.specs.Account.{Account, Origin, Session, Key, Operation, EnteredRead, AnnouncedWriter, EnteredWrite, LeftRecord, begin, is_key, key_of, without, occurs, stored_phase, with_phase, present, arrivals, phase_of, sessions_of}
+use Rattle.admission_core.specs.Account.{Account, Origin, Session, Key, begin, is_key, key_of, without, occurs, stored_phase, with_phase, present, arrivals, phase_of, sessions_of}
 use Rattle.admission_core.specs.View.{view_of}
-use Rattle.admission_core.specs.Replies.{ask_lines, read_lines, announce_lines, write_lines}
+use Rattle.admission_core.specs.Replies.{read_lines, announce_lines, write_lines}
 use Rattle.admission_core.specs.Serving.{reason, operation_of, advanced, unless_refused, after}
-use Rattle.admission_core.specs.Order.{without_session, with_new_phase, with_changed, sessions_next}
-use Rattle.admission_core.specs.Sound.{IsSound, IsOrigin}
+use Rattle.admission_core.specs.Order.{without_session, with_changed, sessions_next}
+use Rattle.admission_core.specs.Sound.{IsOrigin}
 use Rattle.admission_core.proofs.KeyLemmas.{is_key-true}
-use Rattle.admission_core.proofs.SessionLemmas.{is_key-refl, is_key-comm, changed}
+use Rattle.admission_core.proofs.SessionLemmas.{is_key-refl, changed}
 use Rattle.admission_core.proofs.RowLemmas.{none_of}
 use Rattle.admission_core.proofs.ServingLemmas.{clear_of, waits}
-use Rattle.admission_core.proofs.CounterLemmas.{does}
 
 -- the phase of another holder
 changed_other : (r h : ℕ) (new : Option Phase) (phase : ℕ → ℕ → Option Phase) (k : Key) → is_key r h k.r k.h ≡ false → changed r h new phase k.r k.h ≡ phase k.r k.h

@@ -1,9 +1,8 @@
 -- What shows the same decides and does the same.
-use Rattle.std.proofs.Common.{◌≡◌, ◌≢◌, ℕ, ◌+◌, ◌<◌, ◌≤◌, ◌⊎◌, inl, inr, max, true, false, ◌&&◌, cond, eqb, leb, List, [], ◌∷◌, map, Option, Some, None, refl, sym, ap, subst, ◌∙◌, arith}
+use Rattle.std.proofs.Common.{◌≡◌, ◌≢◌, ℕ, ◌+◌, ◌⊎◌, inl, inr, max, true, false, ◌&&◌, cond, eqb, leb, List, map, Option, Some, None, refl, sym, ap, subst, ◌∙◌, arith}
 use Rattle.std.proofs.lemmas.Bool.{cases_eq, cases_Bool, eq-eqb, ne_eqb, cond-true, cond-false}
 use Rattle.merge_core.specs.declared.cell.Cell.{Cell}
 use Rattle.merge_core.specs.declared.delta.Row.{Row}
-use Rattle.merge_core.specs.Delta.{DeltaState}
 use Rattle.merge_core.specs.Layout.{LayoutState, shape_of, record_shape}
 use Rattle.merge_core.specs.Rows.{start_counter}
 use Rattle.merge_core.specs.Naming.{shown_by}
@@ -14,8 +13,8 @@ use Rattle.admission_core.specs.declared.ask.Call.TheVariants.{Ask as AskCall, M
 use Rattle.admission_core.specs.declared.ask.Phase.{Phase}
 use Rattle.admission_core.specs.declared.ask.Phase.TheVariants.{Reader, Waiting, Writer}
 use Rattle.admission_core.specs.declared.reply.Refusal.{Refusal}
-use Rattle.admission_core.specs.Account.{Account, Session, Operation, EnteredRead, AnnouncedWriter, EnteredWrite, LeftRecord, GaveSeats, layout_of, seats_in, own, rise_of, record_of, phase_of, sessions_of, is_key}
-use Rattle.admission_core.specs.Knowledge.{kept_or_start, known, told, hears, grown}
+use Rattle.admission_core.specs.Account.{Account, Session, Operation, EnteredRead, AnnouncedWriter, EnteredWrite, LeftRecord, GaveSeats, seats_in, own, rise_of, record_of, phase_of, sessions_of, is_key}
+use Rattle.admission_core.specs.Knowledge.{kept_or_start, known, hears, grown}
 use Rattle.admission_core.specs.View.{View, view_of}
 use Rattle.admission_core.specs.Serving.{reason, reply_of, operation_of, advanced, unless_refused, after, Step, Serves, Restarts, Grows, after_step}
 use Rattle.admission_core.specs.Order.{sessions_next}

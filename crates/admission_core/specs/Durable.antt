@@ -7,7 +7,7 @@ use Rattle.merge_core.specs.Layout.{LayoutState, shape_of}
 use Rattle.merge_core.specs.Rows.{start_counter}
 use Rattle.admission_core.specs.declared.ask.Phase.{Phase}
 use Rattle.admission_core.specs.declared.ask.Phase.TheVariants.{Reader, Waiting, Writer}
-use Rattle.admission_core.specs.Account.{Account, Session, layout_of, stored_phase, sessions_of}
+use Rattle.admission_core.specs.Account.{Account, Session, stored_phase, sessions_of}
 use Rattle.admission_core.specs.Knowledge.{known}
 
 -- a counter of a record: whose row, and which counter of it

@@ -4,7 +4,6 @@ use Rattle.std.specs.Prelude.{ℕ, ◌+◌, ◌==◌, ◌&&◌, List, [], ◌∷
 use Rattle.merge_core.specs.declared.cell.Cell.{Cell}
 use Rattle.merge_core.specs.declared.cell.Cell.TheVariants.{Out, Taken, Ann, Fin}
 use Rattle.merge_core.specs.declared.delta.Row.{Row}
-use Rattle.merge_core.specs.Delta.{DeltaState}
 use Rattle.merge_core.specs.Layout.{LayoutState, shape_of}
 use Rattle.merge_core.specs.Rows.{start_counter}
 use Rattle.admission_core.specs.declared.ask.Ask.{Ask}
@@ -26,10 +25,10 @@ abbrev pub three_records : LayoutState
 three_records = record {
   sites = 3;
   records =
-    record { name = 97 ∷ []; seats = 2; home = 0; problem = 1 }
-    ∷ record { name = 98 ∷ []; seats = 3; home = 1; problem = 2 }
-    ∷ record { name = 99 ∷ []; seats = 5; home = 2; problem = 1 }
-    ∷ [];
+      record { name = 97 ∷ []; seats = 2; home = 0; problem = 1 }
+      ∷ record { name = 98 ∷ []; seats = 3; home = 1; problem = 2 }
+      ∷ record { name = 99 ∷ []; seats = 5; home = 2; problem = 1 }
+      ∷ [];
 }
 
 -- a call at a state, and the reply that is wanted
