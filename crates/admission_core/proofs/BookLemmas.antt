@@ -13,12 +13,11 @@ use Rattle.merge_core.specs.Book.{BookState, nothing_known, record_at, seats_at,
 use Rattle.merge_core.specs.Sums.{total, total_others}
 use Rattle.admission_core.specs.declared.ask.Phase.{Phase}
 use Rattle.admission_core.specs.Account.{Account, phase_of, arrivals, inside, writers, writers_here, on_phase}
-use Rattle.admission_core.specs.Reached.{IsReached}
 use Rattle.admission_core.proofs.SessionLemmas.{adds, sessions-keys, keys_member}
 use Rattle.admission_core.proofs.CounterLemmas.{known_own}
 use Rattle.admission_core.proofs.LawLemmas.{sound_reached}
 use Rattle.admission_core.specs.View.{View, view_of, spent, gained, rights_of, shows_writer, first_unfinished}
-use Rattle.admission_core.specs.Books.{ShowsBook}
+use Rattle.admission_core.specs.Books.{ShowsBook, HasBook}
 use Rattle.admission_core.proofs.SumLemmas.{total_same, total_others_same}
 use Rattle.admission_core.proofs.LeastLemmas.{IsLeast, least_below-none, least_below-some, least_below-found}
 use Rattle.admission_core.proofs.ListSumLemmas.{total-list, total_others-list}
@@ -129,54 +128,54 @@ grant_in b v r s shows inside =
     ∙ ap (λ (it : RecordShape). if s == it.home then it.seats else 0) (get_or-map shape_in b.records r nothing_known no_record inside)
 
 -- the rights of a reached account are no negative number in its book
-pub rights_there : (b : BookState) (a : Account) → IsReached a → IsBook b → ShowsBook b (view_of a) → (r : ℕ) → r < length b.records → HasSeatRights (seats_at b r) a.origin.site
-rights_there b a is book shows r inside =
-    let sound = sound_reached a is in
-    let here : a.origin.site < b.sites = omega (arith, sound.site_there, layout_sites b (view_of a) shows) in
+pub rights_there : (a : Account) (b : BookState) → HasBook a b → (r : ℕ) → r < length b.records → HasSeatRights (seats_at b r) a.origin.site
+rights_there a b it r inside =
+    let sound = sound_reached a it.reached in
+    let here : a.origin.site < b.sites = omega (arith, sound.site_there, layout_sites b (view_of a) it.shows) in
     omega (
       arith,
       (sound.balanced r).affordable,
-      gained_in b (view_of a) r book shows inside,
-      spent_in b (view_of a) r book shows inside here,
+      gained_in b (view_of a) r it.is_book it.shows inside,
+      spent_in b (view_of a) r it.is_book it.shows inside here,
     )
 
 -- the seats inside are the book's
-pub inside_there : (b : BookState) (a : Account) → IsReached a → IsBook b → ShowsBook b (view_of a) → (r : ℕ) → r < length b.records → inside_of (seats_at b r) a.origin.site ≡ inside a r
-inside_there b a is book shows r within =
-    let sound = sound_reached a is in
+pub inside_there : (a : Account) (b : BookState) → HasBook a b → (r : ℕ) → r < length b.records → inside_of (seats_at b r) a.origin.site ≡ inside a r
+inside_there a b it r within =
+    let sound = sound_reached a it.reached in
     omega (
       arith,
       (sound.balanced r).seats,
       (sound.balanced r).fits.grant_kept,
       known_own a r Taken,
       known_own a r (Out a.origin.site),
-      shows.counters r a.origin.site Taken,
-      shows.counters r a.origin.site (Out a.origin.site),
-      grant_in b (view_of a) r a.origin.site shows within,
+      it.shows.counters r a.origin.site Taken,
+      it.shows.counters r a.origin.site (Out a.origin.site),
+      grant_in b (view_of a) r a.origin.site it.shows within,
     )
 
 -- the open writers are the book's
-pub open_here : (b : BookState) (a : Account) → IsReached a → IsBook b → ShowsBook b (view_of a) → (r : ℕ) → r < length b.records → open_count (notices_at b r) a.origin.site ≡ writers_here a r
-open_here b a is book shows r within =
-    let sound = sound_reached a is in
+pub open_here : (a : Account) (b : BookState) → HasBook a b → (r : ℕ) → r < length b.records → open_count (notices_at b r) a.origin.site ≡ writers_here a r
+open_here a b it r within =
+    let sound = sound_reached a it.reached in
     omega (
       arith,
       (sound.balanced r).writers,
       known_own a r Ann,
       known_own a r Fin,
-      shows.counters r a.origin.site Ann,
-      shows.counters r a.origin.site Fin,
+      it.shows.counters r a.origin.site Ann,
+      it.shows.counters r a.origin.site Fin,
     )
 
 -- a writer who waits or writes is open in the book
-pub open_session : (b : BookState) (a : Account) → IsReached a → IsBook b → ShowsBook b (view_of a) → (r h : ℕ) (p : Phase) → r < length b.records → phase_of a r h ≡ Some p → 1 ≤ writers p → IsOpen (notices_at b r) a.origin.site
-open_session b a is book shows r h p within there writes =
-    let sound = sound_reached a is in
+pub open_session : (a : Account) (b : BookState) → HasBook a b → (r h : ℕ) (p : Phase) → r < length b.records → phase_of a r h ≡ Some p → 1 ≤ writers p → IsOpen (notices_at b r) a.origin.site
+open_session a b it r h p within there writes =
+    let sound = sound_reached a it.reached in
     let f = adds writers r (phase_of a) in
     let here : f r h ≡ writers p = cond-true (eqb r r) (on_phase writers (phase_of a r h)) 0 (eq-eqb r r refl) ∙ ap (on_phase writers) there in
     omega (
       arith,
       sessions-keys writers r (phase_of a) (arrivals a.origin a.done),
       keys_member r h f (arrivals a.origin a.done) (sound.listed_once r h p there),
-      open_here b a is book shows r within,
+      open_here a b it r within,
     )

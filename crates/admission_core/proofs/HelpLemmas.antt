@@ -5,7 +5,7 @@ use Rattle.std.proofs.lemmas.Bool.{cases_eq, cases_Bool, eq-eqb, ne_eqb, lt-leb,
 use Rattle.merge_core.specs.declared.cell.Cell.TheVariants.{Out, Taken, Ann, Fin}
 use Rattle.grow_counters.specs.Counts.{counter_limit}
 use Rattle.admission_core.specs.declared.ask.Ask.TheVariants.{Help}
-use Rattle.admission_core.specs.declared.ask.Call.TheVariants.{Ask as Asks}
+use Rattle.admission_core.specs.declared.ask.Call.TheVariants.{Ask as AskCall}
 use Rattle.admission_core.specs.declared.reply.Plan.{Plan}
 use Rattle.admission_core.specs.declared.reply.Refusal.TheVariants.{NoRecord, CounterFull, NoPlan}
 use Rattle.admission_core.specs.declared.reply.Reply.TheVariants.{Gave, Refused}
@@ -72,7 +72,7 @@ all_to : Account → ℕ → ℕ → Plan
 all_to a r w = record { to = w; seats = rights_of (view_of a) r }
 
 -- help for another site's writer either has nothing to give, or gives all
-help_cases : (a : Account) (r w : ℕ) → r < length a.origin.layout.records → w ≢ a.origin.site → IsFirstUnfinished (view_of a) r w → reply_of (view_of a) (Asks (Help r)) ≢ Refused CounterFull → ((rights_of (view_of a) r ≡ 0) × (reason (view_of a) (Asks (Help r)) ≡ Some NoPlan)) ⊎ ((plan_of (view_of a) r ≡ Some (all_to a r w)) × (reason (view_of a) (Asks (Help r)) ≡ None))
+help_cases : (a : Account) (r w : ℕ) → r < length a.origin.layout.records → w ≢ a.origin.site → IsFirstUnfinished (view_of a) r w → reply_of (view_of a) (AskCall (Help r)) ≢ Refused CounterFull → ((rights_of (view_of a) r ≡ 0) × (reason (view_of a) (AskCall (Help r)) ≡ Some NoPlan)) ⊎ ((plan_of (view_of a) r ≡ Some (all_to a r w)) × (reason (view_of a) (AskCall (Help r)) ≡ None))
 unfolding all_to
 help_cases a r w below apart first not_full = at (cases_eq (rights_of (view_of a) r) 0)
   where
@@ -91,14 +91,14 @@ help_cases a r w below apart first not_full = at (cases_eq (rights_of (view_of a
     there : no_record_there (view_of a) r ≡ false
     there = lt-leb (length a.origin.layout.records) r below
 
-    room : plan_of (view_of a) r ≡ Some (all_to a r w) → (full_line.test ≡ true) ⊎ (full_line.test ≡ false) → reason (view_of a) (Asks (Help r)) ≡ None
+    room : plan_of (view_of a) r ≡ Some (all_to a r w) → (full_line.test ≡ true) ⊎ (full_line.test ≡ false) → reason (view_of a) (AskCall (Help r)) ≡ None
     room plan (inl full) =
-        let why : reason (view_of a) (Asks (Help r)) ≡ Some CounterFull =
+        let why : reason (view_of a) (AskCall (Help r)) ≡ Some CounterFull =
         reason_behind (there_line ∷ plan_line ∷ []) full_line [] (there, (ap is_none plan, tt)) full in
-        absurd (not_full (ap (λ o. replied o (answer (view_of a) (Asks (Help r)))) why))
+        absurd (not_full (ap (λ o. replied o (answer (view_of a) (AskCall (Help r)))) why))
     room plan (inr free) = first_reason-none (help_lines (view_of a) r) (there, (ap is_none plan, (free, tt)))
 
-    at : (rights_of (view_of a) r ≡ 0) ⊎ (rights_of (view_of a) r ≡ 0 → ⊥) → ((rights_of (view_of a) r ≡ 0) × (reason (view_of a) (Asks (Help r)) ≡ Some NoPlan)) ⊎ ((plan_of (view_of a) r ≡ Some (all_to a r w)) × (reason (view_of a) (Asks (Help r)) ≡ None))
+    at : (rights_of (view_of a) r ≡ 0) ⊎ (rights_of (view_of a) r ≡ 0 → ⊥) → ((rights_of (view_of a) r ≡ 0) × (reason (view_of a) (AskCall (Help r)) ≡ Some NoPlan)) ⊎ ((plan_of (view_of a) r ≡ Some (all_to a r w)) × (reason (view_of a) (AskCall (Help r)) ≡ None))
     at (inl none) =
         let no_plan : plan_of (view_of a) r ≡ None =
         ap (plan_for (view_of a) r) is ∙ cond-true ((eqb w a.origin.site) || (eqb (rights_of (view_of a) r) 0)) None (Some (all_to a r w))
@@ -110,25 +110,25 @@ help_cases a r w below apart first not_full = at (cases_eq (rights_of (view_of a
         (or_from (eqb w a.origin.site) (eqb (rights_of (view_of a) r) 0) (ne_eqb w a.origin.site apart) (ne_eqb (rights_of (view_of a) r) 0 some)) in
         inr (plan, room plan (cases_Bool full_line.test))
 
-pub helped : (a : Account) (r w : ℕ) → IsSound a → r < length a.origin.layout.records → w ≢ a.origin.site → IsFirstUnfinished (view_of a) r w → reply_of (view_of a) (Asks (Help r)) ≢ Refused CounterFull → IsHelped a (after a (Asks (Help r))) r w
+pub helped : (a : Account) (r w : ℕ) → IsSound a → r < length a.origin.layout.records → w ≢ a.origin.site → IsFirstUnfinished (view_of a) r w → reply_of (view_of a) (AskCall (Help r)) ≢ Refused CounterFull → IsHelped a (after a (AskCall (Help r))) r w
 unfolding all_to
 helped a r w sound below apart first not_full = at (help_cases a r w below apart first not_full)
   where
-    at : ((rights_of (view_of a) r ≡ 0) × (reason (view_of a) (Asks (Help r)) ≡ Some NoPlan)) ⊎ ((plan_of (view_of a) r ≡ Some (all_to a r w)) × (reason (view_of a) (Asks (Help r)) ≡ None)) → IsHelped a (after a (Asks (Help r))) r w
+    at : ((rights_of (view_of a) r ≡ 0) × (reason (view_of a) (AskCall (Help r)) ≡ Some NoPlan)) ⊎ ((plan_of (view_of a) r ≡ Some (all_to a r w)) × (reason (view_of a) (AskCall (Help r)) ≡ None)) → IsHelped a (after a (AskCall (Help r))) r w
     at (inl h) =
-        subst (λ (b : Account). IsHelped a b r w) (sym (ap (λ o. unless_refused o a (advanced a (Asks (Help r)))) h.1)) (nothing_left a r w h.0)
+        subst (λ (b : Account). IsHelped a b r w) (sym (ap (λ o. unless_refused o a (advanced a (AskCall (Help r)))) h.1)) (nothing_left a r w h.0)
     at (inr h) =
-        let now : after a (Asks (Help r)) ≡ does (GaveSeats r w (rights_of (view_of a) r)) a =
-        ap (λ o. unless_refused o a (advanced a (Asks (Help r)))) h.1 ∙ ap (λ (p : Option Plan). does (GaveSeats r (planned p).to (planned p).seats) a) h.0 in
+        let now : after a (AskCall (Help r)) ≡ does (GaveSeats r w (rights_of (view_of a) r)) a =
+        ap (λ o. unless_refused o a (advanced a (AskCall (Help r)))) h.1 ∙ ap (λ (p : Option Plan). does (GaveSeats r (planned p).to (planned p).seats) a) h.0 in
         subst (λ (b : Account). IsHelped a b r w) (sym now) (gave_all a r w sound first.there apart)
 
 -- and it is answered so
-pub help_reply : (a : Account) (r w : ℕ) → r < length a.origin.layout.records → w ≢ a.origin.site → IsFirstUnfinished (view_of a) r w → reply_of (view_of a) (Asks (Help r)) ≢ Refused CounterFull → (reply_of (view_of a) (Asks (Help r)) ≡ Gave w (rights_of (view_of a) r)) ⊎ (reply_of (view_of a) (Asks (Help r)) ≡ Refused NoPlan)
+pub help_reply : (a : Account) (r w : ℕ) → r < length a.origin.layout.records → w ≢ a.origin.site → IsFirstUnfinished (view_of a) r w → reply_of (view_of a) (AskCall (Help r)) ≢ Refused CounterFull → (reply_of (view_of a) (AskCall (Help r)) ≡ Gave w (rights_of (view_of a) r)) ⊎ (reply_of (view_of a) (AskCall (Help r)) ≡ Refused NoPlan)
 unfolding all_to
 help_reply a r w below apart first not_full = at (help_cases a r w below apart first not_full)
   where
-    at : ((rights_of (view_of a) r ≡ 0) × (reason (view_of a) (Asks (Help r)) ≡ Some NoPlan)) ⊎ ((plan_of (view_of a) r ≡ Some (all_to a r w)) × (reason (view_of a) (Asks (Help r)) ≡ None)) → (reply_of (view_of a) (Asks (Help r)) ≡ Gave w (rights_of (view_of a) r)) ⊎ (reply_of (view_of a) (Asks (Help r)) ≡ Refused NoPlan)
-    at (inl h) = inr (ap (λ o. replied o (answer (view_of a) (Asks (Help r)))) h.1)
+    at : ((rights_of (view_of a) r ≡ 0) × (reason (view_of a) (AskCall (Help r)) ≡ Some NoPlan)) ⊎ ((plan_of (view_of a) r ≡ Some (all_to a r w)) × (reason (view_of a) (AskCall (Help r)) ≡ None)) → (reply_of (view_of a) (AskCall (Help r)) ≡ Gave w (rights_of (view_of a) r)) ⊎ (reply_of (view_of a) (AskCall (Help r)) ≡ Refused NoPlan)
+    at (inl h) = inr (ap (λ o. replied o (answer (view_of a) (AskCall (Help r)))) h.1)
     at (inr h) =
-        inl (ap (λ o. replied o (answer (view_of a) (Asks (Help r)))) h.1
+        inl (ap (λ o. replied o (answer (view_of a) (AskCall (Help r)))) h.1
         ∙ ap (λ (p : Option Plan). Gave (planned p).to (planned p).seats) h.0)

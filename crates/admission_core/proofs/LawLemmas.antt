@@ -1,12 +1,12 @@
 -- The laws of one site, over every account that steps lead to.
-use Rattle.std.proofs.Common.{◌≡◌, ◌≢◌, ℕ, ◌<◌, ◌≤◌, ◌⊎◌, inl, inr, refl, sym, ap, ◌∙◌, subst, arith}
+use Rattle.std.proofs.Common.{◌≡◌, ◌≢◌, ℕ, ◌<◌, ◌≤◌, ◌⊎◌, inl, inr, sym, ap, ◌∙◌, subst, arith}
 use Rattle.std.proofs.lemmas.Bool.{cases_eq}
 use Rattle.merge_core.specs.declared.cell.Cell.{Cell}
 use Rattle.merge_core.specs.declared.cell.Cell.TheVariants.{Out, Ann, Fin}
 use Rattle.merge_core.specs.Layout.{shape_of}
 use Rattle.merge_core.specs.Rows.{start_counter}
 use Rattle.admission_core.specs.declared.ask.Ask.TheVariants.{Read}
-use Rattle.admission_core.specs.declared.ask.Call.TheVariants.{Ask as Asks}
+use Rattle.admission_core.specs.declared.ask.Call.TheVariants.{Ask as AskCall}
 use Rattle.admission_core.specs.declared.reply.Reply.TheVariants.{Admitted}
 use Rattle.admission_core.specs.View.{view_of, problem_in}
 use Rattle.admission_core.specs.Serving.{reply_of}
@@ -15,7 +15,7 @@ use Rattle.admission_core.specs.Account.{Account, begin, own}
 use Rattle.admission_core.specs.Knowledge.{known, resumed, restarted, grown, durable_part}
 use Rattle.admission_core.specs.Sound.{IsSound, IsOrigin}
 use Rattle.admission_core.specs.Reached.{IsReached}
-use Rattle.admission_core.specs.Laws.{CountsUnits, CountsSessions, KnowTheSame, ShowTheSame, KeepTheSame}
+use Rattle.admission_core.specs.Laws.{CountsUnits, CountsSessions, SourcesAgree, ShowTheSame, KeepTheSame}
 use Rattle.admission_core.proofs.CounterLemmas.{known_own, known_other}
 use Rattle.admission_core.proofs.RowLemmas.{start_below}
 use Rattle.admission_core.proofs.HeardLemmas.{site_sum_own, known_fits}
@@ -44,7 +44,7 @@ units a is = counts_units a (sound_reached a is)
 pub sessions : (a : Account) → IsReached a → (r : ℕ) → CountsSessions a r
 sessions a is r = counts_sessions a r (sound_reached a is)
 
-pub counters : (a b : Account) → IsReached a → IsReached b → KnowTheSame a b → (r s : ℕ) (cell : Cell) → known a r s cell ≡ known b r s cell
+pub counters : (a b : Account) → IsReached a → IsReached b → SourcesAgree a b → (r s : ℕ) (cell : Cell) → known a r s cell ≡ known b r s cell
 counters a b is_a is_b same = equal_counters a b (sound_reached a is_a) (sound_reached b is_b) same
 
 pub begins_again : (a : Account) → IsReached a → ShowTheSame (begin (resumed a.sites a)) (restarted a)
@@ -89,5 +89,5 @@ past_sites a is r s j past = at (cases_eq s a.origin.site)
         omega (arith, mine, sound.no_others.none_sent r j past, least)
     at (inr ne) = omega (arith, known_other a r s (Out j) ne, sound.no_others.none_told_sent r s j past, least)
 
-pub none_admitted_reached : (a : Account) → IsReached a → (r h s : ℕ) → problem_in a.origin.layout r ≡ 2 → known a r s Fin < known a r s Ann → reply_of (view_of a) (Asks (Read r h)) ≢ Admitted
+pub none_admitted_reached : (a : Account) → IsReached a → (r h s : ℕ) → problem_in a.origin.layout r ≡ 2 → known a r s Fin < known a r s Ann → reply_of (view_of a) (AskCall (Read r h)) ≢ Admitted
 none_admitted_reached a is r h s second unfinished = none_admitted a r h s (sound_reached a is) second unfinished

@@ -22,3 +22,5 @@ pub mod HelpLemmas
 pub mod ListSumLemmas
 pub mod LawLemmas
 pub mod BookLemmas
+pub mod CellLemmas
+pub mod ChangeLemmas

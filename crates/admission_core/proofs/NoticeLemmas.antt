@@ -1,20 +1,18 @@
 -- Known notices are never forgotten, and a reader is never admitted where one is unfinished.
-use Rattle.std.proofs.Common.{◌≡◌, ◌≢◌, ℕ, ◌<◌, ◌≤◌, ◌⊎◌, inl, inr, true, false, leb, eqb, ltb, length, Option, Some, None, is_some, refl, sym, ap, ◌∙◌, arith}
-use Rattle.std.proofs.lemmas.Bool.{cases_eq, cases_lt, cases_Bool, cond_both, cond-true, cond-false, eq-eqb, lt-ltb, and_from, false≢true}
+use Rattle.std.proofs.Common.{◌≡◌, ◌≢◌, ℕ, ◌<◌, ◌≤◌, ◌⊎◌, inl, inr, true, leb, eqb, Option, Some, None, is_some, refl, sym, ap, ◌∙◌, arith}
+use Rattle.std.proofs.lemmas.Bool.{cases_eq, cases_lt, cond_both, eq-eqb, lt-ltb, and_from, false≢true}
 use Rattle.merge_core.specs.declared.cell.Cell.{Cell}
 use Rattle.merge_core.specs.declared.cell.Cell.TheVariants.{Out, Taken, Ann, Fin}
 use Rattle.merge_core.specs.Changes.{keeps_counter}
-use Rattle.merge_core.specs.Rows.{start_counter}
 use Rattle.admission_core.specs.declared.ask.Ask.TheVariants.{Read}
 use Rattle.admission_core.specs.declared.ask.Call.{Call}
-use Rattle.admission_core.specs.declared.ask.Call.TheVariants.{Ask as Asks, Merge, Snapshot as Tell}
-use Rattle.admission_core.specs.declared.reply.Refusal.{Refusal}
-use Rattle.admission_core.specs.declared.reply.Reply.TheVariants.{Admitted, Refused}
+use Rattle.admission_core.specs.declared.ask.Call.TheVariants.{Ask as AskCall, Merge, Snapshot as SnapshotCall}
+use Rattle.admission_core.specs.declared.reply.Reply.TheVariants.{Admitted}
 use Rattle.admission_core.specs.Account.{Account, own}
 use Rattle.admission_core.specs.Knowledge.{known, told, hears, grown}
 use Rattle.admission_core.specs.View.{view_of, problem_in, first_unfinished, shows_writer}
 use Rattle.admission_core.specs.Replies.{must_wait, read_lines, ask_lines, merge_lines}
-use Rattle.admission_core.specs.Serving.{reply_of, reason, replied, advanced, unless_refused, after, Step, Serves, Restarts, Grows, after_step}
+use Rattle.admission_core.specs.Serving.{reply_of, replied, advanced, unless_refused, after, Step, Serves, Restarts, Grows, after_step}
 use Rattle.admission_core.specs.Sound.{IsSound}
 use Rattle.admission_core.proofs.CounterLemmas.{known_own, known_other}
 use Rattle.admission_core.proofs.LeastLemmas.{least_below-none}
@@ -46,14 +44,14 @@ known_rises a b r s cell same more heard = at (cases_eq s a.origin.site)
     at (inr ne) =
         omega (arith, known_other a r s cell ne, known_other b r s cell (λ e. ne (e ∙ ap (λ o. o.site) same)))
 
-known_after : (a : Account) (call : Call) (r s : ℕ) (cell : Cell) → known a r s cell ≤ known (after a call) r s cell
-known_after a (Asks ask) r s cell =
-    first_both (λ o. known a r s cell ≤ known (unless_refused o a (advanced a (Asks ask))) r s cell) (ask_lines (view_of a) ask) (λ x. omega arith)
-    (λ clear. known_rises a (advanced a (Asks ask)) r s cell refl (omega arith) (omega arith))
+pub known_after : (a : Account) (call : Call) (r s : ℕ) (cell : Cell) → known a r s cell ≤ known (after a call) r s cell
+known_after a (AskCall ask) r s cell =
+    first_both (λ o. known a r s cell ≤ known (unless_refused o a (advanced a (AskCall ask))) r s cell) (ask_lines (view_of a) ask) (λ x. omega arith)
+    (λ clear. known_rises a (advanced a (AskCall ask)) r s cell refl (omega arith) (omega arith))
 known_after a (Merge delta) r s cell =
     first_both (λ o. known a r s cell ≤ known (unless_refused o a (hears a delta.rows)) r s cell) (merge_lines (view_of a) delta) (λ x. omega arith)
     (λ clear. known_rises a (hears a delta.rows) r s cell refl (omega arith) (omega arith))
-known_after a Tell r s cell = omega arith
+known_after a SnapshotCall r s cell = omega arith
 
 pub known_grown : (a : Account) (n r s : ℕ) (cell : Cell) → IsNotice cell → known a r s cell ≤ known (grown n a) r s cell
 known_grown a n r s cell is =
@@ -91,7 +89,7 @@ some_first a r s sound unfinished = at (first_unfinished (view_of a) r) refl
         absurd (false≢true (sym gone ∙ lt-ltb (known a r s Fin) (known a r s Ann) unfinished))
 
 -- under problem 2 no reader is admitted where some site shows an unfinished writer
-pub none_admitted : (a : Account) (r h s : ℕ) → IsSound a → problem_in a.origin.layout r ≡ 2 → known a r s Fin < known a r s Ann → reply_of (view_of a) (Asks (Read r h)) ≢ Admitted
+pub none_admitted : (a : Account) (r h s : ℕ) → IsSound a → problem_in a.origin.layout r ≡ 2 → known a r s Fin < known a r s Ann → reply_of (view_of a) (AskCall (Read r h)) ≢ Admitted
 none_admitted a r h s sound second unfinished =
     first_both (λ o. replied o Admitted ≡ Admitted → ⊥) (read_lines (view_of a) r h) (λ x e. cc) (λ clear e. at clear)
   where

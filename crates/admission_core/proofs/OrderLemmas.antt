@@ -1,23 +1,22 @@
 -- The order of sessions.
-use Rattle.std.proofs.Common.{◌≡◌, ℕ, ◌+◌, ◌≤◌, ◌⊎◌, inl, inr, true, false, cond, List, [], ◌∷◌, ◌++◌, map, Option, Some, None, refl, sym, ap, ◌∙◌, arith}
+use Rattle.std.proofs.Common.{◌≡◌, ℕ, ◌≤◌, ◌⊎◌, inl, inr, true, false, List, [], ◌∷◌, ◌++◌, map, Option, Some, None, refl, sym, ap, ◌∙◌, arith}
 use Rattle.std.specs.List.{AllByRecursion}
 use Rattle.std.proofs.lemmas.Bool.{cases_Bool, cond-true, cond-false}
 use Rattle.admission_core.specs.declared.ask.Ask.{Ask}
 use Rattle.admission_core.specs.declared.ask.Ask.TheVariants.{Read, Announce, Quill, Leave, Give, Help}
-use Rattle.admission_core.specs.declared.ask.Call.TheVariants.{Ask as Asks}
+use Rattle.admission_core.specs.declared.ask.Call.TheVariants.{Ask as AskCall}
 use Rattle.admission_core.specs.declared.ask.Phase.{Phase}
 use Rattle.admission_core.specs.declared.ask.Phase.TheVariants.{Reader, Waiting, Writer}
-use Rattle.admission_core.specs.Account.{Account, Origin, Session, Key, Operation, EnteredRead, AnnouncedWriter, EnteredWrite, LeftRecord, begin, is_key, key_of, without, occurs, stored_phase, with_phase, present, arrivals, phase_of, sessions_of}
+use Rattle.admission_core.specs.Account.{Account, Origin, Session, Key, begin, is_key, key_of, without, occurs, stored_phase, with_phase, present, arrivals, phase_of, sessions_of}
 use Rattle.admission_core.specs.View.{view_of}
-use Rattle.admission_core.specs.Replies.{ask_lines, read_lines, announce_lines, write_lines}
+use Rattle.admission_core.specs.Replies.{read_lines, announce_lines, write_lines}
 use Rattle.admission_core.specs.Serving.{reason, operation_of, advanced, unless_refused, after}
-use Rattle.admission_core.specs.Order.{without_session, with_new_phase, with_changed, sessions_next}
-use Rattle.admission_core.specs.Sound.{IsSound, IsOrigin}
+use Rattle.admission_core.specs.Order.{without_session, with_changed, sessions_next}
+use Rattle.admission_core.specs.Sound.{IsOrigin}
 use Rattle.admission_core.proofs.KeyLemmas.{is_key-true}
-use Rattle.admission_core.proofs.SessionLemmas.{is_key-refl, is_key-comm, changed}
+use Rattle.admission_core.proofs.SessionLemmas.{is_key-refl, changed}
 use Rattle.admission_core.proofs.RowLemmas.{none_of}
 use Rattle.admission_core.proofs.ServingLemmas.{clear_of, waits}
-use Rattle.admission_core.proofs.CounterLemmas.{does}
 
 -- the phase of another holder
 changed_other : (r h : ℕ) (new : Option Phase) (phase : ℕ → ℕ → Option Phase) (k : Key) → is_key r h k.r k.h ≡ false → changed r h new phase k.r k.h ≡ phase k.r k.h
@@ -109,7 +108,7 @@ leaves_gap r h phase (k ∷ ks) = at (cases_Bool (is_key r h k.r k.h)) (phase k.
         ∙ ap (λ o. without_session r h (with_phase k o (present phase ks))) (sym is)))
 
 -- the sessions after an ask that nothing refuses
-pub sessions_advanced : (a : Account) (ask : Ask) → reason (view_of a) (Asks ask) ≡ None → sessions_of (advanced a (Asks ask)) ≡ sessions_next (operation_of (view_of a) ask) (sessions_of a)
+pub sessions_advanced : (a : Account) (ask : Ask) → reason (view_of a) (AskCall ask) ≡ None → sessions_of (advanced a (AskCall ask)) ≡ sessions_next (operation_of (view_of a) ask) (sessions_of a)
 sessions_advanced a (Read r h) free =
     let clear = clear_of (read_lines (view_of a) r h) free in
     arrives_last r h Reader (phase_of a) (arrivals a.origin a.done) (none_of (phase_of a r h) clear.1.1.0)
@@ -123,12 +122,12 @@ sessions_advanced a (Leave r h) free = leaves_gap r h (phase_of a) (arrivals a.o
 sessions_advanced a (Give r to seats) free = refl
 sessions_advanced a (Help r) free = refl
 
-pub sessions_asked : (a : Account) (ask : Ask) → reason (view_of a) (Asks ask) ≡ None → sessions_of (after a (Asks ask)) ≡ sessions_next (operation_of (view_of a) ask) (sessions_of a)
+pub sessions_asked : (a : Account) (ask : Ask) → reason (view_of a) (AskCall ask) ≡ None → sessions_of (after a (AskCall ask)) ≡ sessions_next (operation_of (view_of a) ask) (sessions_of a)
 sessions_asked a ask free =
-    ap (λ o. sessions_of (unless_refused o a (advanced a (Asks ask)))) free ∙ sessions_advanced a ask free
+    ap (λ o. sessions_of (unless_refused o a (advanced a (AskCall ask)))) free ∙ sessions_advanced a ask free
 
 -- each stored session is found, where none is stored twice
-abbrev Once : List Session → Type 0
+abbrev pub Once : List Session → Type 0
 Once ss = (r h : ℕ) (p : Phase) → stored_phase ss r h ≡ Some p → occurs r h (map key_of ss) ≡ 1
 
 -- a holder that is in the list occurs in it
@@ -151,7 +150,7 @@ later_once s ss once r h p e = at (cases_Bool (is_key r h s.r s.h))
         let first = once r h p (cond-false (is_key r h s.r s.h) (Some s.phase) (stored_phase ss r h) f ∙ e) in
         omega (arith, first, cond-false {A = ℕ} (is_key r h s.r s.h) 1 0 f)
 
-abbrev IsStored : (ℕ → ℕ → Option Phase) → Session → Type 0
+abbrev pub IsStored : (ℕ → ℕ → Option Phase) → Session → Type 0
 IsStored phase s = phase s.r s.h ≡ Some s.phase
 
 -- a session of a later place occurs there
@@ -173,7 +172,7 @@ both : {X : Type 0} (P Q : X → Type 0) (xs : List X) → AllByRecursion P xs �
 both P Q [] p q = tt
 both P Q (x ∷ xs) p q = ((p.0, q.0), both P Q xs p.1 q.1)
 
-all_stored : (ss : List Session) → Once ss → AllByRecursion (IsStored (stored_phase ss)) ss
+pub all_stored : (ss : List Session) → Once ss → AllByRecursion (IsStored (stored_phase ss)) ss
 all_stored [] once = tt
 all_stored (s ∷ ss) once = (
   cond-true (is_key s.r s.h s.r s.h) (Some s.phase) (stored_phase ss s.r s.h) (is_key-refl s.r s.h),

@@ -6,7 +6,7 @@ use Rattle.merge_core.specs.declared.cell.Cell.TheVariants.{Out, Taken, Ann, Fin
 use Rattle.merge_core.specs.Layout.{LayoutState}
 use Rattle.grow_counters.specs.Counts.{counter_limit}
 use Rattle.admission_core.specs.declared.ask.Ask.TheVariants.{Read}
-use Rattle.admission_core.specs.declared.ask.Call.TheVariants.{Ask as Asks}
+use Rattle.admission_core.specs.declared.ask.Call.TheVariants.{Ask as AskCall}
 use Rattle.admission_core.specs.declared.reply.Refusal.{Refusal}
 use Rattle.admission_core.specs.declared.reply.Refusal.TheVariants.{NoRecord, BadHolder, AlreadyHere, CounterFull, WriterAnnounced, NoSeat}
 use Rattle.admission_core.specs.declared.reply.Reply.TheVariants.{Admitted, Refused}
@@ -34,7 +34,7 @@ found v r s first =
       least = λ t lower. le-ltb (v.counter r t Fin) (v.counter r t Ann) (first.least t lower);
     })
 
-pub reader_held : (v : View) (r h s : ℕ) → problem_in v.layout r ≡ 2 → MayAsk v r h → IsFirstUnfinished v r s → reply_of v (Asks (Read r h)) ≡ Refused (WriterAnnounced s)
+pub reader_held : (v : View) (r h s : ℕ) → problem_in v.layout r ≡ 2 → MayAsk v r h → IsFirstUnfinished v r s → reply_of v (AskCall (Read r h)) ≡ Refused (WriterAnnounced s)
 reader_held v r h s second may first =
     let is = found v r s first in
     let before : List Line =
@@ -94,7 +94,7 @@ no_wait : (v : View) (r : ℕ) → problem_in v.layout r ≡ 1 → must_wait v r
 no_wait v r first =
     and_left (eqb (problem_in v.layout r) 2) (is_some (first_unfinished v r)) (ap (λ p. eqb p 2) first)
 
-pub reader_not_held : (v w : View) (r h : ℕ) → problem_in v.layout r ≡ 1 → DifferInNotices v w → reply_of w (Asks (Read r h)) ≡ reply_of v (Asks (Read r h))
+pub reader_not_held : (v w : View) (r h : ℕ) → problem_in v.layout r ≡ 1 → DifferInNotices v w → reply_of w (AskCall (Read r h)) ≡ reply_of v (AskCall (Read r h))
 reader_not_held v w r h first same =
     let same_taken : w.counter r w.site Taken ≡ v.counter r v.site Taken = ap (λ i. w.counter r i Taken) same.site ∙ same.takens r v.site in
     let seats = same_rights v w r same in

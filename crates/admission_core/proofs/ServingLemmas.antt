@@ -7,7 +7,7 @@ use Rattle.grow_counters.specs.Counts.{counter_limit}
 use Rattle.admission_core.specs.declared.ask.Ask.{Ask}
 use Rattle.admission_core.specs.declared.ask.Ask.TheVariants.{Read, Announce, Quill, Leave, Give, Help}
 use Rattle.admission_core.specs.declared.ask.Call.{Call}
-use Rattle.admission_core.specs.declared.ask.Call.TheVariants.{Ask as Asks, Merge, Snapshot as Tell}
+use Rattle.admission_core.specs.declared.ask.Call.TheVariants.{Ask as AskCall, Merge, Snapshot as SnapshotCall}
 use Rattle.admission_core.specs.declared.ask.Phase.{Phase}
 use Rattle.admission_core.specs.declared.ask.Phase.TheVariants.{Reader, Waiting, Writer}
 use Rattle.admission_core.specs.declared.reply.Plan.{Plan}
@@ -92,7 +92,7 @@ clear_help a r sound clear =
     (omega (arith, room, known_own a r (Out (planned (plan_of (view_of a) r)).to)))
     (subst (λ (x : ℕ). x ≤ rights_of (view_of a) r) (sym seats) feasible.enough)
 
-clear_ask : (a : Account) (ask : Ask) → IsSound a → Clear (ask_lines (view_of a) ask) → IsSound (advanced a (Asks ask))
+clear_ask : (a : Account) (ask : Ask) → IsSound a → Clear (ask_lines (view_of a) ask) → IsSound (advanced a (AskCall ask))
 clear_ask a (Read r h) sound clear = clear_read a r h sound clear
 clear_ask a (Announce r h) sound clear =
     sound_announce a r h sound (leb-false (length a.origin.layout.records) r clear.0) (ltb-false holder_limit h clear.1.0) (none_of (phase_of a r h) clear.1.1.0)
@@ -110,15 +110,15 @@ clear_ask a (Give r to seats) sound clear = clear_give a r to seats sound clear
 clear_ask a (Help r) sound clear = clear_help a r sound clear
 
 pub sound_after : (a : Account) (call : Call) → IsSound a → IsSound (after a call)
-sound_after a (Asks ask) sound =
-    first_both (λ o. IsSound (unless_refused o a (advanced a (Asks ask)))) (ask_lines (view_of a) ask) (λ x. sound) (clear_ask a ask sound)
+sound_after a (AskCall ask) sound =
+    first_both (λ o. IsSound (unless_refused o a (advanced a (AskCall ask)))) (ask_lines (view_of a) ask) (λ x. sound) (clear_ask a ask sound)
 sound_after a (Merge delta) sound =
     first_both (λ o. IsSound (unless_refused o a (hears a delta.rows))) (merge_lines (view_of a) delta) (λ x. sound)
     (λ clear. sound_hears a delta.rows sound
     (AllPass-from (is_placed (shape_of (layout_of a))) delta.rows (none_of (first_failing (is_placed (shape_of (layout_of a))) delta.rows) clear.0))
     (AllPass-from (is_valid (shape_of (layout_of a))) delta.rows (none_of (first_failing (is_valid (shape_of (layout_of a))) delta.rows) clear.1.0))
     (none_of (first_ahead (view_of a) delta.rows) clear.1.1.0))
-sound_after a Tell sound = sound
+sound_after a SnapshotCall sound = sound
 
 pub sound_after_step : (a : Account) (step : Step) → IsSound a → IsSound (after_step a step)
 sound_after_step a (Serves call) sound = sound_after a call sound
@@ -132,18 +132,18 @@ sound_replay a (step ∷ steps) sound = sound_after_step (replay a steps) step (
 
 -- a call keeps where the account began, and how many sites it knows
 pub origin_after : (a : Account) (call : Call) → (after a call).origin ≡ a.origin
-origin_after a (Asks ask) =
-    first_both (λ o. (unless_refused o a (advanced a (Asks ask))).origin ≡ a.origin) (ask_lines (view_of a) ask) (λ x. refl) (λ clear. refl)
+origin_after a (AskCall ask) =
+    first_both (λ o. (unless_refused o a (advanced a (AskCall ask))).origin ≡ a.origin) (ask_lines (view_of a) ask) (λ x. refl) (λ clear. refl)
 origin_after a (Merge delta) =
     first_both (λ o. (unless_refused o a (hears a delta.rows)).origin ≡ a.origin) (merge_lines (view_of a) delta) (λ x. refl) (λ clear. refl)
-origin_after a Tell = refl
+origin_after a SnapshotCall = refl
 
 pub sites_after : (a : Account) (call : Call) → (after a call).sites ≡ a.sites
-sites_after a (Asks ask) =
-    first_both (λ o. (unless_refused o a (advanced a (Asks ask))).sites ≡ a.sites) (ask_lines (view_of a) ask) (λ x. refl) (λ clear. refl)
+sites_after a (AskCall ask) =
+    first_both (λ o. (unless_refused o a (advanced a (AskCall ask))).sites ≡ a.sites) (ask_lines (view_of a) ask) (λ x. refl) (λ clear. refl)
 sites_after a (Merge delta) =
     first_both (λ o. (unless_refused o a (hears a delta.rows)).sites ≡ a.sites) (merge_lines (view_of a) delta) (λ x. refl) (λ clear. refl)
-sites_after a Tell = refl
+sites_after a SnapshotCall = refl
 
 pub origin_after_step : (a : Account) (step : Step) → (after_step a step).origin ≡ a.origin
 origin_after_step a (Serves call) = origin_after a call

@@ -1,21 +1,20 @@
 -- What shows the same decides and does the same.
-use Rattle.std.proofs.Common.{◌≡◌, ◌≢◌, ℕ, ◌+◌, ◌<◌, ◌≤◌, ◌⊎◌, inl, inr, max, true, false, ◌&&◌, cond, eqb, leb, List, [], ◌∷◌, map, Option, Some, None, refl, sym, ap, subst, ◌∙◌, arith}
+use Rattle.std.proofs.Common.{◌≡◌, ◌≢◌, ℕ, ◌+◌, ◌⊎◌, inl, inr, max, true, false, ◌&&◌, cond, eqb, leb, List, map, Option, Some, None, refl, sym, ap, subst, ◌∙◌, arith}
 use Rattle.std.proofs.lemmas.Bool.{cases_eq, cases_Bool, eq-eqb, ne_eqb, cond-true, cond-false}
 use Rattle.merge_core.specs.declared.cell.Cell.{Cell}
 use Rattle.merge_core.specs.declared.delta.Row.{Row}
-use Rattle.merge_core.specs.Delta.{DeltaState}
 use Rattle.merge_core.specs.Layout.{LayoutState, shape_of, record_shape}
 use Rattle.merge_core.specs.Rows.{start_counter}
 use Rattle.merge_core.specs.Naming.{shown_by}
 use Rattle.merge_core.specs.Changes.{keeps_counter}
 use Rattle.admission_core.specs.declared.ask.Ask.{Ask}
 use Rattle.admission_core.specs.declared.ask.Call.{Call}
-use Rattle.admission_core.specs.declared.ask.Call.TheVariants.{Ask as Asks, Merge, Snapshot as Tell}
+use Rattle.admission_core.specs.declared.ask.Call.TheVariants.{Ask as AskCall, Merge, Snapshot as SnapshotCall}
 use Rattle.admission_core.specs.declared.ask.Phase.{Phase}
 use Rattle.admission_core.specs.declared.ask.Phase.TheVariants.{Reader, Waiting, Writer}
 use Rattle.admission_core.specs.declared.reply.Refusal.{Refusal}
-use Rattle.admission_core.specs.Account.{Account, Session, Operation, EnteredRead, AnnouncedWriter, EnteredWrite, LeftRecord, GaveSeats, layout_of, seats_in, own, rise_of, record_of, phase_of, sessions_of, is_key}
-use Rattle.admission_core.specs.Knowledge.{kept_or_start, known, told, hears, grown}
+use Rattle.admission_core.specs.Account.{Account, Session, Operation, EnteredRead, AnnouncedWriter, EnteredWrite, LeftRecord, GaveSeats, seats_in, own, rise_of, record_of, phase_of, sessions_of, is_key}
+use Rattle.admission_core.specs.Knowledge.{kept_or_start, known, hears, grown}
 use Rattle.admission_core.specs.View.{View, view_of}
 use Rattle.admission_core.specs.Serving.{reason, reply_of, operation_of, advanced, unless_refused, after, Step, Serves, Restarts, Grows, after_step}
 use Rattle.admission_core.specs.Order.{sessions_next}
@@ -63,9 +62,9 @@ known_does a operation r s cell = at (cases_eq s a.origin.site)
           ap (λ b. cond (b && eqb (record_of operation) r) (rise_of (seats_in a.origin.layout) a.origin.site (phase_of a) operation cell) 0) (ne_eqb s a.origin.site ne),
         )
 
-pub known_asked : (a : Account) (ask : Ask) → reason (view_of a) (Asks ask) ≡ None → (r s : ℕ) (cell : Cell) → known (after a (Asks ask)) r s cell ≡ known a r s cell + cond (eqb s a.origin.site && eqb (record_of (operation_of (view_of a) ask)) r) (rise_of (seats_in a.origin.layout) a.origin.site (phase_of a) (operation_of (view_of a) ask) cell) 0
+pub known_asked : (a : Account) (ask : Ask) → reason (view_of a) (AskCall ask) ≡ None → (r s : ℕ) (cell : Cell) → known (after a (AskCall ask)) r s cell ≡ known a r s cell + cond (eqb s a.origin.site && eqb (record_of (operation_of (view_of a) ask)) r) (rise_of (seats_in a.origin.layout) a.origin.site (phase_of a) (operation_of (view_of a) ask) cell) 0
 known_asked a ask free r s cell =
-    ap (λ o. known (unless_refused o a (advanced a (Asks ask))) r s cell) free ∙ known_does a (operation_of (view_of a) ask) r s cell
+    ap (λ o. known (unless_refused o a (advanced a (AskCall ask))) r s cell) free ∙ known_does a (operation_of (view_of a) ask) r s cell
 
 -- what is known after a delta was heard
 pub heard_own : (a : Account) (rows : List Row) (r s : ℕ) (cell : Cell) → s ≡ a.origin.site → known (hears a rows) r s cell ≡ own a r cell
@@ -171,13 +170,13 @@ module _ (a b : Account) (same : ShowTheSame a b) where
 
   same_called : (call : Call) (o : Option Refusal) → reason (view_of a) call ≡ o → reason (view_of b) call ≡ o → ShowTheSame (unless_refused o a (advanced a call)) (unless_refused o b (advanced b call))
   same_called call (Some refusal) e f = same
-  same_called (Asks ask) None e f =
+  same_called (AskCall ask) None e f =
       let operation : operation_of (view_of a) ask ≡ operation_of (view_of b) ask = ap (λ v. operation_of v ask) views in
-      subst (λ (x : Operation). ShowTheSame (advanced a (Asks ask)) (does x b)) operation
+      subst (λ (x : Operation). ShowTheSame (advanced a (AskCall ask)) (does x b)) operation
       (same_done (operation_of (view_of a) ask) (sessions_advanced a ask e)
       (subst (λ (x : Operation). sessions_of (does x b) ≡ sessions_next x (sessions_of b)) (sym operation) (sessions_advanced b ask f)))
   same_called (Merge delta) None e f = same_heard delta.rows
-  same_called Tell None e f = same
+  same_called SnapshotCall None e f = same
 
   same_after : (call : Call) → ShowTheSame (after a call) (after b call)
   same_after call =

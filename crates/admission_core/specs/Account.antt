@@ -30,8 +30,8 @@ pub data Operation : Type 0 where
 
 -- what changed the site's picture of the others: a delta's rows, or a restart
 pub data Heard : Type 0 where
-  Merged : (rows : List Row) → Heard
-  Restarted : Heard
+  HeardRows : (rows : List Row) → Heard
+  StartedAgain : Heard
 
 -- where an account begins: the layout that the site knows then, its number, and its durable part
 pub record Origin : Type 0 where

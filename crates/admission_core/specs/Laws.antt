@@ -1,5 +1,5 @@
 -- The statements of one site's laws.
-use Rattle.std.specs.Prelude.{◌≡◌, ◌≢◌, ◌↔◌, ℕ, ◌+◌, ◌-◌, ◌<◌, ◌≤◌, ◌⊎◌, List, [], ◌∷◌, length, None}
+use Rattle.std.specs.Prelude.{◌≡◌, ◌≢◌, ◌↔◌, ℕ, ◌==◌, ◌&&◌, if◌then◌else◌, ◌+◌, ◌-◌, ◌<◌, ◌≤◌, ◌⊎◌, List, [], ◌∷◌, length, None}
 use Rattle.merge_core.specs.declared.cell.Cell.{Cell}
 use Rattle.merge_core.specs.declared.cell.Cell.TheVariants.{Out, Taken, Ann, Fin}
 use Rattle.merge_core.specs.declared.delta.Row.{Row}
@@ -9,14 +9,14 @@ use Rattle.merge_core.specs.Rows.{grant}
 use Rattle.merge_core.specs.Naming.{ReachesUnit, RowsName}
 use Rattle.admission_core.specs.declared.reply.Plan.{Plan}
 use Rattle.merge_core.specs.Sums.{total_others}
-use Rattle.admission_core.specs.Account.{Account, DurablePart, Session, layout_of, own, inside, writers_here, phase_of, sessions_of}
-use Rattle.admission_core.specs.Knowledge.{known, KnowsUnit}
+use Rattle.admission_core.specs.Account.{Account, Operation, DurablePart, Session, seats_in, record_of, rise_of, layout_of, own, inside, writers_here, phase_of, sessions_of}
+use Rattle.admission_core.specs.Knowledge.{known, SourceNames}
 use Rattle.admission_core.specs.View.{View, view_of, rights_of}
 use Rattle.admission_core.specs.Replies.{holder_limit}
 
 -- the counter is the greatest unit known
 abbrev pub CountsUnits : Account → Type 0
-CountsUnits a = (r s : ℕ) (cell : Cell) (k : ℕ) → ReachesUnit (known a r s cell) k ↔ KnowsUnit a r s cell k
+CountsUnits a = (r s : ℕ) (cell : Cell) (k : ℕ) → ReachesUnit (known a r s cell) k ↔ SourceNames a r s cell k
 
 -- seats that the site knows it was sent, and seats that it gave away
 abbrev pub received : Account → ℕ → ℕ
@@ -34,17 +34,30 @@ pub record CountsSessions (a : Account) (r : ℕ) : Type 0 where
   pub writers : own a r Ann - own a r Fin ≡ writers_here a r
 
 -- two sites know the same units
-abbrev pub KnowTheSame : Account → Account → Type 0
-KnowTheSame a b = (r s : ℕ) (cell : Cell) (k : ℕ) → KnowsUnit a r s cell k ↔ KnowsUnit b r s cell k
+abbrev pub SourcesAgree : Account → Account → Type 0
+SourcesAgree a b = (r s : ℕ) (cell : Cell) (k : ℕ) → SourceNames a r s cell k ↔ SourceNames b r s cell k
+
+-- two sites know the same counters
+abbrev pub SameCounters : Account → Account → Type 0
+SameCounters a b = (r s : ℕ) (cell : Cell) → known a r s cell ≡ known b r s cell
+
+-- the site knows of a writer of record r that site s announced and has not finished
+abbrev pub KnowsUnfinished : Account → ℕ → ℕ → Type 0
+KnowsUnfinished a r s = known a r s Fin < known a r s Ann
+
+-- by how much an operation raises a counter that the site knows: its own row's at the operation's record
+abbrev pub raised_to : Account → Operation → ℕ → ℕ → Cell → ℕ
+raised_to a operation r s cell =
+    if (s == a.origin.site) && (record_of operation == r) then rise_of (seats_in a.origin.layout) a.origin.site (phase_of a) operation cell else 0
 
 -- some delta of a list names the unit
-abbrev pub NamedBySome : Shape → List (List Row) → ℕ → ℕ → Cell → ℕ → Type 0
-NamedBySome shape [] r s cell k = ⊥
-NamedBySome shape (rows ∷ deltas) r s cell k = RowsName shape rows r s cell k ⊎ NamedBySome shape deltas r s cell k
+abbrev pub SomeDeltaNames : Shape → List (List Row) → ℕ → ℕ → Cell → ℕ → Type 0
+SomeDeltaNames shape [] r s cell k = ⊥
+SomeDeltaNames shape (rows ∷ deltas) r s cell k = RowsName shape rows r s cell k ⊎ SomeDeltaNames shape deltas r s cell k
 
 -- two lists of deltas name the same units: as any order, grouping or repetition of the same deltas does
-abbrev pub NameTheSame : Shape → List (List Row) → List (List Row) → Type 0
-NameTheSame shape first second = (r s : ℕ) (cell : Cell) (k : ℕ) → NamedBySome shape first r s cell k ↔ NamedBySome shape second r s cell k
+abbrev pub DeltasAgree : Shape → List (List Row) → List (List Row) → Type 0
+DeltasAgree shape first second = (r s : ℕ) (cell : Cell) (k : ℕ) → SomeDeltaNames shape first r s cell k ↔ SomeDeltaNames shape second r s cell k
 
 -- s is the least site that shows an unfinished writer
 pub record IsFirstUnfinished (v : View) (r s : ℕ) : Type 0 where

@@ -8,4 +8,6 @@ pub mod Serving
 pub mod Order
 pub mod Reached
 pub mod Laws
+pub mod Durable
 pub mod Books
+pub mod Examples

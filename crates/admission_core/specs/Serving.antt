@@ -4,12 +4,12 @@ use Rattle.merge_core.specs.declared.cell.Cell.TheVariants.{Ann}
 use Rattle.admission_core.specs.declared.ask.Ask.{Ask}
 use Rattle.admission_core.specs.declared.ask.Ask.TheVariants.{Read, Announce, Quill, Leave, Give, Help}
 use Rattle.admission_core.specs.declared.ask.Call.{Call}
-use Rattle.admission_core.specs.declared.ask.Call.TheVariants.{Ask as Asks, Merge, Snapshot as Tell}
+use Rattle.admission_core.specs.declared.ask.Call.TheVariants.{Ask as AskCall, Merge, Snapshot as SnapshotCall}
 use Rattle.admission_core.specs.declared.ask.Phase.{Phase}
 use Rattle.admission_core.specs.declared.reply.Refusal.{Refusal}
 use Rattle.admission_core.specs.declared.reply.Refusal.TheVariants.{NotHere}
 use Rattle.admission_core.specs.declared.reply.Reply.{Reply}
-use Rattle.admission_core.specs.declared.reply.Reply.TheVariants.{Admitted, Announced, Left, Given, Gave, Merged as Joined, Snapshot as Told, Refused}
+use Rattle.admission_core.specs.declared.reply.Reply.TheVariants.{Admitted, Announced, Left, Given, Gave, Merged, Snapshot as SnapshotReply, Refused}
 use Rattle.admission_core.specs.Account.{Account, Operation, EnteredRead, AnnouncedWriter, EnteredWrite, LeftRecord, GaveSeats}
 use Rattle.admission_core.specs.Knowledge.{hears, restarted, grown}
 use Rattle.admission_core.specs.View.{View, view_of, plan_of}
@@ -20,9 +20,9 @@ use Rattle.admission_core.specs.Replies.{first_reason, ask_lines, merge_lines, p
 
 -- why a call is refused, if it is
 abbrev pub reason : View → Call → Option Refusal
-reason v (Asks ask) = first_reason (ask_lines v ask)
+reason v (AskCall ask) = first_reason (ask_lines v ask)
 reason v (Merge delta) = first_reason (merge_lines v delta)
-reason v Tell = None
+reason v SnapshotCall = None
 
 -- the phase that was left
 abbrev pub left_reply : Option Phase → Reply
@@ -31,14 +31,14 @@ left_reply None = Refused NotHere
 
 -- what is answered where nothing refuses the call
 abbrev pub answer : View → Call → Reply
-answer v (Asks (Read r h)) = Admitted
-answer v (Asks (Announce r h)) = Announced (v.counter r v.site Ann + 1)
-answer v (Asks (Quill r h)) = Admitted
-answer v (Asks (Leave r h)) = left_reply (v.phase r h)
-answer v (Asks (Give r to seats)) = Given
-answer v (Asks (Help r)) = let plan = planned (plan_of v r) in Gave plan.to plan.seats
-answer v (Merge delta) = Joined (raised_by (shape_of v.layout) v.counter delta.rows)
-answer v Tell = Told (snapshot_of v)
+answer v (AskCall (Read r h)) = Admitted
+answer v (AskCall (Announce r h)) = Announced (v.counter r v.site Ann + 1)
+answer v (AskCall (Quill r h)) = Admitted
+answer v (AskCall (Leave r h)) = left_reply (v.phase r h)
+answer v (AskCall (Give r to seats)) = Given
+answer v (AskCall (Help r)) = let plan = planned (plan_of v r) in Gave plan.to plan.seats
+answer v (Merge delta) = Merged (raised_by (shape_of v.layout) v.counter delta.rows)
+answer v SnapshotCall = SnapshotReply (snapshot_of v)
 
 -- the operation that an ask is, where nothing refuses it; carrying out the plan is a hand-over
 abbrev pub operation_of : View → Ask → Operation
@@ -51,9 +51,9 @@ operation_of v (Help r) = let plan = planned (plan_of v r) in GaveSeats r plan.t
 
 -- the account after a call that nothing refuses
 abbrev pub advanced : Account → Call → Account
-advanced a (Asks ask) = record a { done = operation_of (view_of a) ask ∷ a.done }
+advanced a (AskCall ask) = record a { done = operation_of (view_of a) ask ∷ a.done }
 advanced a (Merge delta) = hears a delta.rows
-advanced a Tell = a
+advanced a SnapshotCall = a
 
 -- a refusal goes before the answer
 abbrev pub replied : Option Refusal → Reply → Reply

@@ -31,7 +31,7 @@ pub record IsBalanced (a : Account) (r : ℕ) : Type 0 where
   pub fits : FitsRow (grant (shape_of a.origin.layout) r a.origin.site) a.origin.site (own a r)
 
 -- nothing was sent to sites past those that the account knows, and nothing was told of them
-pub record KnowsNoOthers (a : Account) : Type 0 where
+pub record KnowsNothingBeyond (a : Account) : Type 0 where
   pub none_sent : (r j : ℕ) → a.sites ≤ j → own a r (Out j) ≡ 0
   pub none_told : (r s : ℕ) (cell : Cell) → a.sites ≤ s → told a r s cell ≤ start_counter (shape_of a.origin.layout) r s cell
   pub none_told_sent : (r s j : ℕ) → a.sites ≤ j → told a r s (Out j) ≤ start_counter (shape_of a.origin.layout) r s (Out j)
@@ -46,7 +46,7 @@ pub record IsSound (a : Account) : Type 0 where
   pub balanced : (r : ℕ) → IsBalanced a r
   pub told_fits : (r s : ℕ) → FitsRow (grant (shape_of a.origin.layout) r s) s (told a r s)
   pub told_after_done : (r : ℕ) (cell : Cell) → told a r a.origin.site cell ≤ own a r cell
-  pub no_others : KnowsNoOthers a
+  pub no_others : KnowsNothingBeyond a
 
 -- an account may begin here: at the start, and wherever a stop leaves a site
 abbrev pub IsOrigin : Origin → Type 0

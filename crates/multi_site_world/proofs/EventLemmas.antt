@@ -12,7 +12,7 @@ use Rattle.merge_core.specs.Layout.{LayoutState, IsLayout, Shape, shape_of, reco
 use Rattle.merge_core.specs.Rows.{grant, start_counter, counter_in, counters_of}
 use Rattle.merge_core.specs.Naming.{shown_by}
 use Rattle.admission_core.specs.declared.ask.Ask.{Ask}
-use Rattle.admission_core.specs.declared.ask.Call.TheVariants.{Ask as Asks, Merge}
+use Rattle.admission_core.specs.declared.ask.Call.TheVariants.{Ask as AskCall, Merge}
 use Rattle.admission_core.specs.Account.{Account, begin, start_origin, layout_of, own}
 use Rattle.merge_core.specs.Changes.{keeps_counter}
 use Rattle.admission_core.specs.Knowledge.{told_after, told, known, hears, restarted, grown}
@@ -37,18 +37,18 @@ use Rattle.multi_site_world.specs.Laws.{IsReachedWorld}
 use Rattle.multi_site_world.proofs.FamilyLemmas.{row_fits, same_start, same_grant}
 use Rattle.multi_site_world.proofs.WorldLemmas.{own_grows, told_by_ask, IsSentRow, AreSentRows, IsMessage, IsSoundWorld, IsNext, sound_with, shown_done_here}
 
-next_call : (w : World) (i : ℕ) (ask : Ask) → IsSoundWorld w → i < w.layout.sites → IsNext w i (after (account_at w i) (Asks ask))
+next_call : (w : World) (i : ℕ) (ask : Ask) → IsSoundWorld w → i < w.layout.sites → IsNext w i (after (account_at w i) (AskCall ask))
 next_call w i ask sound below =
     let a = account_at w i in
-    let b = after a (Asks ask) in
+    let b = after a (AskCall ask) in
     record {
-      sound = sound_after a (Asks ask) (sound.family.sound i below);
-      same_origin = origin_after a (Asks ask);
-      few_sites = omega (arith, sites_after a (Asks ask), sound.family.few_sites i below);
-      more = own_grows a (Asks ask);
+      sound = sound_after a (AskCall ask) (sound.family.sound i below);
+      same_origin = origin_after a (AskCall ask);
+      few_sites = omega (arith, sites_after a (AskCall ask), sound.family.few_sites i below);
+      more = own_grows a (AskCall ask);
       told_done = λ j there r cell.
           let same : told b r j cell ≡ told a r j cell =
-          ap (λ o. told_after o b.heard r j cell) (origin_after a (Asks ask)) ∙ ap (λ h. told_after a.origin h r j cell) (told_by_ask a ask) in
+          ap (λ o. told_after o b.heard r j cell) (origin_after a (AskCall ask)) ∙ ap (λ h. told_after a.origin h r j cell) (told_by_ask a ask) in
           omega (arith, sound.told_done i j below there r cell);
     }
 
@@ -182,7 +182,7 @@ sound_grown_world w i sound below =
     (λ e. sound)
 
 sound_here : (w : World) (event : Event) → IsSoundWorld w → place_of event < w.layout.sites → IsSoundWorld (world_here w event)
-sound_here w (Call i ask) sound below = sound_with w i (after (account_at w i) (Asks ask)) sound below (next_call w i ask sound below)
+sound_here w (Call i ask) sound below = sound_with w i (after (account_at w i) (AskCall ask)) sound below (next_call w i ask sound below)
 sound_here w (Send i) sound below = sound_sent w i sound below
 sound_here w (Take i k) sound below = sound_taken w i sound below (slice_get w.sent k) (λ delta e. (message_there w k delta sound e).rows)
 sound_here w (Thin i k l) sound below =

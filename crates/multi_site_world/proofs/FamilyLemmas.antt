@@ -11,7 +11,7 @@ use Rattle.merge_core.specs.Rows.{grant, start_counter}
 use Rattle.admission_core.specs.declared.ask.Phase.{Phase}
 use Rattle.admission_core.specs.declared.ask.Phase.TheVariants.{Reader, Waiting, Writer}
 use Rattle.merge_core.specs.Sums.{total, total_others}
-use Rattle.admission_core.specs.Account.{Account, Heard, Merged, Restarted, Origin, begin, start_origin, seats_in, own, phase_of, inside, weight, on_phase, arrivals}
+use Rattle.admission_core.specs.Account.{Account, Heard, HeardRows, StartedAgain, Origin, begin, start_origin, seats_in, own, phase_of, inside, weight, on_phase, arrivals}
 use Rattle.merge_core.specs.Changes.{keeps_counter}
 use Rattle.admission_core.specs.Knowledge.{told_after, told, known}
 use Rattle.admission_core.specs.View.{view_of, rights_of}
@@ -204,13 +204,13 @@ told_heard layout accounts o j r cell family there same low [] no_more =
     start_low : (layout : LayoutState) (accounts : ℕ → Account) (o : Origin) (j r : ℕ) (cell : Cell) → IsFamily layout accounts → j < layout.sites → o.layout.records ≡ layout.records → start_counter (shape_of o.layout) r j cell ≤ own (accounts j) r cell
     start_low layout accounts o j r cell family there same =
         omega (arith, same_start o.layout layout same r j cell, start_below (shape_of layout) r j (own (accounts j) r) (row_fits layout accounts family j there r) cell)
-told_heard layout accounts o j r cell family there same low (Merged rows ∷ heard) no_more =
+told_heard layout accounts o j r cell family there same low (HeardRows rows ∷ heard) no_more =
     let shown : shown_by (shape_of layout) rows r j cell ≤ own (accounts j) r cell =
     shown_as (λ f r2 s2. (c : Cell) → f c ≤ own (accounts s2) r2 c) (shape_of layout)
     (λ f g r2 s2 same_row less c. omega (arith, same_row c, less c)) rows no_more.0 r j
     (start_below (shape_of layout) r j (own (accounts j) r) (row_fits layout accounts family j there r)) cell in
     omega (arith, same_shown o.layout layout same rows r j cell, told_heard layout accounts o j r cell family there same low heard no_more.1)
-told_heard layout accounts o j r cell family there same low (Restarted ∷ heard) no_more =
+told_heard layout accounts o j r cell family there same low (StartedAgain ∷ heard) no_more =
     cond_both (keeps_counter o.site j cell) (told_after o heard r j cell) (start_counter (shape_of o.layout) r j cell) (λ x. x ≤ own (accounts j) r cell)
     (λ e. told_heard layout accounts o j r cell family there same low heard no_more)
     (λ e. omega (arith, same_start o.layout layout same r j cell, start_below (shape_of layout) r j (own (accounts j) r) (row_fits layout accounts family j there r) cell))

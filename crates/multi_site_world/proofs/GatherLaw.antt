@@ -12,7 +12,7 @@ use Rattle.admission_core.proofs.SumLemmas.{total_member}
 use Rattle.admission_core.proofs.KeyLemmas.{keys_total}
 use Rattle.admission_core.proofs.SessionLemmas.{adds, sessions-keys}
 use Rattle.multi_site_world.specs.World.{World, account_at, run, replies}
-use Rattle.multi_site_world.specs.Laws.{IsReachedWorld, in_flight, all_in_flight, IsInside, gathering, AreTheOthers, IsNeverFull, AreGathered, MayGather}
+use Rattle.multi_site_world.specs.Laws.{IsReachedWorld, in_flight, all_in_flight, IsInside, gathering, AreTheOthers, IsNeverFull, AreGathered, MayGather, CanGather}
 use Rattle.multi_site_world.proofs.WorldLemmas.{IsSoundWorld}
 use Rattle.multi_site_world.proofs.EventLemmas.{sound_reached}
 use Rattle.multi_site_world.proofs.GatherLemmas.{IsGathering}
@@ -60,9 +60,9 @@ begins u r w sound may = record {
   shown = may.least_writer;
 }
 
-pub gathers : (u : World) → IsReachedWorld u → (r w : ℕ) (others : List ℕ) → MayGather u r w → AreTheOthers u.layout.sites w others → IsNeverFull (replies (gathering r w (length u.sent) others) u) → rights_of (view_of (account_at (run (gathering r w (length u.sent) others) u) w)) r ≡ seats_in u.layout r
-gathers u is r w others may the never =
-    gather_all others u r w (begins u r w (sound_reached u is) may) the.others_alone never (λ j there not_w. inr (the.all_others j there not_w))
+pub gathers : (u : World) → IsReachedWorld u → (r w : ℕ) (others : List ℕ) → CanGather u r w others → rights_of (view_of (account_at (run (gathering r w (length u.sent) others) u) w)) r ≡ seats_in u.layout r
+gathers u is r w others can =
+    gather_all others u r w (begins u r w (sound_reached u is) can.may) can.the_others.others_alone can.never_full (λ j there not_w. inr (can.the_others.all_others j there not_w))
 
-pub gathers_answered : (u : World) → IsReachedWorld u → (r w : ℕ) (others : List ℕ) → MayGather u r w → AreTheOthers u.layout.sites w others → IsNeverFull (replies (gathering r w (length u.sent) others) u) → AreGathered (replies (gathering r w (length u.sent) others) u)
-gathers_answered u is r w others may the never = gather_answers others u r w (begins u r w (sound_reached u is) may) the.others_alone never
+pub gathers_answered : (u : World) → IsReachedWorld u → (r w : ℕ) (others : List ℕ) → CanGather u r w others → AreGathered (replies (gathering r w (length u.sent) others) u)
+gathers_answered u is r w others can = gather_answers others u r w (begins u r w (sound_reached u is) can.may) can.the_others.others_alone can.never_full

@@ -10,7 +10,7 @@ use Rattle.merge_core.specs.declared.layout.RecordSpec.{RecordSpec}
 use Rattle.merge_core.specs.Layout.{shape_of}
 use Rattle.merge_core.specs.Naming.{shown_by}
 use Rattle.admission_core.specs.declared.ask.Ask.TheVariants.{Help}
-use Rattle.admission_core.specs.declared.ask.Call.TheVariants.{Ask as Asks, Merge}
+use Rattle.admission_core.specs.declared.ask.Call.TheVariants.{Ask as AskCall, Merge}
 use Rattle.admission_core.specs.declared.reply.Refusal.TheVariants.{CounterFull}
 use Rattle.admission_core.specs.declared.reply.Reply.TheVariants.{Refused}
 use Rattle.admission_core.specs.Account.{Account, Origin, layout_of, own, inside}
@@ -49,7 +49,7 @@ last_message (x ∷ xs) d = last_message xs d
 
 -- the helper's account, its message, and the world after the three events
 abbrev pub helper : World → ℕ → ℕ → Account
-helper u r i = after (account_at u i) (Asks (Help r))
+helper u r i = after (account_at u i) (AskCall (Help r))
 
 abbrev pub told_on : World → ℕ → ℕ → World
 told_on u r i =
@@ -100,7 +100,7 @@ pub record IsHanded (u : World) (r w i : ℕ) : Type 0 where
   pub hears_it : account_at (handed u r w i) w ≡ hears (account_at u w) rows
   pub shows : shown_by (shape_of u.layout) rows r i (Out w) ≡ own (account_at (handed u r w i) i) r (Out w)
 
-pub is_handed : (u : World) (r w i : ℕ) → IsGathering u r w → i < u.layout.sites → i ≢ w → reply_of (view_of (account_at u i)) (Asks (Help r)) ≢ Refused CounterFull → IsHanded u r w i
+pub is_handed : (u : World) (r w i : ℕ) → IsGathering u r w → i < u.layout.sites → i ≢ w → reply_of (view_of (account_at u i)) (AskCall (Help r)) ≢ Refused CounterFull → IsHanded u r w i
 is_handed u r w i g below apart not_full = record {
   helps = subst (λ (b : Account). IsHelped a b r w) (sym helper_after) helped_a;
   rest = λ j not_i not_w. other_account u2 w j merged not_w ∙ other_account u i j b not_i;

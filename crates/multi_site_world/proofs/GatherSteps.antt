@@ -9,7 +9,7 @@ use Rattle.merge_core.specs.declared.layout.RecordSpec.{RecordSpec}
 use Rattle.merge_core.specs.Layout.{LayoutState, shape_of}
 use Rattle.merge_core.specs.Naming.{shown_by}
 use Rattle.admission_core.specs.declared.ask.Ask.TheVariants.{Help}
-use Rattle.admission_core.specs.declared.ask.Call.TheVariants.{Ask as Asks}
+use Rattle.admission_core.specs.declared.ask.Call.TheVariants.{Ask as AskCall}
 use Rattle.admission_core.specs.declared.reply.Refusal.TheVariants.{CounterFull, NoPlan}
 use Rattle.admission_core.specs.declared.reply.Reply.TheVariants.{Gave, Refused}
 use Rattle.merge_core.specs.Sums.{total_others}
@@ -177,7 +177,7 @@ all_at_one u r w g none =
     others j there (inl e) = cond-true {A = ℕ} (eqb j w) 0 (rights_of (view_of (account_at u j)) r) (eq-eqb j w e)
     others j there (inr ne) = cond-false {A = ℕ} (eqb j w) 0 (rights_of (view_of (account_at u j)) r) (ne_eqb j w ne) ∙ none j there ne
 
-not_full_here : (u : World) (r i : ℕ) → IsSoundWorld u → i < u.layout.sites → world_reply u (Call i (Help r)) ≢ Core (Refused CounterFull) → reply_of (view_of (account_at u i)) (Asks (Help r)) ≢ Refused CounterFull
+not_full_here : (u : World) (r i : ℕ) → IsSoundWorld u → i < u.layout.sites → world_reply u (Call i (Help r)) ≢ Core (Refused CounterFull) → reply_of (view_of (account_at u i)) (AskCall (Help r)) ≢ Refused CounterFull
 not_full_here u r i sound below not_full e =
     not_full (reply_there u (Call i (Help r)) sound below ∙ ap {B = WorldReply} Core e)
 
@@ -207,15 +207,15 @@ gather_all (i ∷ others) u r w g all never left =
     still j not_w (inr (inl e)) h = inl (emptied u r w i g all.0.0 all.0.1 h j not_w (inl e))
     still j not_w (inr (inr later)) h = inr later
 
-gathered_help : (u : World) (r w i : ℕ) → IsGathering u r w → i < u.layout.sites → i ≢ w → reply_of (view_of (account_at u i)) (Asks (Help r)) ≢ Refused CounterFull → IsHelpReply (world_reply u (Call i (Help r)))
+gathered_help : (u : World) (r w i : ℕ) → IsGathering u r w → i < u.layout.sites → i ≢ w → reply_of (view_of (account_at u i)) (AskCall (Help r)) ≢ Refused CounterFull → IsHelpReply (world_reply u (Call i (Help r)))
 gathered_help u r w i g below apart not_full =
     at (help_reply (account_at u i) r w (subst (λ (records : List RecordSpec). r < length records) (sym (g.sound.family.same_records i below)) g.record_there)
     (λ e. apart (sym (e ∙ g.sound.family.same_site i below))) (g.shown i below apart) not_full)
   where
-    there : world_reply u (Call i (Help r)) ≡ Core (reply_of (view_of (account_at u i)) (Asks (Help r)))
+    there : world_reply u (Call i (Help r)) ≡ Core (reply_of (view_of (account_at u i)) (AskCall (Help r)))
     there = reply_there u (Call i (Help r)) g.sound below
 
-    at : (reply_of (view_of (account_at u i)) (Asks (Help r)) ≡ Gave w (rights_of (view_of (account_at u i)) r)) ⊎ (reply_of (view_of (account_at u i)) (Asks (Help r)) ≡ Refused NoPlan) → IsHelpReply (world_reply u (Call i (Help r)))
+    at : (reply_of (view_of (account_at u i)) (AskCall (Help r)) ≡ Gave w (rights_of (view_of (account_at u i)) r)) ⊎ (reply_of (view_of (account_at u i)) (AskCall (Help r)) ≡ Refused NoPlan) → IsHelpReply (world_reply u (Call i (Help r)))
     at (inl e) = inl (w, rights_of (view_of (account_at u i)) r, there ∙ ap {B = WorldReply} Core e)
     at (inr e) = inr (there ∙ ap {B = WorldReply} Core e)
 

@@ -12,7 +12,7 @@ use Rattle.merge_core.specs.Layout.{LayoutState, IsLayout, Shape, shape_of}
 use Rattle.merge_core.specs.Moved.{raised_by}
 use Rattle.merge_core.specs.Tests.{is_placed, is_valid, first_failing}
 use Rattle.admission_core.specs.declared.ask.Ask.TheVariants.{Read}
-use Rattle.admission_core.specs.declared.ask.Call.TheVariants.{Ask as Asks, Merge}
+use Rattle.admission_core.specs.declared.ask.Call.TheVariants.{Ask as AskCall, Merge}
 use Rattle.admission_core.specs.declared.reply.Refusal.{Refusal}
 use Rattle.admission_core.specs.declared.reply.Refusal.TheVariants.{WriterAnnounced, OtherLayout, BadRow, OwnRowAhead}
 use Rattle.admission_core.specs.declared.reply.Reply.{Reply}
@@ -23,7 +23,7 @@ use Rattle.admission_core.specs.View.{problem_in, view_of}
 use Rattle.admission_core.specs.Merging.{first_ahead}
 use Rattle.admission_core.specs.Replies.{line}
 use Rattle.admission_core.specs.Serving.{reason, replied, reply_of, answer}
-use Rattle.admission_core.specs.Laws.{KnowTheSame, MayAsk, IsFirstUnfinished}
+use Rattle.admission_core.specs.Laws.{SourcesAgree, MayAsk, IsFirstUnfinished}
 use Rattle.admission_core.proofs.RowLemmas.{AllPass, AllPass-from, none_of, placed_parts}
 use Rattle.admission_core.proofs.UnitLemmas.{equal_counters}
 use Rattle.admission_core.proofs.NoticeLemmas.{none_admitted}
@@ -33,7 +33,7 @@ use Rattle.multi_site_world.specs.declared.event.Event.TheVariants.{Call, Send, 
 use Rattle.multi_site_world.specs.declared.event.WorldReply.{WorldReply}
 use Rattle.multi_site_world.specs.declared.event.WorldReply.TheVariants.{Core, NoSite}
 use Rattle.multi_site_world.specs.World.{World, account_at, with_account, world_taken, thin, thin_message, world_grown, world_here, reply_taken, reply_here, place_of, happens, world_reply, run}
-use Rattle.multi_site_world.specs.Laws.{IsConserved, IsWriterAlone, IsMergedReply, IsOtherLayoutReply, IsReachedWorld, StandsIn, WasSent, AreLogged, IsConsistentCut, all_inside}
+use Rattle.multi_site_world.specs.Laws.{IsConserved, IsWriterAlone, IsMergedReply, IsOtherLayoutReply, KnowsAllSites, IsReachedWorld, StandsIn, WasSent, AreLogged, IsConsistentCut, all_inside}
 use Rattle.multi_site_world.proofs.FamilyLemmas.{IsSentBefore, conserved, writer_alone, inside_most, logged_family, consistent_cut}
 use Rattle.multi_site_world.proofs.WorldLemmas.{IsSentRow, AreSentRows, IsSoundWorld, IsMessage, rows_accepted, all_narrow}
 use Rattle.multi_site_world.proofs.EventLemmas.{known_done, message_there, thin_sent, sound_reached}
@@ -140,16 +140,16 @@ merged w i k sound below all there =
     let it = message_is w k there in
     subst IsMergedReply (sym (taken_is w i k sound below it.0 it.1)) (merged_rows w i it.0 sound below all (message_there w k it.0 sound it.1).rows)
 
-pub message_merged : (w : World) → IsReachedWorld w → (i k : ℕ) → i < w.layout.sites → (account_at w i).sites ≡ w.layout.sites → k < length w.sent → IsMergedReply (world_reply w (Take i k))
-message_merged w is i k below all there = merged w i k (sound_reached w is) below all there
+pub message_merged : (w : World) → IsReachedWorld w → (i k : ℕ) → KnowsAllSites w i → k < length w.sent → IsMergedReply (world_reply w (Take i k))
+message_merged w is i k knows there = merged w i k (sound_reached w is) knows.there knows.all there
 
-pub thin_merged : (w : World) → IsReachedWorld w → (i k l : ℕ) → i < w.layout.sites → (account_at w i).sites ≡ w.layout.sites → k < length w.sent → l < length w.sent → IsMergedReply (world_reply w (Thin i k l))
-thin_merged w is i k l below all there earlier =
+pub thin_merged : (w : World) → IsReachedWorld w → (i k l : ℕ) → KnowsAllSites w i → k < length w.sent → l < length w.sent → IsMergedReply (world_reply w (Thin i k l))
+thin_merged w is i k l knows there earlier =
     let sound = sound_reached w is in
     let it = message_is w k there in
     let before = message_is w l earlier in
-    subst IsMergedReply (sym (thin_is w i k l sound below it.0 before.0 it.1 before.1))
-    (merged_rows w i (thin it.0 before.0) sound below all (thin_rows_sent w k it.0 before.0 sound it.1))
+    subst IsMergedReply (sym (thin_is w i k l sound knows.there it.0 before.0 it.1 before.1))
+    (merged_rows w i (thin it.0 before.0) sound knows.there knows.all (thin_rows_sent w k it.0 before.0 sound it.1))
 
 pub message_answered : (w : World) → IsReachedWorld w → (i k : ℕ) → i < w.layout.sites → k < length w.sent → IsMergedReply (world_reply w (Take i k)) ⊎ IsOtherLayoutReply (world_reply w (Take i k))
 message_answered w is i k below there =
@@ -180,9 +180,9 @@ all_sent : (w : World) → IsSoundWorld w → (rows : List Row) → AllByRecursi
 all_sent w sound [] each = tt
 all_sent w sound (p ∷ ps) each = (was_sent w w.sent sound.sent p each.0, all_sent w sound ps each.1)
 
-pub rows_merged : (w : World) → IsReachedWorld w → (i : ℕ) (delta : DeltaState) → i < w.layout.sites → (account_at w i).sites ≡ w.layout.sites → AllByRecursion (WasSent w.sent) delta.rows → IsMergedReply (Core (reply_of (view_of (account_at w i)) (Merge delta)))
-rows_merged w is i delta below all each =
-    let sound = sound_reached w is in merged_rows w i delta sound below all (all_sent w sound delta.rows each)
+pub rows_merged : (w : World) → IsReachedWorld w → (i : ℕ) (delta : DeltaState) → KnowsAllSites w i → AllByRecursion (WasSent w.sent) delta.rows → IsMergedReply (Core (reply_of (view_of (account_at w i)) (Merge delta)))
+rows_merged w is i delta knows each =
+    let sound = sound_reached w is in merged_rows w i delta sound knows.there knows.all (all_sent w sound delta.rows each)
 
 pub rows_answered : (w : World) → IsReachedWorld w → (i : ℕ) (delta : DeltaState) → i < w.layout.sites → AllByRecursion (WasSent w.sent) delta.rows → IsMergedReply (Core (reply_of (view_of (account_at w i)) (Merge delta))) ⊎ IsOtherLayoutReply (Core (reply_of (view_of (account_at w i)) (Merge delta)))
 rows_answered w is i delta below each =
@@ -196,7 +196,7 @@ pub separate_writer : (layout : LayoutState) → IsLayout layout → (accounts :
 separate_writer layout is accounts logged cut r =
     writer_alone layout accounts r is (logged_family layout accounts logged) (consistent_cut layout accounts logged cut r)
 
-pub equal_books : (w : World) → IsReachedWorld w → (i j : ℕ) → i < w.layout.sites → j < w.layout.sites → KnowTheSame (account_at w i) (account_at w j) → (r s : ℕ) (cell : Cell) → known (account_at w i) r s cell ≡ known (account_at w j) r s cell
+pub equal_books : (w : World) → IsReachedWorld w → (i j : ℕ) → i < w.layout.sites → j < w.layout.sites → SourcesAgree (account_at w i) (account_at w j) → (r s : ℕ) (cell : Cell) → known (account_at w i) r s cell ≡ known (account_at w j) r s cell
 equal_books w is i j below there same =
     let sound = sound_reached w is in
     equal_counters (account_at w i) (account_at w j) (sound.family.sound i below) (sound.family.sound j there) same
@@ -210,7 +210,7 @@ none_read w is i r h s below second unfinished e =
     let sound = sound_reached w is in
     let a = account_at w i in
     none_admitted a r h s (sound.family.sound i below) (problem_here w i r sound below ∙ second) unfinished
-    (same_core (reply_of (view_of a) (Asks (Read r h))) Admitted (sym (reply_there w (Call i (Read r h)) sound below) ∙ e))
+    (same_core (reply_of (view_of a) (AskCall (Read r h))) Admitted (sym (reply_there w (Call i (Read r h)) sound below) ∙ e))
   where
     same_core : (x y : Reply) → ◌≡◌ {A = WorldReply} (Core x) (Core y) → x ≡ y
     same_core x y same = cc

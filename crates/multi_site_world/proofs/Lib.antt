@@ -6,3 +6,4 @@ pub mod StepLaws
 pub mod GatherLemmas
 pub mod GatherSteps
 pub mod GatherLaw
+pub mod InstanceLemmas

@@ -11,7 +11,7 @@ use Rattle.merge_core.specs.Layout.{shape_of}
 use Rattle.merge_core.specs.Naming.{shown_by}
 use Rattle.merge_core.specs.Tests.{is_placed, first_failing}
 use Rattle.merge_core.specs.Thin.{thin_rows}
-use Rattle.admission_core.specs.declared.ask.Call.TheVariants.{Ask as Asks, Merge}
+use Rattle.admission_core.specs.declared.ask.Call.TheVariants.{Ask as AskCall, Merge}
 use Rattle.admission_core.specs.Account.{Account, layout_of, own}
 use Rattle.admission_core.specs.Knowledge.{known, told, hears, grown, restarted}
 use Rattle.admission_core.specs.View.{view_of}
@@ -28,7 +28,7 @@ use Rattle.admission_core.proofs.ThinLemmas.{thin_raises, all_thin}
 use Rattle.multi_site_world.specs.declared.event.Event.{Event}
 use Rattle.multi_site_world.specs.declared.event.Event.TheVariants.{Call, Send, Take, Thin, Restart, Grow}
 use Rattle.multi_site_world.specs.World.{World, account_at, with_account, world_taken, thin, thin_message, world_grown, world_here, place_of, happens}
-use Rattle.multi_site_world.specs.Laws.{IsReachedWorld, KnowsRows}
+use Rattle.multi_site_world.specs.Laws.{IsReachedWorld, HasCounted, HasTaken}
 use Rattle.multi_site_world.proofs.WorldLemmas.{IsSoundWorld, IsSentRow, IsMessage, same_account, other_account, rows_accepted}
 use Rattle.multi_site_world.proofs.EventLemmas.{message_there, thin_sent, sound_reached}
 
@@ -55,7 +55,7 @@ notice_taken r s cell is w j i (Some delta) below =
 notice_here : (r s : ℕ) (cell : Cell) → IsNotice cell → (w : World) (event : Event) (i : ℕ) → place_of event < length w.sites → Keeps r s cell (account_at w i) (account_at (world_here w event) i)
 unfolding Keeps
 notice_here r s cell is w (Call j ask) i below =
-    at_each (Keeps r s cell) (λ a. omega arith) w j (after (account_at w j) (Asks ask)) below (notices_stay (account_at w j) (Serves (Asks ask)) r s cell is) i
+    at_each (Keeps r s cell) (λ a. omega arith) w j (after (account_at w j) (AskCall ask)) below (notices_stay (account_at w j) (Serves (AskCall ask)) r s cell is) i
 notice_here r s cell is w (Send j) i below = omega arith
 notice_here r s cell is w (Take j k) i below = notice_taken r s cell is w j i (slice_get w.sent k) below
 notice_here r s cell is w (Thin j k l) i below = notice_taken r s cell is w j i (thin_message (slice_get w.sent k) (slice_get w.sent l)) below
@@ -101,7 +101,7 @@ wide_unchanged a sound delta wide r s cell =
         let parts = placed_parts (shape_of (layout_of a)) p placed.0 in absurd (omega (arith, wider.0, parts.1.1))
 
 -- thin rows leave what the whole rows leave
-thin_heard : (a : Account) → IsSound a → (rows earlier : List Row) → KnowsRows a earlier → ((r s : ℕ) → matches r s rows ≤ 1) → (r s : ℕ) (cell : Cell) → known (hears a (thin_rows rows earlier)) r s cell ≡ known (hears a rows) r s cell
+thin_heard : (a : Account) → IsSound a → (rows earlier : List Row) → HasCounted a earlier → ((r s : ℕ) → matches r s rows ≤ 1) → (r s : ℕ) (cell : Cell) → known (hears a (thin_rows rows earlier)) r s cell ≡ known (hears a rows) r s cell
 thin_heard a sound rows earlier knows apart r s cell = at (cases_eq s a.origin.site)
   where
     at : (s ≡ a.origin.site) ⊎ (s ≡ a.origin.site → ⊥) → known (hears a (thin_rows rows earlier)) r s cell ≡ known (hears a rows) r s cell
@@ -119,7 +119,7 @@ all_narrower : (n width : ℕ) (rows : List Row) → width ≤ n → AllByRecurs
 all_narrower n width [] less all = tt
 all_narrower n width (p ∷ ps) less all = (omega (arith, all.0), all_narrower n width ps less all.1)
 
-thin_after : (w : World) (i k : ℕ) (delta earlier : DeltaState) → IsSoundWorld w → i < w.layout.sites → slice_get w.sent k ≡ Some delta → KnowsRows (account_at w i) earlier.rows → (r s : ℕ) (cell : Cell) → known (after (account_at w i) (Merge (thin delta earlier))) r s cell ≡ known (after (account_at w i) (Merge delta)) r s cell
+thin_after : (w : World) (i k : ℕ) (delta earlier : DeltaState) → IsSoundWorld w → i < w.layout.sites → slice_get w.sent k ≡ Some delta → HasCounted (account_at w i) earlier.rows → (r s : ℕ) (cell : Cell) → known (after (account_at w i) (Merge (thin delta earlier))) r s cell ≡ known (after (account_at w i) (Merge delta)) r s cell
 thin_after w i k delta earlier sound below e knows r s cell = at (cases_lt (account_at w i).sites message.width)
   where
     a : Account
@@ -148,23 +148,23 @@ thin_after w i k delta earlier sound below e knows r s cell = at (cases_lt (acco
         ∙ sym (heard delta (rows_accepted w i delta sound below message.rows (all_narrower a.sites message.width delta.rows narrow message.same_width))))
 
 -- where a site knows each row of an earlier message, a thin message leaves the counters that the whole one does
-pub thin_leaves : (w : World) → IsReachedWorld w → (i k l : ℕ) (earlier : DeltaState) → slice_get w.sent l ≡ Some earlier → KnowsRows (account_at w i) earlier.rows → (r s : ℕ) (cell : Cell) → known (account_at (happens w (Thin i k l)) i) r s cell ≡ known (account_at (happens w (Take i k)) i) r s cell
-thin_leaves w is i k l earlier there knows r s cell = at (cases_Bool (ltb i (length w.sites)))
+pub thin_leaves : (w : World) → IsReachedWorld w → (i k l : ℕ) → HasTaken w i l → (r s : ℕ) (cell : Cell) → known (account_at (happens w (Thin i k l)) i) r s cell ≡ known (account_at (happens w (Take i k)) i) r s cell
+thin_leaves w is i k l has r s cell = at (cases_Bool (ltb i (length w.sites)))
   where
     sound : IsSoundWorld w
     sound = sound_reached w is
 
-    taken : (o : Option DeltaState) → slice_get w.sent k ≡ o → i < length w.sites → known (account_at (world_taken w i (thin_message o (Some earlier))) i) r s cell ≡ known (account_at (world_taken w i o) i) r s cell
+    taken : (o : Option DeltaState) → slice_get w.sent k ≡ o → i < length w.sites → known (account_at (world_taken w i (thin_message o (Some has.message))) i) r s cell ≡ known (account_at (world_taken w i o) i) r s cell
     taken None e below = refl
     taken (Some delta) e below =
-        ap (λ b. known b r s cell) (same_account w i (after (account_at w i) (Merge (thin delta earlier))) below)
-        ∙ (thin_after w i k delta earlier sound (omega (arith, sound.number)) e knows r s cell
+        ap (λ b. known b r s cell) (same_account w i (after (account_at w i) (Merge (thin delta has.message))) below)
+        ∙ (thin_after w i k delta has.message sound (omega (arith, sound.number)) e has.counted r s cell
         ∙ sym (ap (λ b. known b r s cell) (same_account w i (after (account_at w i) (Merge delta)) below)))
 
     at : (ltb i (length w.sites) ≡ true) ⊎ (ltb i (length w.sites) ≡ false) → known (account_at (happens w (Thin i k l)) i) r s cell ≡ known (account_at (happens w (Take i k)) i) r s cell
     at (inl e) =
         ap (λ u. known (account_at u i) r s cell) (cond-true (ltb i (length w.sites)) (world_here w (Thin i k l)) w e)
-        ∙ (ap (λ o. known (account_at (world_taken w i (thin_message (slice_get w.sent k) o)) i) r s cell) there
+        ∙ (ap (λ o. known (account_at (world_taken w i (thin_message (slice_get w.sent k) o)) i) r s cell) has.there
         ∙ (taken (slice_get w.sent k) refl (ltb-true i (length w.sites) e)
         ∙ sym (ap (λ u. known (account_at u i) r s cell) (cond-true (ltb i (length w.sites)) (world_here w (Take i k)) w e))))
     at (inr e) =

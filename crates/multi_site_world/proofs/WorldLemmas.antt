@@ -12,7 +12,7 @@ use Rattle.merge_core.specs.Rows.{grant, counter_in, counters_of}
 use Rattle.merge_core.specs.Naming.{shown_by}
 use Rattle.admission_core.specs.declared.ask.Ask.{Ask}
 use Rattle.admission_core.specs.declared.ask.Call.{Call}
-use Rattle.admission_core.specs.declared.ask.Call.TheVariants.{Ask as Asks, Merge, Snapshot as Tell}
+use Rattle.admission_core.specs.declared.ask.Call.TheVariants.{Ask as AskCall, Merge, Snapshot as SnapshotCall}
 use Rattle.admission_core.specs.Account.{Account, Origin, begin, start_origin, layout_of, own}
 use Rattle.admission_core.specs.Knowledge.{told, hears}
 use Rattle.admission_core.specs.View.{View, view_of}
@@ -29,15 +29,15 @@ use Rattle.multi_site_world.proofs.FamilyLemmas.{IsFamily, row_fits, same_shown,
 
 -- own counters only grow, and an ask tells a site nothing
 pub own_grows : (a : Account) (call : Call) (r : ℕ) (cell : Cell) → own a r cell ≤ own (after a call) r cell
-own_grows a (Asks ask) r cell =
-    first_both (λ o. own a r cell ≤ own (unless_refused o a (advanced a (Asks ask))) r cell) (ask_lines (view_of a) ask) (λ x. omega arith) (λ clear. omega arith)
+own_grows a (AskCall ask) r cell =
+    first_both (λ o. own a r cell ≤ own (unless_refused o a (advanced a (AskCall ask))) r cell) (ask_lines (view_of a) ask) (λ x. omega arith) (λ clear. omega arith)
 own_grows a (Merge delta) r cell =
     first_both (λ o. own a r cell ≤ own (unless_refused o a (hears a delta.rows)) r cell) (merge_lines (view_of a) delta) (λ x. omega arith) (λ clear. omega arith)
-own_grows a Tell r cell = omega arith
+own_grows a SnapshotCall r cell = omega arith
 
-pub told_by_ask : (a : Account) (ask : Ask) → (after a (Asks ask)).heard ≡ a.heard
+pub told_by_ask : (a : Account) (ask : Ask) → (after a (AskCall ask)).heard ≡ a.heard
 told_by_ask a ask =
-    first_both (λ o. (unless_refused o a (advanced a (Asks ask))).heard ≡ a.heard) (ask_lines (view_of a) ask) (λ x. refl) (λ clear. refl)
+    first_both (λ o. (unless_refused o a (advanced a (AskCall ask))).heard ≡ a.heard) (ask_lines (view_of a) ask) (λ x. refl) (λ clear. refl)
 
 -- a sent row: its place is there, it fits, and its site has done all that it tells
 pub record IsSentRow (layout : LayoutState) (accounts : ℕ → Account) (p : Row) : Type 0 where

@@ -1,5 +1,5 @@
 -- Short scripts over two small layouts, with the replies that are wanted.
-use Rattle.std.specs.Prelude.{ℕ, zero, suc, ◌+◌, ◌==◌, ◌&&◌, if◌then◌else◌, List, [], ◌∷◌, ◌++◌}
+use Rattle.std.specs.Prelude.{ℕ, zero, suc, ◌+◌, ◌-◌, ◌==◌, ◌&&◌, if◌then◌else◌, List, [], ◌∷◌, ◌++◌}
 use Rattle.merge_core.specs.declared.cell.Cell.{Cell}
 use Rattle.merge_core.specs.declared.cell.Cell.TheVariants.{Out, Taken, Ann, Fin}
 use Rattle.merge_core.specs.declared.delta.Row.{Row}
@@ -10,12 +10,18 @@ use Rattle.admission_core.specs.declared.ask.Phase.TheVariants.{Reader, Waiting,
 use Rattle.admission_core.specs.declared.reply.Refusal.TheVariants.{NoRecord, BadHolder, AlreadyHere, CounterFull, NoSeat, WriterAnnounced, TooManyWriters, NotAnnounced, AlreadyInside, MissingSeats, NotHere, NoSite as NoSuchSite, ToSelf, ZeroSeats, TooFewRights, NoPlan, OtherLayout}
 use Rattle.admission_core.specs.declared.reply.Reply.{Reply}
 use Rattle.admission_core.specs.declared.reply.Reply.TheVariants.{Admitted, Announced, Left, Given, Gave, Merged, Refused}
-use Rattle.admission_core.specs.Account.{begin}
-use Rattle.admission_core.specs.View.{View, view_of}
+use Rattle.admission_core.specs.Account.{begin, own, inside}
+use Rattle.admission_core.specs.View.{View, view_of, rights_of}
+use Rattle.multi_site_world.specs.World.{World, account_at}
 use Rattle.multi_site_world.specs.declared.event.Event.{Event}
 use Rattle.multi_site_world.specs.declared.event.Event.TheVariants.{Call, Send, Take, Thin, Restart, Grow}
 use Rattle.multi_site_world.specs.declared.event.WorldReply.{WorldReply}
 use Rattle.multi_site_world.specs.declared.event.WorldReply.TheVariants.{Core, Sent, Restarted, Grown, NoSite, NoMessage, NoGrowth}
+
+-- rights, seats inside and unfinished writers of record 0, as site i counts them for itself
+abbrev pub seats_shown : World → ℕ → List ℕ
+seats_shown w i =
+    let a = account_at w i in rights_of (view_of a) 0 ∷ (inside a 0 ∷ ((own a 0 Ann - own a 0 Fin) ∷ []))
 
 -- one record with its home at site 0
 abbrev pub small_layout : ℕ → ℕ → ℕ → LayoutState
@@ -36,6 +42,35 @@ seat_moves =
 abbrev pub seat_moves_replies : List WorldReply
 seat_moves_replies =
     Core Given ∷ Core (Refused (NoSeat 0)) ∷ Sent 0 ∷ Core (Merged 1) ∷ Core Admitted ∷ []
+
+-- the seats are all at home
+abbrev pub seats_at_home : List Event
+seats_at_home = Call 0 (Read 0 7) ∷ Call 1 (Read 0 8) ∷ []
+
+abbrev pub seats_at_home_replies : List WorldReply
+seats_at_home_replies = answered (Admitted ∷ Refused (NoSeat 0) ∷ [])
+
+-- .. the same message again moves no seat
+abbrev pub message_again : List Event
+message_again = Take 1 0 ∷ Call 1 (Read 0 9) ∷ []
+
+abbrev pub message_again_replies : List WorldReply
+message_again_replies = Core (Merged 0) ∷ Core (Refused (NoSeat 0)) ∷ []
+
+-- .. and a seat that was sent is kept by a site that grows
+abbrev pub seat_grows : List Event
+seat_grows = Call 0 (Give 0 1 1) ∷ Send 0 ∷ Take 1 0 ∷ Grow 1 ∷ Call 1 (Read 0 8) ∷ Call 1 (Give 0 2 1) ∷ []
+
+abbrev pub seat_grows_replies : List WorldReply
+seat_grows_replies =
+    Core Given ∷ Sent 0 ∷ Core (Merged 1) ∷ Grown ∷ Core Admitted ∷ Core (Refused (TooFewRights 0)) ∷ []
+
+-- a site grows to the whole layout at once
+abbrev pub grows_whole : List Event
+grows_whole = Grow 0 ∷ Grow 0 ∷ Call 0 (Give 0 2 1) ∷ []
+
+abbrev pub grows_whole_replies : List WorldReply
+grows_whole_replies = Grown ∷ NoGrowth ∷ Core Given ∷ []
 
 -- a writer announces itself at site 1; site 0 admits a reader until it hears of it
 abbrev pub writer_announced : List Event
@@ -91,6 +126,14 @@ thin_taken = Thin 2 2 1 ∷ Thin 2 2 1 ∷ Thin 2 3 1 ∷ Thin 2 2 3 ∷ Thin 3 
 
 abbrev pub thin_taken_replies : List WorldReply
 thin_taken_replies = Core (Merged 3) ∷ Core (Merged 0) ∷ NoMessage ∷ NoMessage ∷ NoSite ∷ []
+
+-- a writer withdraws: the second message differs from the first in one counter, and is told thin
+abbrev pub withdrawal_thin : List Event
+withdrawal_thin = Call 1 (Announce 0 5) ∷ Send 1 ∷ Take 0 0 ∷ Call 1 (Leave 0 5) ∷ Send 1 ∷ Thin 0 1 0 ∷ Thin 0 0 0 ∷ []
+
+abbrev pub withdrawal_thin_replies : List WorldReply
+withdrawal_thin_replies =
+    Core (Announced 1) ∷ Sent 0 ∷ Core (Merged 1) ∷ Core (Left Waiting) ∷ Sent 1 ∷ Core (Merged 1) ∷ Core (Merged 0) ∷ []
 
 -- the rows of the writer's record in those messages
 abbrev pub told_by : ℕ → List ℕ → ℕ → ℕ → ℕ → Row
@@ -186,7 +229,7 @@ abbrev pub other_layout_message : DeltaState
 other_layout_message = record { from = 0; rows = row_at_start 0 0 1 ∷ (row_at_start 1 0 0 ∷ []) }
 
 abbrev pub bad_row_message : DeltaState
-bad_row_message = record { from = 0; rows = row_at_start 0 1 1 ∷ (row_at_start 0 0 1 ∷ []) }
+bad_row_message = record { from = 0; rows = row_at_start 0 1 1 ∷ (record { r = 0; s = 1; out = 0 ∷ (0 ∷ []); taken = 0; ann = 0; fin = 1 } ∷ []) }
 
 -- where two refusals apply, the earlier one is told; the greatest holder and the greatest hand-over are within
 -- their limits

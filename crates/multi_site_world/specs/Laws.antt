@@ -1,5 +1,5 @@
 -- The statements of the laws.
-use Rattle.std.specs.Prelude.{◌≡◌, ◌≢◌, ℕ, ◌+◌, ◌-◌, ◌<◌, ◌≤◌, ◌⊎◌, List, [], ◌∷◌, length, Option, Some, None}
+use Rattle.std.specs.Prelude.{◌≡◌, ◌≢◌, ℕ, ◌+◌, ◌-◌, ◌<◌, ◌≤◌, ◌⊎◌, List, [], ◌∷◌, length, slice_get, Option, Some, None}
 use Rattle.std.specs.List.{AllByRecursion}
 use Rattle.merge_core.specs.declared.cell.Cell.{Cell}
 use Rattle.merge_core.specs.declared.cell.Cell.TheVariants.{Out}
@@ -10,19 +10,19 @@ use Rattle.merge_core.specs.Layout.{LayoutState, IsLayout, at_sites}
 use Rattle.admission_core.specs.declared.ask.Phase.{Phase}
 use Rattle.admission_core.specs.declared.ask.Phase.TheVariants.{Reader, Waiting, Writer}
 use Rattle.merge_core.specs.Sums.{total, total_others}
-use Rattle.admission_core.specs.Account.{Account, Heard, Merged, Restarted, seats_in, own, inside, phase_of, begin, start_origin}
+use Rattle.admission_core.specs.Account.{Account, Heard, HeardRows, StartedAgain, seats_in, own, inside, phase_of, begin, start_origin}
 use Rattle.admission_core.specs.Knowledge.{known}
 use Rattle.admission_core.specs.View.{view_of, rights_of, gained, spent}
 use Rattle.admission_core.specs.Serving.{Step, replay}
 use Rattle.admission_core.specs.Laws.{IsFirstUnfinished}
 use Rattle.admission_core.specs.declared.ask.Ask.TheVariants.{Help}
 use Rattle.admission_core.specs.declared.reply.Refusal.TheVariants.{CounterFull, NoPlan, OtherLayout}
-use Rattle.admission_core.specs.declared.reply.Reply.TheVariants.{Gave, Merged as Joined, Refused}
+use Rattle.admission_core.specs.declared.reply.Reply.TheVariants.{Gave, Merged, Refused}
 use Rattle.multi_site_world.specs.declared.event.Event.{Event}
 use Rattle.multi_site_world.specs.declared.event.Event.TheVariants.{Call, Send, Take}
 use Rattle.multi_site_world.specs.declared.event.WorldReply.{WorldReply}
 use Rattle.multi_site_world.specs.declared.event.WorldReply.TheVariants.{Core, Sent}
-use Rattle.multi_site_world.specs.World.{World, account_at, start_world, run}
+use Rattle.multi_site_world.specs.World.{World, account_at, start_world, run, replies}
 
 -- seats that site j sent to site i and i does not know of
 abbrev pub in_flight : (ℕ → Account) → ℕ → ℕ → ℕ → ℕ
@@ -75,9 +75,9 @@ AreLogged layout accounts = (i : ℕ) → i < layout.sites → IsLogged layout i
 -- no delta that was heard tells of a row more than its site did
 abbrev pub HeardNoMore : (ℕ → Account) → List Heard → Type 0
 HeardNoMore accounts [] = Unit {0}
-HeardNoMore accounts (Merged rows ∷ heard) =
+HeardNoMore accounts (HeardRows rows ∷ heard) =
     AllByRecursion (λ p. (cell : Cell) → counter_in (counters_of p) cell ≤ own (accounts p.s) p.r cell) rows × HeardNoMore accounts heard
-HeardNoMore accounts (Restarted ∷ heard) = HeardNoMore accounts heard
+HeardNoMore accounts (StartedAgain ∷ heard) = HeardNoMore accounts heard
 
 -- The logs' ends are a consistent cut: what was heard up to there was done up to there (Chandy and Lamport,
 -- 1985; Mattern, 1989; here compared counter by counter).
@@ -86,15 +86,30 @@ IsConsistentCut layout accounts = (i : ℕ) → i < layout.sites → HeardNoMore
 
 -- the reply of a merge that was carried out
 abbrev pub IsMergedReply : WorldReply → Type 0
-IsMergedReply reply = (raised : ℕ) × (reply ≡ Core (Joined raised))
+IsMergedReply reply = (raised : ℕ) × (reply ≡ Core (Merged raised))
 
 -- the reply of a merge that was refused for a row of a site that the account does not know
 abbrev pub IsOtherLayoutReply : WorldReply → Type 0
 IsOtherLayoutReply reply = (row : ℕ) × (reply ≡ Core (Refused (OtherLayout row)))
 
+-- one of the two
+abbrev pub IsMergedOrOther : WorldReply → Type 0
+IsMergedOrOther reply = IsMergedReply reply ⊎ IsOtherLayoutReply reply
+
+-- the site is there, and knows all sites
+pub record KnowsAllSites (w : World) (i : ℕ) : Type 0 where
+  pub there : i < w.layout.sites
+  pub all : (account_at w i).sites ≡ w.layout.sites
+
 -- a site has counted all that the rows tell
-abbrev pub KnowsRows : Account → List Row → Type 0
-KnowsRows a rows = AllByRecursion (λ p. (cell : Cell) → counter_in (counters_of p) cell ≤ known a p.r p.s cell) rows
+abbrev pub HasCounted : Account → List Row → Type 0
+HasCounted a rows = AllByRecursion (λ p. (cell : Cell) → counter_in (counters_of p) cell ≤ known a p.r p.s cell) rows
+
+-- site i has counted all that message l tells
+pub record HasTaken (w : World) (i l : ℕ) : Type 0 where
+  pub message : DeltaState
+  pub there : slice_get w.sent l ≡ Some message
+  pub counted : HasCounted (account_at w i) message.rows
 
 -- some list of events leads to the world, from sites of which the first so many know one another alone
 pub record IsReachedWorld (w : World) : Type 0 where
@@ -157,3 +172,9 @@ pub record MayGather (u : World) (r w : ℕ) : Type 0 where
   pub nobody_inside : (i h : ℕ) → i < u.layout.sites → ¬ IsInside (phase_of (account_at u i) r h)
   pub nothing_in_flight : all_in_flight (account_at u) u.layout.sites r ≡ 0
   pub least_writer : (i : ℕ) → i < u.layout.sites → i ≢ w → IsFirstUnfinished (view_of (account_at u i)) r w
+
+-- from this world w may gather the seats of a record from the others, and no help meets a full counter
+pub record CanGather (u : World) (r w : ℕ) (others : List ℕ) : Type 0 where
+  pub may : MayGather u r w
+  pub the_others : AreTheOthers u.layout.sites w others
+  pub never_full : IsNeverFull (replies (gathering r w (length u.sent) others) u)

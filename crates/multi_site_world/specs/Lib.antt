@@ -1,3 +1,4 @@
 pub mod World
 pub mod Laws
 pub mod Examples
+pub mod Instances

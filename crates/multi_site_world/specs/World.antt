@@ -5,7 +5,7 @@ use Rattle.std.specs.Prelude.{ℕ, zero, suc, min, nat_lt, List, [], ◌∷◌, 
 use Rattle.merge_core.specs.Delta.{DeltaState}
 use Rattle.merge_core.specs.Layout.{LayoutState, at_sites}
 use Rattle.merge_core.specs.Thin.{thin_rows}
-use Rattle.admission_core.specs.declared.ask.Call.TheVariants.{Ask as Asks, Merge}
+use Rattle.admission_core.specs.declared.ask.Call.TheVariants.{Ask as AskCall, Merge}
 use Rattle.admission_core.specs.Account.{Account, begin, start_origin}
 use Rattle.admission_core.specs.Knowledge.{restarted, grown}
 use Rattle.admission_core.specs.View.{view_of}
@@ -74,7 +74,7 @@ world_grown w i =
 
 -- an event at a site that there is
 abbrev pub world_here : World → Event → World
-world_here w (Call i ask) = with_account w i (after (account_at w i) (Asks ask))
+world_here w (Call i ask) = with_account w i (after (account_at w i) (AskCall ask))
 world_here w (Send i) = record w { sent = w.sent ++ snapshot_of (view_of (account_at w i)) ∷ [] }
 world_here w (Take i k) = world_taken w i (slice_get w.sent k)
 world_here w (Thin i k l) = world_taken w i (thin_message (slice_get w.sent k) (slice_get w.sent l))
@@ -83,7 +83,7 @@ world_here w (Grow i) = world_grown w i
 
 -- and what it is answered
 abbrev pub reply_here : World → Event → WorldReply
-reply_here w (Call i ask) = Core (reply_of (view_of (account_at w i)) (Asks ask))
+reply_here w (Call i ask) = Core (reply_of (view_of (account_at w i)) (AskCall ask))
 reply_here w (Send i) = Sent (length w.sent)
 reply_here w (Take i k) = reply_taken w i (slice_get w.sent k)
 reply_here w (Thin i k l) = reply_taken w i (thin_message (slice_get w.sent k) (slice_get w.sent l))
