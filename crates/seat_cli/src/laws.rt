@@ -15,7 +15,7 @@ ghost use Rattle.seat_cli.specs.declared.fault.LineFault.TheVariants.{Unfit};
 ghost use Rattle.seat_cli.specs.Engine.{book_line};
 ghost use Rattle.seat_cli.specs.Joins.{IsJoinOf, SameDeltas};
 ghost use Rattle.seat_cli.specs.Texts.{refusal_text};
-ghost use Rattle.seat_cli.specs.Words.{called_with, named_layout, program};
+ghost use Rattle.seat_cli.specs.Arguments.{called_with, named_layout, program};
 ghost use Rattle.seat_cli.specs.Examples.{joined_rows, two_sites, seat_given, seat_given_text, writer_waits, given_and_waiting, three_sites, announced, two_sent, three_sent, three_sent_text, three_sent_book, silent_row};
 
 /// The same deltas join to one book, in whatever order and however often they come: so a text that is
