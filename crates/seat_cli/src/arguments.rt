@@ -22,7 +22,8 @@ Exit status:
 Example:
   cat site_0.deltas site_1.deltas | seat_cli join --layout three_sites.toml";
 
-const JOIN_HELP: &str = "Joins the delta texts of the input, one a line, and writes the text of the joined book";
+const JOIN_HELP: &str =
+    "Joins the delta texts of the input, one a line, and writes the text of the joined book";
 
 const JOIN_NOTES: &str = "\
 A line of the input is the text of a delta, and so is the answer:
@@ -82,11 +83,13 @@ fn parser<'a>(alloc: Global) -> Result<Parser<'a>, AllocError>
         .help(LAYOUT_HELP)
         .action(ArgAction::Set);
     let join = Parser::new(alloc, "join")
+        .override_usage("seat_cli join [--layout FILE]")
         .about(JOIN_HELP)
         .after_help(JOIN_NOTES)
         .arg(layout)?;
     Parser::new(alloc, "seat_cli")
         .version("0.1.0")
+        .override_usage("seat_cli [COMMAND]")
         .about(PROGRAM_HELP)
         .after_help(PROGRAM_NOTES)
         .subcommand_required(true)

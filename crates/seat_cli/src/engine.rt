@@ -4,7 +4,6 @@ ghost use Rattle.seat_cli.specs.Engine.{AnswersInput, EndsJoin, book_line};
 
 use crate::fault::refusal;
 use crate::lines::{JoinStop, joined_book};
-
 use crate::status::Status;
 use delta_codec::encode;
 use merge_core::{Book, Layout};

@@ -10,6 +10,8 @@ mod lines;
 mod shell;
 mod standard_error;
 mod status;
+#[cfg(test)]
+mod tests;
 
 use std::process::ExitCode;
 

@@ -43,4 +43,4 @@ returns-in_err-matches-clause-refused c =
     let texts = map string_bytes c.args.arguments.now in
     let failed : FailsBy (fault_of program texts) c.from_residual-in_err-matches.result = search rules in
     subst (λ kinds. FailsBy kinds c.from_residual-in_err-matches.result)
-        (sym (errors_by_clap texts (more_texts string_bytes c.args.arguments.now (omega arith)))) failed
+    (sym (errors_by_clap texts (more_texts string_bytes c.args.arguments.now (omega arith)))) failed
