@@ -1,6 +1,6 @@
-ghost use Rattle.std.specs.Prelude.{◌≡◌, map, IfOk, option_map, string_bytes};
-ghost use Rattle.clap.specs.Words.{FailsBy, app_of};
-ghost use Rattle.seat_cli.specs.Arguments.{asked_layout, program, usage_errors};
+ghost use Rattle.std.specs.Prelude.{◌≡◌, false, map, IfOk, option_map, string_bytes};
+ghost use Rattle.clap.specs.Words.{FailsBy, app_of, fields_of};
+ghost use Rattle.seat_cli.specs.Arguments.{asked_layout, join_command, program, usage_errors};
 
 use clap::{Arg, ArgAction, Command as Parser, Error};
 use std::alloc::{AllocError, Global};
@@ -77,16 +77,7 @@ pub fn requested<'a>(alloc: Global, arguments: &'a [String]) -> Result<Request<'
 fn parser<'a>(alloc: Global) -> Result<Parser<'a>, AllocError>
     ensures { IfOk result (λ built. app_of built ≡ program) }
 {
-    let layout = Arg::new(alloc, "layout")
-        .long("layout")
-        .value_name("FILE")
-        .help(LAYOUT_HELP)
-        .action(ArgAction::Set);
-    let join = Parser::new(alloc, "join")
-        .override_usage("seat_cli join [--layout FILE]")
-        .about(JOIN_HELP)
-        .after_help(JOIN_NOTES)
-        .arg(layout)?;
+    let join = join_parser(alloc)?;
     Parser::new(alloc, "seat_cli")
         .version("0.1.0")
         .override_usage("seat_cli [COMMAND]")
@@ -95,4 +86,20 @@ fn parser<'a>(alloc: Global) -> Result<Parser<'a>, AllocError>
         .subcommand_required(true)
         .disable_help_subcommand(true)
         .subcommand(join)
+}
+
+// The command `join`.
+fn join_parser<'a>(alloc: Global) -> Result<Parser<'a>, AllocError>
+    ensures { IfOk result (λ built. (app_of built ≡ join_command) × ((fields_of built).has_globals ≡ false)) }
+{
+    let layout = Arg::new(alloc, "layout")
+        .long("layout")
+        .value_name("FILE")
+        .help(LAYOUT_HELP)
+        .action(ArgAction::Set);
+    Parser::new(alloc, "join")
+        .override_usage("seat_cli join [--layout FILE]")
+        .about(JOIN_HELP)
+        .after_help(JOIN_NOTES)
+        .arg(layout)
 }

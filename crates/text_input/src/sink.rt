@@ -41,6 +41,7 @@ impl<W: Write> Sink<W> {
     /// Writes the text and hands on all that was written. Whether that succeeded.
     pub fn write_and_flush(&mut self, text: &str) -> bool
         ensures written { MatchBool result (Writes self.old self.new text.now) (HasFault self.new.fault) }
+        ensures held { self.old.fault ≡ None → self.new.holds ≡ not result }
         ensures ended { HasFault self.old.fault → self.new ≡ self.old }
     {
         self.write(text) && self.flush()
@@ -49,6 +50,7 @@ impl<W: Write> Sink<W> {
     /// Writes what `{}` writes of the value, and hands on all that was written. Whether that succeeded.
     pub fn print_and_flush<D: Display + Drop>(&mut self, value: D) -> bool
         ensures written { MatchBool result (Prints self.old self.new (D.output value)) (HasFault self.new.fault) }
+        ensures held { self.old.fault ≡ None → self.new.holds ≡ not result }
         ensures ended { HasFault self.old.fault → self.new ≡ self.old }
     {
         self.print(value) && self.flush()
@@ -57,8 +59,9 @@ impl<W: Write> Sink<W> {
     /// Writes the text. Whether that succeeded.
     pub fn write(&mut self, text: &str) -> bool
         ensures written { MatchBool result
-            (Appends self.old.contents self.new.contents text.now × (self.new.fault ≡ self.old.fault) × (self.new.holds ≡ true))
+            (Appends self.old.contents self.new.contents text.now × (self.new.fault ≡ self.old.fault))
             (HasFault self.new.fault) }
+        ensures held { self.old.fault ≡ None → self.new.holds ≡ true }
         ensures ended { HasFault self.old.fault → self.new ≡ self.old }
     {
         if self.fault.is_some() {
@@ -72,8 +75,9 @@ impl<W: Write> Sink<W> {
     // Writes what `{}` writes of the value. Whether that succeeded.
     fn print<D: Display + Drop>(&mut self, value: D) -> bool
         ensures written { MatchBool result
-            (IfSome (D.output value) (Appends self.old.contents self.new.contents) × (self.new.fault ≡ self.old.fault) × (self.new.holds ≡ true))
+            (IfSome (D.output value) (Appends self.old.contents self.new.contents) × (self.new.fault ≡ self.old.fault))
             (HasFault self.new.fault) }
+        ensures held { self.old.fault ≡ None → self.new.holds ≡ true }
         ensures ended { HasFault self.old.fault → self.new ≡ self.old }
     {
         if self.fault.is_some() {
@@ -89,6 +93,7 @@ impl<W: Write> Sink<W> {
         ensures handed_on { MatchBool result
             (Keeps self.old.contents self.new.contents × (self.new.fault ≡ self.old.fault) × (self.new.holds ≡ false))
             (HasFault self.new.fault) }
+        ensures held { self.old.fault ≡ None → self.new.holds ≡ not result }
         ensures ended { HasFault self.old.fault → self.new ≡ self.old }
     {
         if self.fault.is_some() {
