@@ -1,5 +1,6 @@
 ghost use Rattle.std.specs.Prelude.{◌≡◌, false, map, IfOk, option_map, string_bytes};
-ghost use Rattle.clap.specs.Words.{FailsBy, app_of, fields_of};
+ghost use Rattle.clap.specs.Words.{FailsBy, app_of};
+ghost use Rattle.clap.specs.declared.builder.command.Command.TheViews.{out-Command as fields_of};
 ghost use Rattle.seat_cli.specs.Arguments.{asked_layout, join_command, program, usage_errors};
 
 use clap::{Arg, ArgAction, Command as Parser, Error};
@@ -36,13 +37,13 @@ const LAYOUT_HELP: &str =
     "A TOML file with the sites and records [default: two sites, record a of two seats at site 0]";
 
 /// What the program is asked for.
-#[derive(Clone, Copy, Debug)]
+#[derive(Clone, Copy)]
 pub enum Command {
     Join,
 }
 
 /// A command and the path of the layout file, if one is named.
-#[derive(Clone, Copy, Debug)]
+#[derive(Clone, Copy)]
 pub struct Request<'a> {
     pub command: Command,
     pub layout: Option<&'a str>,
