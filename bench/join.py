@@ -1,8 +1,9 @@
 #!/usr/bin/env python3
-"""Measures `join` on inputs of about 16 MB of three shapes, on the whole and on half of each, beside `jq -c .`.
+"""Measures `join` on inputs of about 16 MB of four shapes, on the whole and on half of each, beside `jq -c .`.
 
 Run it from anywhere, once ./seat_cli has built the program: python3 bench/join.py [FOLDER]
-FOLDER keeps the inputs (a temporary folder without it). Each figure is the least of three runs.
+FOLDER keeps the inputs; without it they lie in a temporary folder, which is removed. Each time is the least of
+three runs, the memory the greatest.
 """
 import json
 import os
@@ -47,11 +48,16 @@ def eight_row_lines():
     return text([row(0, s, 16, 9) for s in sorted(random.sample(range(16), 8))])
 
 
+def short_lines():
+    return text([])
+
+
 def full_deltas():
     return text([row(r, s, 16, 9) for r in range(256) for s in range(16)])
 
 
 SHAPES = [
+    ("no row a line", layout(1, 2, 2), short_lines),
     ("one row a line, 2 sites", layout(1, 2, 2), one_row_lines),
     ("8 rows a line, 16 sites", layout(1, 16, 9), eight_row_lines),
     ("4,096 rows a line", layout(256, 16, 9), full_deltas),
@@ -69,8 +75,8 @@ def lines_up_to_the_limit(make):
 
 
 def measured(words, path):
-    """Seconds of processor time and peak memory in MB: the least of some runs."""
-    best = None
+    """Seconds of processor time, the least of some runs, and peak memory in MB, the greatest of them."""
+    seconds, peak = float("inf"), 0.0
     for _ in range(RUNS):
         with open(path, "rb") as source, open(os.devnull, "wb") as sink:
             child = subprocess.Popen(words, stdin=source, stdout=sink)
@@ -78,9 +84,15 @@ def measured(words, path):
             child.returncode = os.waitstatus_to_exitcode(status)
         if child.returncode:
             sys.exit(f"{words}: status {child.returncode}")
-        figures = (used.ru_utime + used.ru_stime, used.ru_maxrss / 1024)
-        best = figures if best is None else min(best, figures)
-    return best
+        seconds = min(seconds, used.ru_utime + used.ru_stime)
+        peak = max(peak, used.ru_maxrss / 1024)
+    return seconds, peak
+
+
+def processor():
+    with open("/proc/cpuinfo", encoding="ascii", errors="replace") as it:
+        names = (line.partition(":")[2].strip() for line in it if line.startswith("model name"))
+        return next(names, "a processor without a name")
 
 
 def make(keep):
@@ -101,9 +113,17 @@ def main():
         sys.exit("run ./seat_cli --version first: the program is not built")
     if sys.argv[1:2] == ["--make"]:
         return make(sys.argv[2])
-    keep = sys.argv[1] if len(sys.argv) > 1 else tempfile.mkdtemp(prefix="seat_cli_bench_")
+    if len(sys.argv) > 1:
+        return measure(sys.argv[1])
+    with tempfile.TemporaryDirectory(prefix="seat_cli_bench_") as keep:
+        measure(keep)
+
+
+def measure(keep):
     subprocess.run([sys.executable, __file__, "--make", keep], check=True)
-    print(f"{os.cpu_count()} cores, {time.strftime('%Y-%m-%d')}, least of {RUNS} runs")
+    jq_version = subprocess.run(["jq", "--version"], capture_output=True, text=True, check=True).stdout.strip()
+    print(f"{os.cpu_count()} cores of {processor()}, {jq_version}, {time.strftime('%Y-%m-%d')}")
+    print(f"times: the least of {RUNS} runs; memory: the greatest")
     head = ("MB", "CPU s", "half s", "ratio", "MB/s", "peak MB", "jq CPU s", "of jq")
     print(f"{'shape':<25}" + "".join(f"{it:>10}" for it in head))
     for number, (name, _, _) in enumerate(SHAPES):

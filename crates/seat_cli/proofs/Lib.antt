@@ -1,7 +1,6 @@
-mod EndingLemmas
+mod ArgumentLemmas
 mod EngineLemmas
 mod ExampleLemmas
 mod JoinLaws
 mod LayoutLemmas
 mod LineLemmas
-mod WordLemmas

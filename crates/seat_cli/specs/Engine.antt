@@ -8,11 +8,11 @@ use Rattle.delta_codec.specs.DeltaText.{delta_text}
 use Rattle.text_input.specs.declared.input.InputError.TheVariants.{TooLong}
 use Rattle.text_input.specs.Input.{ReadsInput, LosesSome, input_limit}
 use Rattle.text_input.specs.Lines.{lines_of}
-use Rattle.text_input.specs.Source.{HasFault, SourceState}
+use Rattle.text_input.specs.Source.{HasFault, IsFailure, LacksMemory, SourceState}
 use Rattle.seat_cli.specs.declared.fault.LineFault.{LineFault}
 use Rattle.seat_cli.specs.declared.status.Status.{Status}
-use Rattle.seat_cli.specs.declared.status.Status.TheVariants.{Done, Refused, Memory, Io}
-use Rattle.seat_cli.specs.Sink.{SinkState, Writes}
+use Rattle.seat_cli.specs.declared.status.Status.TheVariants.{Done, Usage, NoLayout, Refused, Memory, Io}
+use Rattle.text_input.specs.Sink.{SinkState, Writes}
 use Rattle.seat_cli.specs.Joins.{AreTexts, IsJoinOf, IsFirstRefused}
 use Rattle.seat_cli.specs.Texts.{refusal_text, too_long_text}
 
@@ -42,11 +42,14 @@ AnswersInput shape bytes old new Done = WritesJoin shape (lines_of bytes) old ne
 AnswersInput shape bytes old new Refused = WritesRefusal shape (lines_of bytes) old new
 AnswersInput shape bytes old new Memory = new.fault ≡ old.fault
 AnswersInput shape bytes old new Io = HasFault new.fault
+AnswersInput shape bytes old new Usage = ⊥
+AnswersInput shape bytes old new (NoLayout fault) = ⊥
 
 -- The whole engine: the bytes read are all that the source had, within the limit, and their answer was written;
 -- or there are more, and that refusal alone was written; or memory, a read or a write failed. In each case the
 -- source lost at most one byte past the limit. A failed read or write is told where the source or the sink met
--- a fault, and there alone.
+-- a fault, and there alone; a read that failed for want of memory is told as that. An engine has no word for wrong
+-- arguments, or for want of a layout.
 abbrev pub EndsJoin : Shape → SourceState → SourceState → SinkState → SinkState → Status → Type 0
 EndsJoin shape source source_after sink sink_after Done =
     (bytes : List ℕ) × ReadsInput source source_after (Ok bytes) × WritesJoin shape (lines_of bytes) sink sink_after
@@ -54,6 +57,8 @@ EndsJoin shape source source_after sink sink_after Refused =
     ((bytes : List ℕ) × ReadsInput source source_after (Ok bytes) × WritesRefusal shape (lines_of bytes) sink sink_after)
     ⊎ (ReadsInput source source_after (Err TooLong) × Writes sink sink_after too_long_text)
 EndsJoin shape source source_after sink sink_after Memory =
-    LosesSome source source_after (input_limit + 1) × (source_after.fault ≡ source.fault) × (sink_after.fault ≡ sink.fault)
+    LosesSome source source_after (input_limit + 1) × LacksMemory source.fault source_after.fault × (sink_after.fault ≡ sink.fault)
 EndsJoin shape source source_after sink sink_after Io =
-    LosesSome source source_after (input_limit + 1) × (HasFault source_after.fault ⊎ HasFault sink_after.fault)
+    LosesSome source source_after (input_limit + 1) × (IsFailure source_after.fault ⊎ HasFault sink_after.fault)
+EndsJoin shape source source_after sink sink_after Usage = ⊥
+EndsJoin shape source source_after sink sink_after (NoLayout fault) = ⊥

@@ -8,8 +8,11 @@ use Rattle.merge_core.specs.declared.layout.RecordSpec.{RecordSpec}
 use Rattle.merge_core.specs.declared.layout.LayoutError.{LayoutError}
 use Rattle.merge_core.specs.declared.layout.LayoutError.TheVariants as layout_error
 use Rattle.merge_core.specs.Layout.{LayoutState, layout_fault}
+use Rattle.text_input.specs.declared.input.InputError.TheVariants as input
+use Rattle.text_input.specs.Input.{LosesSome, ReadsUpTo}
+use Rattle.text_input.specs.Source.{SourceState}
 use Rattle.seat_cli.specs.declared.layout_file.LayoutFault.{LayoutFault}
-use Rattle.seat_cli.specs.declared.layout_file.LayoutFault.TheVariants.{NotRead, NotToml, WrongKeys, Refused, Memory}
+use Rattle.seat_cli.specs.declared.layout_file.LayoutFault.TheVariants.{NotRead, TooLong, NotToml, WrongKeys, Refused, Memory}
 
 abbrev pub count_members : Members → ℕ
 count_members no_members = 0
@@ -68,6 +71,7 @@ parts_in d = if key_count d == 2 then (do
 abbrev pub TellsLayout : Option LayoutState → Result LayoutState LayoutFault → Type 0
 TellsLayout read (Ok layout) = (read ≡ Some layout) × (layout_fault layout.sites layout.records ≡ None)
 TellsLayout read (Err NotRead) = ⊥
+TellsLayout read (Err TooLong) = ⊥
 TellsLayout read (Err NotToml) = ⊥
 TellsLayout read (Err WrongKeys) = read ≡ None
 TellsLayout read (Err (Refused e)) =
@@ -96,6 +100,7 @@ layout_error_name layout_error.BadProblem = codes "BadProblem"
 
 abbrev pub layout_fault_name : LayoutFault → List ℕ
 layout_fault_name NotRead = codes "NotRead"
+layout_fault_name TooLong = codes "TooLong"
 layout_fault_name NotToml = codes "NotToml"
 layout_fault_name WrongKeys = codes "WrongKeys"
 layout_fault_name (Refused e) = layout_error_name e
@@ -113,8 +118,21 @@ abbrev pub FindsBuiltIn : Result LayoutState LayoutFault → Type 0
 FindsBuiltIn (Ok layout) = layout ≡ built_in_layout
 FindsBuiltIn (Err e) = e ≡ Memory
 
--- what it finds at a layout file: what some bytes describe, or that the file could not be read. No contract can
--- say what a file holds
+-- the most bytes of a layout file (this project's own limit)
+abbrev pub layout_limit : ℕ
+layout_limit = 1048576
+
+-- What reading a layout file answers: what all its bytes describe; or a read failed, or there are more bytes than
+-- the limit. Memory may run out at any time.
+abbrev pub ReadsLayoutFile : SourceState → SourceState → Result LayoutState LayoutFault → Type 0
+ReadsLayoutFile old new (Err NotRead) = ReadsUpTo layout_limit old new (Err input.Io)
+ReadsLayoutFile old new (Err TooLong) = ReadsUpTo layout_limit old new (Err input.TooLong)
+ReadsLayoutFile old new (Err Memory) = LosesSome old new (layout_limit + 1)
+ReadsLayoutFile old new answer = (bytes : List ℕ) × ReadsUpTo layout_limit old new (Ok bytes) × ReadsLayout bytes answer
+
+-- What it finds at a layout file: what some bytes describe, or that there is no such file, or that it could not be
+-- read, or is too long. No contract can say what a file holds.
 abbrev pub FindsFile : Result LayoutState LayoutFault → Type 0
 FindsFile (Err NotRead) = Unit {0}
+FindsFile (Err TooLong) = Unit {0}
 FindsFile answer = (bytes : List ℕ) × ReadsLayout bytes answer

@@ -1,9 +1,9 @@
+pub mod Arguments
 pub mod Endings
 pub mod Engine
 pub mod Examples
 pub mod Joins
 pub mod LayoutFile
-pub mod Sink
+pub mod Shell
 pub mod Stops
 pub mod Texts
-pub mod Words

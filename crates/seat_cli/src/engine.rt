@@ -4,13 +4,12 @@ ghost use Rattle.seat_cli.specs.Engine.{AnswersInput, EndsJoin, book_line};
 
 use crate::fault::refusal;
 use crate::lines::{JoinStop, joined_book};
-use crate::sink::Sink;
 use crate::status::Status;
 use delta_codec::encode;
 use merge_core::{Book, Layout};
 use std::alloc::{AllocError, Global};
 use std::io::{Read, Write};
-use text_input::{InputError, Source, read_input};
+use text_input::{InputError, Sink, Source, read_input};
 
 /// Reads the whole input and writes the text of the book that has joined all its lines, or the refusal of
 /// the first line that is refused.
@@ -25,7 +24,7 @@ pub fn join_engine<R: Read, W: Write>(
     match read_input(alloc, source) {
         Ok(input) => answer_input(alloc, layout, input.as_slice(), sink),
         Err(InputError::TooLong) => {
-            if !sink.write_line("input refused TooLong\n") {
+            if !sink.write_and_flush("input refused TooLong\n") {
                 return Status::Io;
             }
             Status::Refused
@@ -50,7 +49,7 @@ fn answer_input<W: Write>(
             let Ok(line) = book_line(alloc, &book) else {
                 return Status::Memory;
             };
-            if !sink.write_line(line.as_str()) {
+            if !sink.write_and_flush(line.as_str()) {
                 return Status::Io;
             }
             Status::Done
@@ -60,7 +59,7 @@ fn answer_input<W: Write>(
             let Ok(line) = refusal(alloc, number, fault) else {
                 return Status::Memory;
             };
-            if !sink.write_line(line.as_str()) {
+            if !sink.write_and_flush(line.as_str()) {
                 return Status::Io;
             }
             Status::Refused

@@ -15,7 +15,7 @@ ghost use Rattle.seat_cli.specs.declared.fault.LineFault.TheVariants.{Unfit};
 ghost use Rattle.seat_cli.specs.Engine.{book_line};
 ghost use Rattle.seat_cli.specs.Joins.{IsJoinOf, SameDeltas};
 ghost use Rattle.seat_cli.specs.Texts.{refusal_text};
-ghost use Rattle.seat_cli.specs.Words.{called_with, named_layout, program};
+ghost use Rattle.seat_cli.specs.Arguments.{called_with, named_layout, program};
 ghost use Rattle.seat_cli.specs.Examples.{joined_rows, two_sites, seat_given, seat_given_text, writer_waits, given_and_waiting, three_sites, announced, two_sent, three_sent, three_sent_text, three_sent_book, silent_row};
 
 /// The same deltas join to one book, in whatever order and however often they come: so a text that is
@@ -38,17 +38,17 @@ pub fn examples()
     ensures many_sites { layout_fault 17 three_sites.records ≡ Some TooManySites }
 {}
 
-/// What words the program is called with and how they are read, by computation alone: the layout file that they
+/// What arguments the program is called with and how they are read, by computation alone: the layout file that they
 /// name, and the kinds of error that clap may answer with.
 #[tactic(auto, unfolding(clap::proofs::OnLiterals::clap_on_literals))]
-pub fn words_read()
+pub fn arguments_read()
     ensures no_file { named_layout (called_with (codes "join" ∷ [])) ≡ None }
     ensures file { named_layout (called_with (codes "join" ∷ codes "--layout" ∷ codes "a" ∷ [])) ≡ Some (codes "a") }
     ensures file_behind_equals { named_layout (called_with (codes "join" ∷ codes "--layout=a" ∷ [])) ≡ Some (codes "a") }
     ensures no_error { fault_of program (called_with (codes "join" ∷ codes "--layout" ∷ codes "a" ∷ [])) ≡ [] }
     ensures missing_value { fault_of program (called_with (codes "join" ∷ codes "--layout" ∷ [])) ≡ InvalidValue ∷ [] }
     ensures two_files { fault_of program (called_with (codes "join" ∷ codes "--layout=a" ∷ codes "--layout=b" ∷ [])) ≡ ArgumentConflict ∷ [] }
-    ensures stray_word { fault_of program (called_with (codes "join" ∷ codes "x" ∷ [])) ≡ UnknownArgument ∷ [] }
+    ensures stray_argument { fault_of program (called_with (codes "join" ∷ codes "x" ∷ [])) ≡ UnknownArgument ∷ [] }
     ensures option_before_command { fault_of program (called_with (codes "--layout" ∷ codes "a" ∷ [])) ≡ UnknownArgument ∷ [] }
     ensures other_command { fault_of program (called_with (codes "play" ∷ [])) ≡ UnknownArgument ∷ InvalidSubcommand ∷ [] }
 {}

@@ -2,19 +2,27 @@ ghost use Rattle.std.specs.Prelude.{◌≡◌, string_bytes, IfOk};
 ghost use Rattle.toml.specs.Data.{get};
 ghost use Rattle.toml.specs.View.{view, items_view};
 ghost use Rattle.delta_codec.specs.Readers.{Gives};
-ghost use Rattle.seat_cli.specs.LayoutFile.{ReadsLayout, TellsLayout, layout_error_name, key_count, number_in, number_at_key, short_at_key, text_at_key, record_in, records_in, records_of, records_at_key, parts_in, built_in_layout};
+ghost use Rattle.seat_cli.specs.LayoutFile.{ReadsLayout, ReadsLayoutFile, TellsLayout, layout_error_name, key_count, number_in, number_at_key, short_at_key, text_at_key, record_in, records_in, records_of, records_at_key, parts_in, built_in_layout};
 
 use delta_codec::Unread;
 use merge_core::{Layout, LayoutError, RecordName, RecordSpec};
 use std::alloc::{AllocError, Global};
+use std::io::Read;
+use text_input::{InputError, Source, read_up_to};
 use thiserror::Error;
 use toml::Value;
+
+/// The most bytes of a layout file.
+pub const LAYOUT_LIMIT: u32 = 1_048_576;
 
 /// Why there is no layout: the first that applies, from the top.
 #[derive(Clone, Copy, Debug, PartialEq, Eq, Error)]
 pub enum LayoutFault {
     #[error("the layout file could not be read")]
     NotRead,
+    /// It has more than 1,048,576 bytes.
+    #[error("the layout file is too long")]
+    TooLong,
     #[error("the layout file is no TOML document")]
     NotToml,
     /// A key is missing, unknown, of another kind, or an integer outside 0 to 65,536.
@@ -38,6 +46,7 @@ impl LayoutFault {
     {
         match self {
             LayoutFault::NotRead => "NotRead",
+            LayoutFault::TooLong => "TooLong",
             LayoutFault::NotToml => "NotToml",
             LayoutFault::WrongKeys => "WrongKeys",
             LayoutFault::Refused(error) => error_name(error),
@@ -60,6 +69,21 @@ fn error_name(error: LayoutError) -> &'static str
         LayoutError::BadSeats => "BadSeats",
         LayoutError::BadHome => "BadHome",
         LayoutError::BadProblem => "BadProblem",
+    }
+}
+
+/// Reads a layout file, and never more than one byte past the limit of its size.
+pub fn read_layout_file<R: Read>(
+    alloc: Global,
+    source: &mut Source<R>,
+) -> Result<Layout, LayoutFault>
+    ensures { ReadsLayoutFile source.old source.new result }
+{
+    match read_up_to(alloc, source, LAYOUT_LIMIT) {
+        Ok(bytes) => read_layout(alloc, bytes.as_slice()),
+        Err(InputError::TooLong) => Err(LayoutFault::TooLong),
+        Err(InputError::Memory) => Err(LayoutFault::Memory),
+        Err(InputError::Io) => Err(LayoutFault::NotRead),
     }
 }
 

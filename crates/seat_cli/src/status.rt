@@ -1,11 +1,21 @@
-ghost use Rattle.std.specs.Prelude.{◌≡◌};
-ghost use Rattle.seat_cli.specs.Endings.{status_code};
+ghost use Rattle.std.specs.Prelude.{◌≡◌, ◌++◌, MatchBool, codes};
+ghost use Rattle.text_input.specs.Source.{HasFault};
+ghost use Rattle.text_input.specs.Sink.{Writes};
+ghost use Rattle.seat_cli.specs.Endings.{Says, status_code, status_line};
 
-/// How an engine ended.
+use crate::layout_file::LayoutFault;
+use std::io::Write;
+use text_input::Sink;
+
+/// How the program ended.
 #[derive(Clone, Copy, Debug, PartialEq, Eq)]
 pub enum Status {
-    /// All lines were carried out.
+    /// All lines were carried out; or help or the version was printed.
     Done,
+    /// The arguments are wrong, which was told.
+    Usage,
+    /// There is no layout.
+    NoLayout(LayoutFault),
     /// The input, or a line of it, was refused.
     Refused,
     /// Memory ran out.
@@ -15,15 +25,60 @@ pub enum Status {
 }
 
 impl Status {
-    /// The status that the program ends with.
+    /// The exit status.
     pub fn code(self) -> u8
         ensures { result ≡ status_code self }
     {
         match self {
             Status::Done => 0,
+            Status::Usage => 2,
+            Status::NoLayout(_) => 3,
             Status::Refused => 4,
             Status::Memory => 6,
             Status::Io => 7,
         }
     }
+
+    /// Says what goes with the end, and gives the exit status.
+    pub fn end<E: Write>(self, errors: &mut Sink<E>) -> u8
+        ensures code { result ≡ status_code self }
+        ensures said { Says errors.old errors.new (status_line self) }
+    {
+        match self {
+            Status::Done | Status::Usage | Status::Refused => {}
+            Status::NoLayout(fault) => {
+                let _ = write_refusal(errors, fault.name());
+            }
+            Status::Memory => {
+                let _ = errors.write_and_flush("memory\n");
+            }
+            Status::Io => {
+                let _ = errors.write_and_flush("io\n");
+            }
+        }
+        self.code()
+    }
+}
+
+impl LayoutFault {
+    ghost use Rattle.seat_cli.specs.Endings.{without_layout};
+
+    /// How the program ends where there is no layout.
+    pub fn status(self) -> Status
+        ensures { result ≡ without_layout self }
+    {
+        match self {
+            LayoutFault::Memory => Status::Memory,
+            fault => Status::NoLayout(fault),
+        }
+    }
+}
+
+// Writes the line that names a fault of the layout. Whether that succeeded.
+fn write_refusal<E: Write>(errors: &mut Sink<E>, name: &str) -> bool
+    ensures { MatchBool result
+        (Writes errors.old errors.new (codes "layout refused " ++ (name.now ++ codes "\n")))
+        (HasFault errors.new.fault) }
+{
+    errors.write("layout refused ") && errors.write(name) && errors.write_and_flush("\n")
 }

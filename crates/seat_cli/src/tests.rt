@@ -1,10 +1,10 @@
-//! The engine with fake readers and writers; in the modules below hostile bytes, how the program ends, layout
-//! files, and words.
-mod endings;
+//! The engine with fake readers and writers; in the modules below arguments, hostile bytes, layout files, and the
+//! whole program on a fake runtime.
 mod fakes;
 mod hostile_bytes;
 mod layout_files;
-mod words;
+mod programs;
+mod runtime;
 
 use crate::layout_file::{built_in, read_layout};
 use crate::status::Status;
@@ -215,4 +215,16 @@ fn a_reader_or_a_writer_that_fails_ends_with_status_7(rt: HostRuntime) {
         let ended = ending(alloc, &layout, &mut reader, &mut writer);
         assert_eq!(&rt; ended.code(), 7);
     }
+}
+
+// 300,000 lines in 8.1 MB: a cost that grows with the square of the input takes hours.
+#[test]
+fn very_many_lines_are_joined_in_time(rt: HostRuntime) {
+    let alloc = rt.alloc();
+    let layout = built_in(alloc).expect(&rt, "a layout");
+    let mut input = String::new(alloc);
+    for _ in 0..300_000 {
+        input.push_str(NOTHING).expect(&rt, "memory");
+    }
+    assert!(rt; is_answer(alloc, &layout, input.as_str(), Status::Done, NOTHING));
 }

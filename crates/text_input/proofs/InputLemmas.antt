@@ -1,8 +1,10 @@
 -- What a source lost in several reads.
-use Rattle.std.proofs.Common.{ℕ, ◌+◌, ◌≤◌, List, [], ◌++◌, length, take, subst, arith, length-append, length-take, append-nil}
+use Rattle.std.proofs.Common.{ℕ, ◌+◌, ◌≤◌, Err, inr, List, [], ◌++◌, length, take, subst, arith, length-append, length-take, append-nil}
 use Rattle.std.specs.Io.KnownBytes.{Consumes, Keeps}
 use Rattle.std.proofs.KnownBytes.{Consumes-kept, Consumes-trans}
-use Rattle.text_input.specs.Input.{Loses}
+use Rattle.text_input.specs.declared.input.InputError.{InputError}
+use Rattle.text_input.specs.declared.input.InputError.TheVariants.{TooLong, Memory, Io}
+use Rattle.text_input.specs.Input.{Loses, ReadsUpTo, TellsFault}
 use Rattle.text_input.specs.Source.{SourceState}
 
 -- one more read, of the first n bytes of a part
@@ -27,3 +29,10 @@ lost_no_more a b c m bs first next = record {
   lost = Consumes-kept a.remaining b.remaining c.remaining bs first.lost next;
   bounded = first.bounded;
 }
+
+-- a read that failed is told by its fault
+pub read_failed : (limit : ℕ) (a c : SourceState) (bs : List ℕ) (e : InputError) → Loses a c (limit + 1) bs → TellsFault e c.fault
+    → ReadsUpTo limit a c (Err e)
+read_failed limit a c bs TooLong lost told = absurd told
+read_failed limit a c bs Memory lost told = ((bs, lost), inr told)
+read_failed limit a c bs Io lost told = ((bs, lost), told)

@@ -1,3 +1,4 @@
 pub mod Lines
 pub mod Source
+pub mod Sink
 pub mod Input

@@ -1,5 +1,5 @@
 ghost use Rattle.std.specs.Prelude.{◌≡◌};
-ghost use Rattle.text_input.specs.Input.{ReadsInput};
+ghost use Rattle.text_input.specs.Input.{ReadsInput, ReadsUpTo};
 
 use crate::{INPUT_LIMIT, Source};
 use std::alloc::Global;
@@ -13,10 +13,10 @@ const CHUNK: usize = 65_536;
 /// Why an input was not read.
 #[derive(Clone, Copy, Debug, PartialEq, Eq, Error)]
 pub enum InputError {
-    /// There are more bytes than [`INPUT_LIMIT`].
+    /// There are more bytes than the limit.
     #[error("the input is too long")]
     TooLong,
-    /// The bytes found no room.
+    /// The bytes found no room, or the reader told so of its own.
     #[error("out of memory")]
     Memory,
     /// The reader failed.
@@ -48,22 +48,34 @@ impl Input {
     }
 }
 
-/// Reads all that the source has, and no more than one byte past the limit. The first fault ends the reading.
+/// Reads the whole input of an engine, of at most [`INPUT_LIMIT`] bytes.
 pub fn read_input<R: Read>(alloc: Global, source: &mut Source<R>) -> Result<Input, InputError>
     ensures { ReadsInput source.old source.new result }
 {
+    read_up_to(alloc, source, INPUT_LIMIT)
+}
+
+/// Reads all that the source has, and no more than one byte past the limit. The first fault ends the reading.
+pub fn read_up_to<R: Read>(
+    alloc: Global,
+    source: &mut Source<R>,
+    limit: u32,
+) -> Result<Input, InputError>
+    ensures { ReadsUpTo limit source.old source.new result }
+{
+    let most = limit as usize;
     let mut bytes = Vec::new(alloc);
     let mut chunk = [0u8; CHUNK];
-    while bytes.len() <= INPUT_LIMIT {
-        let part = &mut chunk[..CHUNK.min(INPUT_LIMIT + 1 - bytes.len())];
+    while bytes.len() <= most {
+        let part = &mut chunk[..CHUNK.min(most + 1 - bytes.len())];
         match source.read(part) {
-            Some(0) => return Ok(Input { bytes }),
-            Some(n) => {
+            Ok(0) => return Ok(Input { bytes }),
+            Ok(n) => {
                 if bytes.extend_from_slice(&part[..n]).is_err() {
                     return Err(InputError::Memory);
                 }
             }
-            None => return Err(InputError::Io),
+            Err(error) => return Err(error),
         }
     }
     Err(InputError::TooLong)

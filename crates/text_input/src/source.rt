@@ -1,8 +1,10 @@
-ghost use Rattle.std.specs.Prelude.{◌≡◌, ◌≢◌, ◌≤◌, ◌<◌, IfErr, IfNone, IfOk, IfSome, None, Some, length, take};
+ghost use Rattle.std.specs.Prelude.{◌≡◌, ◌≢◌, ◌≤◌, ◌<◌, IfErr, IfOk, None, Some, length, take};
 ghost use Rattle.std.specs.Io.KnownBytes.{Consumes, IsAtEnd, Keeps};
 ghost use Rattle.std.specs.IoError.{error_kind};
-ghost use Rattle.text_input.specs.Source.{HasFault, IsNoInterruption, SourceState};
+ghost use Rattle.text_input.specs.Input.{TellsFault};
+ghost use Rattle.text_input.specs.Source.{IsNoInterruption, SourceState};
 
+use crate::InputError;
 use std::io;
 use std::io::{ErrorKind, Read};
 use std::marker::Model;
@@ -12,6 +14,7 @@ use std::marker::Model;
 #[derive(Drop)]
 pub struct Source<R: Read> {
     reader: R,
+    // Only contracts read it.
     fault: Option<ErrorKind>,
 }
 
@@ -36,19 +39,19 @@ impl<R: Read> Source<R> {
     }
 
     /// Reads what comes at once: how many bytes, and 0 at the end, or where the part has no room. A read that is
-    /// interrupted is tried again. Any other fault is kept, and `None` tells of it.
-    pub fn read(&mut self, part: &mut [u8]) -> Option<usize>
-        ensures read { IfSome result (λ n. (n ≤ length part.new)
+    /// interrupted is tried again. Any other fault is kept, and told as want of memory or as a failure.
+    pub fn read(&mut self, part: &mut [u8]) -> Result<usize, InputError>
+        ensures read { IfOk result (λ n. (n ≤ length part.new)
             × Consumes self.old.remaining self.new.remaining (take n part.new)
             × (n ≡ 0 → 0 < length part.new → IsAtEnd self.new.remaining)
             × (self.new.fault ≡ self.old.fault)) }
-        ensures failed { IfNone result (Keeps self.old.remaining self.new.remaining × HasFault self.new.fault) }
+        ensures failed { IfErr result (λ e. Keeps self.old.remaining self.new.remaining × TellsFault e self.new.fault) }
     {
         match read_again(&mut self.reader, part) {
-            Ok(n) => Some(n),
+            Ok(n) => Ok(n),
             Err(kind) => {
                 self.fault = Some(kind);
-                None
+                Err(error_of(kind))
             }
         }
     }
@@ -84,4 +87,14 @@ fn fault_of(error: &io::Error) -> Option<ErrorKind>
         return None;
     }
     Some(kind)
+}
+
+// How a fault of this kind is told.
+fn error_of(kind: ErrorKind) -> InputError
+    ensures { TellsFault result (Some kind) }
+{
+    if kind == ErrorKind::OutOfMemory {
+        return InputError::Memory;
+    }
+    InputError::Io
 }

@@ -1,12 +1,11 @@
 //! A reader and a writer whose bytes and faults the test chooses.
 use crate::engine::join_engine;
-use crate::sink::Sink;
 use crate::status::Status;
 use merge_core::Layout;
 use std::alloc::Global;
 use std::io;
 use std::io::{Error, ErrorKind, Read, Write};
-use text_input::Source;
+use text_input::{Sink, Source};
 
 /// No call.
 pub const NEVER: usize = usize::MAX;
@@ -26,14 +25,23 @@ pub fn ending(alloc: Global, layout: &Layout, reader: &mut Giving, writer: &mut 
 struct Calls {
     made: usize,
     fails: usize,
+    fault: ErrorKind,
 }
 
 impl Calls {
+    fn new(fails: usize) -> Calls {
+        Calls {
+            made: 0,
+            fails,
+            fault: ErrorKind::Other,
+        }
+    }
+
     fn next(&mut self) -> io::Result<()> {
         let here = self.made;
         self.made = here.saturating_add(1);
         if here == self.fails {
-            return Err(Error::from(ErrorKind::Other));
+            return Err(Error::from(self.fault));
         }
         Ok(())
     }
@@ -54,7 +62,7 @@ impl<'a> Giving<'a> {
             bytes,
             filler: b' ',
             fillers: 0,
-            calls: Calls { made: 0, fails },
+            calls: Calls::new(fails),
         }
     }
 
@@ -65,6 +73,20 @@ impl<'a> Giving<'a> {
             filler,
             fillers,
             calls: self.calls,
+        }
+    }
+
+    /// The same, whose fault is of this kind.
+    pub fn failing_by(self, fault: ErrorKind) -> Giving<'a> {
+        Giving {
+            bytes: self.bytes,
+            filler: self.filler,
+            fillers: self.fillers,
+            calls: Calls {
+                made: 0,
+                fails: self.calls.fails,
+                fault,
+            },
         }
     }
 
@@ -102,7 +124,7 @@ impl Keeping {
     pub fn new(alloc: Global, fails: usize) -> Keeping {
         Keeping {
             bytes: Vec::new(alloc),
-            calls: Calls { made: 0, fails },
+            calls: Calls::new(fails),
         }
     }
 

@@ -1,0 +1,126 @@
+#!/bin/sh
+# Tries the launcher, the README's commands, the examples and the built program, all in a fresh clone.
+#
+#   checks/launcher.sh           takes as long as a build from nothing, and some minutes more
+#   checks/launcher.sh --gate    runs the README's second command, rt ci, as well: half an hour more
+#   checks/launcher.sh --quick   takes along what the checks of this folder kept, and so builds faster
+#
+# Prints a line for each thing tried, and ends with 0 where all of them went well.
+set -u
+top=$(CDPATH='' cd -- "$(dirname -- "$0")/.." && pwd -P) || exit 1
+rt=$(command -v rt) || { echo "rt is not on the PATH"; exit 1; }
+work=$(mktemp -d "${TMPDIR:-/tmp}/seat_cli_checks.XXXXXX") || exit 1
+trap 'chmod -R u+w "$work" && rm -rf "$work"' EXIT
+chmod 755 "$work"
+failed=0
+
+tell() { # whether it went well, and what was tried
+    if [ "$1" = 0 ]; then echo "ok      $2"; else echo "FAILED  $2"; failed=$((failed + 1)); fi
+}
+
+# What runs as `rt` below counts its calls.
+mkdir "$work/bin" "$work/elsewhere"
+printf '#!/bin/sh\necho "$*" >>"%s/calls"\nexec "%s" "$@"\n' "$work" "$rt" >"$work/bin/rt"
+chmod +x "$work/bin/rt"
+PATH=$work/bin:$PATH
+builds() { # how often rt was called since the last question
+    if [ -e "$work/calls" ]; then wc -l <"$work/calls" | tr -d ' '; rm "$work/calls"; else echo 0; fi
+}
+
+git clone --quiet "$top" "$work/clone" || exit 1
+cd "$work/clone" || exit 1
+if [ "${1:-}" = --quick ]; then
+    for out in "$top"/crates/*/out; do cp -R -p "$out" "crates/$(basename "$(dirname "$out")")/"; done
+    rm -f crates/seat_cli/out/seat_cli
+fi
+
+joins() { # whether these lines, under the example's layout, join to what the examples say
+    ./seat_cli join --layout examples/three_sites.toml 2>"$work/errors" | cmp -s - examples/joined.txt
+}
+
+echo "building the program in $work/clone"
+cat examples/site_1.deltas examples/site_0.deltas | joins
+tell $? "the README's first command builds the program and prints examples/joined.txt"
+[ "$(builds)" = 1 ] && [ "$(wc -l <"$work/errors")" = 1 ] && grep -q "2.2 GB" "$work/errors"
+tell $? "the build is told in one line"
+cat examples/site_0.deltas examples/site_1.deltas examples/site_0.deltas | joins && [ ! -s "$work/errors" ] && [ "$(builds)" = 0 ]
+tell $? "another order with repeats prints the same, without a build"
+
+ln -s "$work/clone/seat_cli" "$work/link" && ln -s ../link "$work/elsewhere/link"
+(cd "$work/elsewhere" && ./link --version) | grep -q "^seat_cli " && [ "$(builds)" = 0 ]
+tell $? "it runs through a link of a link, from another folder"
+(cd / && "$work/clone/seat_cli" join --layout "$work/clone/examples/three_sites.toml") <examples/site_0.deltas | cmp -s - examples/joined.txt
+tell $? "it runs by its whole path"
+
+state() { find "$work/clone" -printf '%p %T@ %s\n' | sort; }
+chmod -R a-w "$work/clone"
+before=$(state)
+if [ "$(id -u)" = 0 ]; then as='setpriv --reuid=65534 --regid=65534 --clear-groups'; else as=; fi
+cat examples/site_1.deltas examples/site_0.deltas | $as ./seat_cli join --layout examples/three_sites.toml | cmp -s - examples/joined.txt \
+    && [ "$before" = "$(state)" ] && [ "$(builds)" = 0 ]
+tell $? "it runs where nothing can be written"
+chmod -R u+w "$work/clone"
+
+sleep 1
+touch README.md crates/seat_cli/must-fail/*.edit crates/multi_site_world/src/*.rt crates/multi_site_world/specs/*.antt
+./seat_cli --version >/dev/null 2>&1 && [ "$(builds)" = 0 ]
+tell $? "a change of what the program does not stand on builds nothing"
+for source in crates/grow_counters/specs/Counts.antt crates/seat_cli/src/main.rt crates.txt; do
+    sleep 1
+    touch "$source"
+    ./seat_cli --version >/dev/null 2>&1 && [ "$(builds)" = 1 ] && ./seat_cli --version >/dev/null 2>&1 && [ "$(builds)" = 0 ]
+    tell $? "a change of $source builds once"
+done
+sleep 1
+echo 'fn broken(' >>crates/seat_cli/src/status.rt
+./seat_cli --version >"$work/output" 2>"$work/errors"
+[ $? = 1 ] && [ ! -s "$work/output" ] && grep -q "src/status.rt" "$work/errors" && tail -1 "$work/errors" | grep -q "could not be built"
+tell $? "a build that fails ends with 1 and shows its log"
+git checkout --quiet crates/seat_cli/src/status.rt
+./seat_cli --version >"$work/output" 2>"$work/errors" && grep -q "^seat_cli " "$work/output"
+tell $? "the mended source builds again"
+
+ends() { # the exit status, standard output and standard error that are wanted; then arguments. Input is standard input
+    status=$1 output=$2 errors=$3
+    shift 3
+    ./seat_cli "$@" >"$work/output" 2>"$work/errors"
+    [ $? = "$status" ] && [ "$(cat "$work/output")" = "$output" ] && [ "$(head -1 "$work/errors")" = "$errors" ]
+}
+ends 0 "seat_cli 0.1.0" "" --version </dev/null
+tell $? "0 and the version on standard output"
+ends 0 '{"from":0,"rows":[],"v":1}' "" </dev/null
+tell $? "0 and the book of no input"
+ends 2 "" "error: unrecognized subcommand 'play'" play </dev/null
+tell $? "2 and clap's words on standard error"
+ends 2 "" "error: an argument is not UTF-8" "$(printf '\377')" </dev/null
+tell $? "2 for an argument that is not UTF-8"
+ends 3 "" "layout refused NotRead" join --layout examples </dev/null
+tell $? "3 for a folder in place of a layout file"
+ends 3 "" "layout refused TooLong" join --layout /dev/zero </dev/null
+tell $? "3 for a device that never ends, in place of a layout file"
+echo | ends 4 "line 1 refused NotJson" ""
+tell $? "4 and the refusal on standard output"
+ends 7 "" "io" <examples
+tell $? "7 for a folder in place of the input"
+if [ -w /dev/full ]; then
+    ./seat_cli >/dev/full 2>"$work/errors" </dev/null
+    [ $? = 7 ] && [ "$(cat "$work/errors")" = io ]
+    tell $? "7 for an output that is full"
+    ./seat_cli --help >/dev/full 2>"$work/errors" </dev/null
+    [ $? = 7 ] && [ "$(cat "$work/errors")" = io ]
+    tell $? "7 for help where the output is full"
+fi
+
+python3 checks/second_reader.py --against crates/seat_cli/out/seat_cli >"$work/output" 2>&1
+tell $? "the second reader of the format agrees: $(tail -1 "$work/output")"
+
+if [ "${1:-}" = --gate ]; then
+    rt ci >"$work/output" 2>&1
+    tail -1 "$work/output" | grep -q " 0 failed"
+    tell $? "the README's second command: $(tail -1 "$work/output")"
+else
+    echo "left out: the README's second command, rt ci (--gate)"
+fi
+[ "$failed" = 0 ] && echo "all went well" && exit 0
+echo "$failed failed"
+exit 1

@@ -1,0 +1,67 @@
+-- What the program does: the command that its arguments ask for, or what is said of them (the project's own).
+use Rattle.std.specs.Prelude.{◌≡◌, ◌⊎◌, ℕ, List, [], Result, Ok, Err, Option, Some, None}
+use Rattle.merge_core.specs.Layout.{LayoutState, shape_of}
+use Rattle.text_input.specs.Source.{HasFault, SourceState}
+use Rattle.text_input.specs.Sink.{Prints, SinkState}
+use Rattle.clap.specs.Words.{Text, HasKind, IsAmong}
+use Rattle.clap.specs.declared.error.ErrorKind.{ErrorKind}
+use Rattle.clap.specs.declared.error.ErrorKind.TheVariants.{OutOfMemory, DisplayHelp, DisplayVersion}
+use Rattle.seat_cli.specs.declared.layout_file.LayoutFault.{LayoutFault}
+use Rattle.seat_cli.specs.declared.status.Status.{Status}
+use Rattle.seat_cli.specs.declared.status.Status.TheVariants.{Done, Usage, Memory, Io}
+use Rattle.seat_cli.specs.Arguments.{asked_layout, usage_errors}
+use Rattle.seat_cli.specs.Endings.{EndsWith, without_layout}
+use Rattle.seat_cli.specs.Engine.{EndsJoin}
+use Rattle.seat_cli.specs.LayoutFile.{FindsBuiltIn, FindsFile}
+
+-- help or the version: it was printed, or the sink met a fault
+abbrev pub EndsPrinted : SinkState → SinkState → SinkState → SinkState → ℕ → Type 0
+EndsPrinted sink sink_after errors errors_after code =
+    (Prints sink sink_after None × EndsWith Done errors errors_after code)
+    ⊎ (HasFault sink_after.fault × EndsWith Io errors errors_after code)
+
+-- wrong arguments: what is wrong was told on standard error, and nowhere else
+pub record EndsUsage (sink sink_after errors errors_after : SinkState) (code : ℕ) : Type 0 where
+  pub silent : sink_after ≡ sink
+  pub told : Prints errors errors_after None ⊎ HasFault errors_after.fault
+  pub status : code ≡ 2
+
+-- The end where clap gives no command, by the kind of its error: want of memory; the text of help or of the version;
+-- and else arguments that are wrong.
+abbrev pub EndsUnasked : ErrorKind → SinkState → SinkState → SinkState → SinkState → ℕ → Type 0
+EndsUnasked OutOfMemory sink sink_after errors errors_after code = (sink_after ≡ sink) × EndsWith Memory errors errors_after code
+EndsUnasked DisplayHelp sink sink_after errors errors_after code = EndsPrinted sink sink_after errors errors_after code
+EndsUnasked DisplayVersion sink sink_after errors errors_after code = EndsPrinted sink sink_after errors errors_after code
+EndsUnasked _ sink sink_after errors errors_after code = EndsUsage sink sink_after errors errors_after code
+
+-- what the program finds for a layout: the built-in one, or what is in the file that is named
+abbrev pub FindsLayout : Option Text → Result LayoutState LayoutFault → Type 0
+FindsLayout None answer = FindsBuiltIn answer
+FindsLayout (Some path) answer = FindsFile answer
+
+-- the command `join` under a layout: what its engine did; without a layout nothing is read or written
+abbrev pub JoinsUnder : Result LayoutState LayoutFault → SourceState → SourceState → SinkState → SinkState → Status → Type 0
+JoinsUnder (Ok layout) source source_after sink sink_after ended = EndsJoin (shape_of layout) source source_after sink sink_after ended
+JoinsUnder (Err fault) source source_after sink sink_after ended = (source_after ≡ source) × (sink_after ≡ sink) × (ended ≡ without_layout fault)
+
+-- a command is asked for, and was carried out under the layout that the arguments name
+pub record RunsCommand (arguments : List Text) (source source_after : SourceState) (sink sink_after errors errors_after : SinkState) (code : ℕ) : Type 0 where
+  pub asked : usage_errors arguments ≡ []
+  pub layout : Result LayoutState LayoutFault
+  pub found : FindsLayout (asked_layout arguments) layout
+  pub ended : Status
+  pub joined : JoinsUnder layout source source_after sink sink_after ended
+  pub told : EndsWith ended errors errors_after code
+
+-- no command is asked for, or memory ran out: nothing is read, and what clap says is told
+pub record RunsNone (arguments : List Text) (source source_after : SourceState) (sink sink_after errors errors_after : SinkState) (code : ℕ) : Type 0 where
+  pub kind : ErrorKind
+  pub found : (kind ≡ OutOfMemory) ⊎ IsAmong kind (usage_errors arguments)
+  pub unread : source_after ≡ source
+  pub told : EndsUnasked kind sink sink_after errors errors_after code
+
+-- what the program does with its arguments
+abbrev pub RunsProgram : List Text → SourceState → SourceState → SinkState → SinkState → SinkState → SinkState → ℕ → Type 0
+RunsProgram arguments source source_after sink sink_after errors errors_after code =
+    RunsCommand arguments source source_after sink sink_after errors errors_after code
+    ⊎ RunsNone arguments source source_after sink sink_after errors errors_after code
