@@ -3,4 +3,5 @@ pub mod NumberLaws
 pub mod ElementLaws
 pub mod DeltaLaws
 pub mod LengthLaws
-pub mod DataLaws
+pub mod WritingLaws
+pub mod Utf8Laws

@@ -19,14 +19,15 @@ abbrev pub IsText : List ℕ → Type 0
 IsText bytes = (length bytes ≤ text_limit) × IsUtf8 bytes
 
 -- What is read is the delta whose text the bytes are, and each fault says that there is none, and that no
--- earlier fault applies. A text is JSON where `serde_json` reads it. Memory may run out at any time.
+-- earlier fault applies. A text is JSON where `serde_json` reads it. Memory may run out over any text within
+-- the limit, but hides neither of the two faults that are found without taking any.
 abbrev pub Decodes : List ℕ → Result DeltaState DecodeError → Type 0
 Decodes bytes (Ok d) = IsDelta d × (bytes ≡ delta_text d)
 Decodes bytes (Err TooLong) = HasNoDelta bytes × (text_limit < length bytes)
 Decodes bytes (Err NotUtf8) = HasNoDelta bytes × (length bytes ≤ text_limit) × ¬ IsUtf8 bytes
 Decodes bytes (Err NotJson) = HasNoDelta bytes × IsText bytes × (read bytes ≡ None)
 Decodes bytes (Err NotCanonical) = HasNoDelta bytes × IsText bytes × IsSome (read bytes)
-Decodes bytes (Err Memory) = Unit {0}
+Decodes bytes (Err Memory) = IsText bytes
 
 -- the name of a fault, as reports write it
 abbrev pub fault_name : DecodeError → List ℕ

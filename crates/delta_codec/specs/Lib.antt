@@ -1,5 +1,4 @@
 pub mod Decodes
-pub mod DeltaData
 pub mod DeltaReaders
 pub mod DeltaText
 pub mod Lists

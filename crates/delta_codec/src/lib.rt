@@ -21,3 +21,4 @@ mod rows;
 mod tests;
 mod unread;
 mod writing;
+mod written;

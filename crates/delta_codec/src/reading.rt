@@ -62,8 +62,20 @@ fn fault_of(alloc: Global, bytes: &[u8]) -> DecodeError
     }
 }
 
+// What to tell of bytes where memory ran out before they were judged. Looking for UTF-8 takes none.
+fn unjudged(bytes: &[u8]) -> DecodeError
+    requires short { length bytes.now ≤ text_limit }
+    ensures { Decodes bytes.now (Err result) }
+{
+    match std::str::from_utf8(bytes) {
+        Ok(_) => DecodeError::Memory,
+        Err(_) => DecodeError::NotUtf8,
+    }
+}
+
 /// The delta whose text the bytes are. One pass over the bytes and no tree; `serde_json` judges only what
-/// is refused. `Memory` may come before the text is judged.
+/// is refused. `Memory` may come before a text is judged, but only for a text: neither for too many bytes nor
+/// for bytes that are not UTF-8.
 pub fn decode(alloc: Global, bytes: &[u8]) -> Result<Delta, DecodeError>
     ensures exact { Decodes bytes.now result }
     ensures only { (d : DeltaState) → IsDelta d → bytes.now ≡ delta_text d
@@ -74,7 +86,7 @@ pub fn decode(alloc: Global, bytes: &[u8]) -> Result<Delta, DecodeError>
     }
     match read(alloc, bytes) {
         Ok(delta) => Ok(delta),
-        Err(Unread::Memory) => Err(DecodeError::Memory),
+        Err(Unread::Memory) => Err(unjudged(bytes)),
         Err(Unread::Refused) => Err(fault_of(alloc, bytes)),
     }
 }

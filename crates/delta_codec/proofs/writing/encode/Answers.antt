@@ -1,8 +1,10 @@
-use Rattle.std.proofs.Common.{◌∙◌, ap}
-use Rattle.std.proofs.lemmas.Result.{IfOk-weaker}
-use Rattle.serde_json.specs.Written.{has_float, compact_text}
-use Rattle.delta_codec.proofs.DataLaws.{delta_same, delta_plain}
+use Rattle.std.proofs.Common.{◌≡◌, ◌++◌, ap, ◌∙◌, string_bytes}
+use Rattle.delta_codec.specs.DeltaText.{delta_text, row_text}
+use Rattle.delta_codec.specs.Lists.{joined}
+use Rattle.delta_codec.proofs.WritingLaws.{delta_pushed}
 use Rattle.delta_codec.proofs.writing.encode.Goals as goal
 
 pub returns : goal.returns
-returns c = IfOk-weaker c.to_string.result _ _ (λ s h. h (ap has_float c.in_ok-delta_value.ensures ∙ delta_plain c.args.delta.now) ∙ ap compact_text c.in_ok-delta_value.ensures ∙ delta_same c.args.delta.now) c.to_string.ensures.text
+returns c =
+    let rows : string_bytes c.push_joined.new.text ≡ string_bytes c.push_str.new.self ++ joined row_text c.args.delta.now.rows = c.in_ok-push_joined.ensures ∙ ap (λ ps. string_bytes c.push_str.new.self ++ joined row_text ps) c.rows.ensures.rows in
+    delta_pushed c.args.delta.now _ _ _ _ _ _ (c.from.ensures ∙ c.from_site.ensures.label) c.in_ok-push_field.ensures c.in_ok-push_str.ensures.bytes rows c.in_ok-push_str-2.ensures.bytes ∙ ap (λ b. b ++ delta_text c.args.delta.now) c.new-text.ensures.bytes

@@ -1,5 +1,5 @@
 use Rattle.delta_codec.proofs.NumberLaws.{stops, overflows, goes_on, ends}
-use Rattle.delta_codec.proofs.numbers.digits.Goals as goal
+use Rattle.delta_codec.proofs.numbers.last_digits.Goals as goal
 
 pub returns-then-not-is_ascii_digit : goal.returns-then-not-is_ascii_digit
 returns-then-not-is_ascii_digit c = stops c.args.first c.loop-i.number c.loop-i.i c.args.bytes.now c.loop-i-test.true (cc) c.loop-i.invariant
