@@ -1,16 +1,15 @@
 -- Every event keeps a world sound, and the start is sound.
-use Rattle.std.proofs.Common.{◌≡◌, ℕ, zero, suc, ◌<◌, ◌≤◌, ◌⊎◌, inl, inr, max, min, ltb, List, [], ◌∷◌, ◌++◌, length, map, get_or, Option, Some, None, refl, sym, ap, subst, ◌∙◌, arith}
+use Rattle.std.proofs.Common.{◌≡◌, ℕ, zero, suc, ◌<◌, ◌≤◌, ◌⊎◌, inl, inr, min, ltb, List, [], ◌∷◌, ◌++◌, length, map, get_or, Option, Some, None, refl, sym, ap, subst, ◌∙◌, arith}
 use Rattle.std.specs.Prelude.{slice_get}
 use Rattle.std.specs.List.{AllByRecursion}
 use Rattle.std.proofs.lemmas.List.{length-append, get_or_append_left, get_or_push}
 use Rattle.std.proofs.lemmas.Option.{same_Some}
-use Rattle.std.proofs.lemmas.Bool.{cases_eq, cases_lt, cond_both, ltb-true}
+use Rattle.std.proofs.lemmas.Bool.{cases_eq, cond_both, ltb-true}
 use Rattle.merge_core.specs.declared.cell.Cell.{Cell}
 use Rattle.merge_core.specs.Delta.{DeltaState}
 use Rattle.merge_core.specs.declared.layout.RecordSpec.{RecordSpec}
 use Rattle.merge_core.specs.Layout.{LayoutState, IsLayout, Shape, shape_of, record_shape, at_sites}
-use Rattle.merge_core.specs.Rows.{grant, start_counter, counter_in, counters_of}
-use Rattle.merge_core.specs.Naming.{shown_by}
+use Rattle.merge_core.specs.Rows.{start_counter, counter_in, counters_of}
 use Rattle.admission_core.specs.declared.ask.Ask.{Ask}
 use Rattle.admission_core.specs.declared.ask.Call.TheVariants.{Ask as AskCall, Merge}
 use Rattle.admission_core.specs.Account.{Account, begin, start_origin, layout_of, own}

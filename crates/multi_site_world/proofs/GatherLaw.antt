@@ -1,5 +1,5 @@
 -- The law of gathering, from a reached world.
-use Rattle.std.proofs.Common.{◌≡◌, ◌≢◌, ℕ, ◌<◌, ◌≤◌, ◌⊎◌, inl, inr, true, false, cond, eqb, List, [], ◌∷◌, length, Option, Some, None, refl, sym, ap, subst, ◌∙◌, arith}
+use Rattle.std.proofs.Common.{◌≡◌, ◌≢◌, ℕ, ◌<◌, ◌≤◌, ◌⊎◌, inl, inr, true, false, cond, eqb, List, [], ◌∷◌, length, Option, Some, None, refl, ap, ◌∙◌, arith}
 use Rattle.std.proofs.lemmas.Bool.{cases_Bool, eqb-true, cond-true, cond-false, ne_eqb}
 use Rattle.merge_core.specs.declared.cell.Cell.TheVariants.{Out}
 use Rattle.admission_core.specs.declared.ask.Phase.{Phase}
@@ -12,7 +12,7 @@ use Rattle.admission_core.proofs.SumLemmas.{total_member}
 use Rattle.admission_core.proofs.KeyLemmas.{keys_total}
 use Rattle.admission_core.proofs.SessionLemmas.{adds, sessions-keys}
 use Rattle.multi_site_world.specs.World.{World, account_at, run, replies}
-use Rattle.multi_site_world.specs.Laws.{IsReachedWorld, in_flight, all_in_flight, IsInside, gathering, AreTheOthers, IsNeverFull, AreGathered, MayGather, CanGather}
+use Rattle.multi_site_world.specs.Laws.{IsReachedWorld, in_flight, all_in_flight, IsInside, gathering, AreGathered, MayGather, CanGather}
 use Rattle.multi_site_world.proofs.WorldLemmas.{IsSoundWorld}
 use Rattle.multi_site_world.proofs.EventLemmas.{sound_reached}
 use Rattle.multi_site_world.proofs.GatherLemmas.{IsGathering}

@@ -13,7 +13,7 @@ use Rattle.admission_core.specs.declared.ask.Call.TheVariants.{Ask as AskCall}
 use Rattle.admission_core.specs.declared.reply.Refusal.TheVariants.{CounterFull, NoPlan}
 use Rattle.admission_core.specs.declared.reply.Reply.TheVariants.{Gave, Refused}
 use Rattle.merge_core.specs.Sums.{total_others}
-use Rattle.admission_core.specs.Account.{Account, Origin, seats_in, own, inside}
+use Rattle.admission_core.specs.Account.{Account, seats_in, own, inside}
 use Rattle.admission_core.specs.Knowledge.{known, told, told_after}
 use Rattle.admission_core.specs.View.{view_of, rights_of}
 use Rattle.admission_core.specs.Serving.{reply_of}

@@ -1,12 +1,9 @@
 -- The premises of the laws are met.
-use Rattle.std.proofs.Common.{◌≡◌, ◌≢◌, ℕ, zero, suc, ◌<◌, ◌≤◌, ◌⊎◌, inl, inr, true, ◌&&◌, eqb, List, [], ◌∷◌, length, get_or, Option, Some, None, refl, arith}
-use Rattle.std.specs.List.{AllByRecursion}
+use Rattle.std.proofs.Common.{◌≡◌, ◌≢◌, ℕ, zero, suc, ◌<◌, ◌≤◌, inl, inr, eqb, List, [], ◌∷◌, Some, None, refl, arith}
 use Rattle.std.proofs.lemmas.Bool.{cond_both}
 use Rattle.merge_core.specs.declared.cell.Cell.{Cell}
 use Rattle.merge_core.specs.declared.cell.Cell.TheVariants.{Out, Taken, Ann, Fin}
-use Rattle.merge_core.specs.declared.delta.Row.{Row}
-use Rattle.merge_core.specs.Rows.{counter_in, counters_of}
-use Rattle.admission_core.specs.declared.ask.Phase.{Phase}
+use Rattle.merge_core.specs.Rows.{counter_in}
 use Rattle.admission_core.specs.declared.ask.Phase.TheVariants.{Waiting}
 use Rattle.admission_core.specs.Account.{phase_of, own}
 use Rattle.admission_core.specs.Knowledge.{known}
@@ -14,7 +11,7 @@ use Rattle.admission_core.specs.View.{view_of}
 use Rattle.admission_core.specs.Serving.{Step}
 use Rattle.admission_core.specs.Laws.{IsFirstUnfinished}
 use Rattle.multi_site_world.specs.World.{account_at}
-use Rattle.multi_site_world.specs.Laws.{IsInside, MayGather, CanGather, AreTheOthers, IsOneOf, HasCounted, HasTaken, AreLogged, IsLogged, IsConsistentCut, HeardNoMore}
+use Rattle.multi_site_world.specs.Laws.{IsInside, MayGather, CanGather, AreTheOthers, IsOneOf, HasCounted, HasTaken, AreLogged, IsConsistentCut}
 use Rattle.multi_site_world.specs.Instances.{three_sites, writer_heard, others_of_1, writer_there, second_message, log_of_0, logs, accounts_of}
 
 -- a row of three sites' counters is below others where each counter is

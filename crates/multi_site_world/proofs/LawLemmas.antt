@@ -1,8 +1,8 @@
 -- The laws of a world, from what every event keeps.
-use Rattle.std.proofs.Common.{inl, inr, ◌≡◌, ◌≢◌, ℕ, ◌<◌, ◌≤◌, ◌⊎◌, true, false, max, ltb, List, [], ◌∷◌, length, get_or, set, Option, Some, None, is_some, refl, sym, ap, subst, ◌∙◌, arith}
+use Rattle.std.proofs.Common.{inl, inr, ◌≡◌, ◌≢◌, ℕ, ◌<◌, ◌≤◌, ◌⊎◌, true, false, ltb, List, [], ◌∷◌, length, get_or, Option, Some, None, is_some, refl, sym, ap, subst, ◌∙◌, arith}
 use Rattle.std.specs.Prelude.{slice_get, unwrap_or}
 use Rattle.std.specs.List.{AllByRecursion}
-use Rattle.std.proofs.lemmas.Bool.{cases_eq, cases_Bool, cond_both, cond-true, ltb-true, lt-ltb}
+use Rattle.std.proofs.lemmas.Bool.{cases_Bool, cond_both, cond-true, lt-ltb}
 use Rattle.std.proofs.lemmas.Option.{slice_get-get_or}
 use Rattle.merge_core.specs.declared.cell.Cell.{Cell}
 use Rattle.merge_core.specs.declared.cell.Cell.TheVariants.{Ann, Fin}
@@ -13,7 +13,6 @@ use Rattle.merge_core.specs.Moved.{raised_by}
 use Rattle.merge_core.specs.Tests.{is_placed, is_valid, first_failing}
 use Rattle.admission_core.specs.declared.ask.Ask.TheVariants.{Read}
 use Rattle.admission_core.specs.declared.ask.Call.TheVariants.{Ask as AskCall, Merge}
-use Rattle.admission_core.specs.declared.reply.Refusal.{Refusal}
 use Rattle.admission_core.specs.declared.reply.Refusal.TheVariants.{WriterAnnounced, OtherLayout, BadRow, OwnRowAhead}
 use Rattle.admission_core.specs.declared.reply.Reply.{Reply}
 use Rattle.admission_core.specs.declared.reply.Reply.TheVariants.{Admitted, Refused}
@@ -32,7 +31,7 @@ use Rattle.multi_site_world.specs.declared.event.Event.{Event}
 use Rattle.multi_site_world.specs.declared.event.Event.TheVariants.{Call, Send, Take, Thin, Restart, Grow}
 use Rattle.multi_site_world.specs.declared.event.WorldReply.{WorldReply}
 use Rattle.multi_site_world.specs.declared.event.WorldReply.TheVariants.{Core, NoSite}
-use Rattle.multi_site_world.specs.World.{World, account_at, with_account, world_taken, thin, thin_message, world_grown, world_here, reply_taken, reply_here, place_of, happens, world_reply, run}
+use Rattle.multi_site_world.specs.World.{World, account_at, world_taken, thin, thin_message, world_here, reply_taken, reply_here, place_of, happens, world_reply, run}
 use Rattle.multi_site_world.specs.Laws.{IsConserved, IsWriterAlone, IsMergedReply, IsOtherLayoutReply, KnowsAllSites, IsReachedWorld, StandsIn, WasSent, AreLogged, IsConsistentCut, all_inside}
 use Rattle.multi_site_world.proofs.FamilyLemmas.{IsSentBefore, conserved, writer_alone, inside_most, logged_family, consistent_cut}
 use Rattle.multi_site_world.proofs.WorldLemmas.{IsSentRow, AreSentRows, IsSoundWorld, IsMessage, rows_accepted, all_narrow}

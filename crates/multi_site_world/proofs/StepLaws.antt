@@ -13,10 +13,10 @@ use Rattle.merge_core.specs.Tests.{is_placed, first_failing}
 use Rattle.merge_core.specs.Thin.{thin_rows}
 use Rattle.admission_core.specs.declared.ask.Call.TheVariants.{Ask as AskCall, Merge}
 use Rattle.admission_core.specs.Account.{Account, layout_of, own}
-use Rattle.admission_core.specs.Knowledge.{known, told, hears, grown, restarted}
+use Rattle.admission_core.specs.Knowledge.{known, hears, grown, restarted}
 use Rattle.admission_core.specs.View.{view_of}
 use Rattle.admission_core.specs.Replies.{merge_lines}
-use Rattle.admission_core.specs.Serving.{reason, unless_refused, after, Serves, Restarts, after_step}
+use Rattle.admission_core.specs.Serving.{reason, unless_refused, after, Serves, Restarts}
 use Rattle.admission_core.specs.Sound.{IsSound}
 use Rattle.admission_core.proofs.CounterLemmas.{known_own, known_other}
 use Rattle.admission_core.proofs.RowLemmas.{AllPass, AllPass-from, none_of, placed_parts, start_below}
@@ -27,10 +27,10 @@ use Rattle.admission_core.proofs.SnapshotLemmas.{matches}
 use Rattle.admission_core.proofs.ThinLemmas.{thin_raises, all_thin}
 use Rattle.multi_site_world.specs.declared.event.Event.{Event}
 use Rattle.multi_site_world.specs.declared.event.Event.TheVariants.{Call, Send, Take, Thin, Restart, Grow}
-use Rattle.multi_site_world.specs.World.{World, account_at, with_account, world_taken, thin, thin_message, world_grown, world_here, place_of, happens}
+use Rattle.multi_site_world.specs.World.{World, account_at, with_account, world_taken, thin, thin_message, world_here, place_of, happens}
 use Rattle.multi_site_world.specs.Laws.{IsReachedWorld, HasCounted, HasTaken}
 use Rattle.multi_site_world.proofs.WorldLemmas.{IsSoundWorld, IsSentRow, IsMessage, same_account, other_account, rows_accepted}
-use Rattle.multi_site_world.proofs.EventLemmas.{message_there, thin_sent, sound_reached}
+use Rattle.multi_site_world.proofs.EventLemmas.{message_there, sound_reached}
 
 -- what holds between a site's old account and its new one, and of each account and itself, holds at every site
 at_each : (P : Account → Account → Type 0) → ((a : Account) → P a a) → (w : World) (j : ℕ) (a : Account) → j < length w.sites → P (account_at w j) a → (i : ℕ) → P (account_at w i) (account_at (with_account w j a) i)

@@ -15,7 +15,7 @@ use Rattle.admission_core.specs.declared.ask.Call.{Call}
 use Rattle.admission_core.specs.declared.ask.Call.TheVariants.{Ask as AskCall, Merge, Snapshot as SnapshotCall}
 use Rattle.admission_core.specs.Account.{Account, Origin, begin, start_origin, layout_of, own}
 use Rattle.admission_core.specs.Knowledge.{told, hears}
-use Rattle.admission_core.specs.View.{View, view_of}
+use Rattle.admission_core.specs.View.{view_of}
 use Rattle.admission_core.specs.Replies.{ask_lines, merge_lines}
 use Rattle.admission_core.specs.Serving.{reason, advanced, unless_refused, after}
 use Rattle.admission_core.specs.Sound.{FitsRow, IsSound}

@@ -1,13 +1,12 @@
 -- Worlds and logs that meet the premises of the laws, so that none of these speaks of nothing.
-use Rattle.std.specs.Prelude.{◌≡◌, ℕ, ◌==◌, List, [], ◌∷◌, ◌++◌, length, if◌then◌else◌}
-use Rattle.merge_core.specs.declared.delta.Row.{Row}
+use Rattle.std.specs.Prelude.{ℕ, ◌==◌, List, [], ◌∷◌, ◌++◌, if◌then◌else◌}
 use Rattle.merge_core.specs.Delta.{DeltaState}
 use Rattle.merge_core.specs.Layout.{LayoutState, at_sites}
-use Rattle.admission_core.specs.declared.ask.Ask.TheVariants.{Read, Announce, Quill, Leave, Give, Help}
+use Rattle.admission_core.specs.declared.ask.Ask.TheVariants.{Read, Announce, Quill, Leave, Help}
 use Rattle.admission_core.specs.declared.ask.Call.TheVariants.{Ask as AskCall, Merge, Snapshot as SnapshotCall}
-use Rattle.admission_core.specs.declared.ask.Phase.TheVariants.{Reader, Waiting, Writer}
+use Rattle.admission_core.specs.declared.ask.Phase.TheVariants.{Writer}
 use Rattle.admission_core.specs.declared.reply.Refusal.TheVariants.{WriterAnnounced, MissingSeats, NoPlan}
-use Rattle.admission_core.specs.declared.reply.Reply.TheVariants.{Admitted, Announced, Left, Given, Gave, Merged, Refused}
+use Rattle.admission_core.specs.declared.reply.Reply.TheVariants.{Admitted, Announced, Left, Gave, Merged, Refused}
 use Rattle.admission_core.specs.Account.{Account, begin, start_origin}
 use Rattle.admission_core.specs.Serving.{Step, Serves, replay}
 use Rattle.multi_site_world.specs.declared.event.Event.{Event}
