@@ -15,6 +15,7 @@ import subprocess
 import sys
 import tomllib
 from collections import Counter
+from itertools import zip_longest
 
 TEXT = b'{"from":0,"rows":[{"ann":0,"fin":0,"out":[2,1],"r":0,"s":0,"taken":0}],"v":1}'
 ROW_KEYS = {"ann", "fin", "out", "r", "s", "taken"}
@@ -127,7 +128,7 @@ def grant(layout, r, s):
 
 
 def is_placed(layout, row):
-    return row["r"] < len(layout["record"]) and row["s"] < layout["sites"] and len(row["out"]) == layout["sites"]
+    return row["r"] < len(layout["record"]) and row["s"] < len(row["out"]) <= layout["sites"]
 
 
 def is_valid(layout, row):
@@ -171,7 +172,7 @@ def start(layout, r, s):
 
 
 def greater(a, b):
-    return {key: [max(x, y) for x, y in zip(a[key], b[key])] if key == "out" else max(a[key], b[key]) for key in a}
+    return {key: [max(x, y) for x, y in zip_longest(a[key], b[key], fillvalue=0)] if key == "out" else max(a[key], b[key]) for key in a}
 
 
 def answer(data, layout=None):

@@ -2,8 +2,8 @@
 use Rattle.std.specs.Prelude.{◌≡◌, ℕ, ◌+◌, ◌⊎◌, List, [], ◌∷◌, ◌++◌, Ok, Err}
 use Rattle.merge_core.specs.Layout.{Shape}
 use Rattle.merge_core.specs.Delta.{DeltaState}
-use Rattle.merge_core.specs.Book.{BookState}
-use Rattle.merge_core.specs.Snapshot.{snapshot_rows}
+use Rattle.merge_core.specs.Book.{BookState, book_shape, counter_of}
+use Rattle.merge_core.specs.Moved.{all_moved}
 use Rattle.delta_codec.specs.DeltaText.{delta_text}
 use Rattle.text_input.specs.declared.input.InputError.TheVariants.{TooLong}
 use Rattle.text_input.specs.Input.{ReadsInput, LosesSome, input_limit}
@@ -18,7 +18,7 @@ use Rattle.seat_cli.specs.Texts.{refusal_text, too_long_text}
 
 -- the text of what a book names, as a delta of site 0, and LF
 abbrev pub book_line : BookState → List ℕ
-book_line b = delta_text (record { from = 0; rows = snapshot_rows b }) ++ 10 ∷ []
+book_line b = delta_text (record { from = 0; rows = all_moved (book_shape b) (counter_of b) }) ++ 10 ∷ []
 
 -- the lines are texts of deltas that are taken, and the line of their join with the start was written
 pub record WritesJoin (shape : Shape) (lines : List (List ℕ)) (old new : SinkState) : Type 0 where

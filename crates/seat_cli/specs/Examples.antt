@@ -1,28 +1,16 @@
 -- Small inputs of `join` and what they are answered, for the laws that compute the definitions on them.
-use Rattle.std.specs.Prelude.{ℕ, List, [], ◌∷◌, codes, map}
-use Rattle.std.specs.List.{range_with_len}
-use Rattle.merge_core.specs.declared.cell.Cell.TheVariants.{Out, Taken, Ann, Fin}
+use Rattle.std.specs.Prelude.{ℕ, List, [], ◌∷◌, codes}
 use Rattle.merge_core.specs.declared.delta.Row.{Row}
 use Rattle.merge_core.specs.Layout.{LayoutState, Shape, shape_of}
 use Rattle.merge_core.specs.Delta.{DeltaState}
 use Rattle.merge_core.specs.Book.{BookState}
+use Rattle.merge_core.specs.Moved.{all_moved}
 use Rattle.seat_cli.specs.Joins.{joined_counter}
 use Rattle.seat_cli.specs.LayoutFile.{built_in_layout}
 
--- what the join of the start with these deltas knows of a site, as a row
-abbrev pub joined_row : Shape → List DeltaState → ℕ → Row
-joined_row shape ds s = record {
-  r = 0;
-  s = s;
-  out = map (λ j. joined_counter shape ds 0 s (Out j)) (range_with_len 0 shape.sites);
-  taken = joined_counter shape ds 0 s Taken;
-  ann = joined_counter shape ds 0 s Ann;
-  fin = joined_counter shape ds 0 s Fin;
-}
-
--- the same of all sites
+-- what the join of the start with these deltas tells
 abbrev pub joined_rows : Shape → List DeltaState → List Row
-joined_rows shape ds = map (joined_row shape ds) (range_with_len 0 shape.sites)
+joined_rows shape ds = all_moved shape (joined_counter shape ds)
 
 -- a row of the first record
 abbrev pub row_of_site : ℕ → List ℕ → ℕ → ℕ → Row
@@ -39,7 +27,7 @@ abbrev pub writer_waits : DeltaState
 writer_waits = record { from = 0; rows = row_of_site 0 (2 ∷ (0 ∷ [])) 0 1 ∷ [] }
 
 abbrev pub given_and_waiting : List Row
-given_and_waiting = row_of_site 0 (2 ∷ (1 ∷ [])) 0 1 ∷ (row_of_site 1 (0 ∷ (0 ∷ [])) 0 0 ∷ [])
+given_and_waiting = row_of_site 0 (2 ∷ (1 ∷ [])) 0 1 ∷ []
 
 abbrev pub seat_given_text : List ℕ
 seat_given_text =
@@ -86,5 +74,16 @@ three_sent_book = record {
   } ∷ [];
 }
 
-abbrev pub silent_row : Row
-silent_row = row_of_site 2 (0 ∷ (0 ∷ (0 ∷ []))) 0 0
+-- A row of the first of two sites, as it told it before the second one came; one that lacks its own site's
+-- counter; and one of three sites.
+abbrev pub told_alone : Row
+told_alone = row_of_site 0 (2 ∷ []) 1 0
+
+abbrev pub told_by_both : Row
+told_by_both = row_of_site 0 (2 ∷ (0 ∷ [])) 1 0
+
+abbrev pub lacks_its_own : Row
+lacks_its_own = row_of_site 1 (0 ∷ []) 0 0
+
+abbrev pub told_of_three : Row
+told_of_three = row_of_site 0 (2 ∷ (1 ∷ (0 ∷ []))) 0 0

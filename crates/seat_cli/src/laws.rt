@@ -2,11 +2,12 @@
 ghost use Rattle.std.specs.Prelude.{◌≡◌, ◌++◌, ◌∷◌, [], List, None, Some, codes};
 ghost use Rattle.merge_core.specs.Layout.{Shape};
 ghost use Rattle.merge_core.specs.Delta.{DeltaState};
-ghost use Rattle.merge_core.specs.Book.{BookState};
+ghost use Rattle.merge_core.specs.Book.{BookState, book_shape, counter_of};
 ghost use Rattle.merge_core.specs.declared.check.CheckError.TheVariants.{OtherLayout};
 ghost use Rattle.merge_core.specs.declared.layout.LayoutError.TheVariants.{TooManySites};
 ghost use Rattle.merge_core.specs.Layout.{layout_fault, shape_of};
-ghost use Rattle.merge_core.specs.Snapshot.{book_rows, snapshot_rows};
+ghost use Rattle.merge_core.specs.Moved.{all_moved};
+ghost use Rattle.merge_core.specs.Tests.{is_placed, first_failing};
 ghost use Rattle.delta_codec.specs.DeltaText.{delta_text};
 ghost use Rattle.text_input.specs.Lines.{lines_of};
 ghost use Rattle.clap.specs.Words.{fault_of};
@@ -16,7 +17,7 @@ ghost use Rattle.seat_cli.specs.Engine.{book_line};
 ghost use Rattle.seat_cli.specs.Joins.{IsJoinOf, SameDeltas};
 ghost use Rattle.seat_cli.specs.Texts.{refusal_text};
 ghost use Rattle.seat_cli.specs.Arguments.{called_with, named_layout, program};
-ghost use Rattle.seat_cli.specs.Examples.{joined_rows, two_sites, seat_given, seat_given_text, writer_waits, given_and_waiting, three_sites, announced, two_sent, three_sent, three_sent_text, three_sent_book, silent_row};
+ghost use Rattle.seat_cli.specs.Examples.{joined_rows, two_sites, seat_given, seat_given_text, writer_waits, given_and_waiting, three_sites, announced, two_sent, three_sent, three_sent_text, three_sent_book, told_alone, told_by_both, lacks_its_own, told_of_three};
 
 /// The same deltas join to one book, in whatever order and however often they come: so a text that is
 /// written is a function of the lines, and no order or repeat of the lines changes it.
@@ -30,9 +31,12 @@ pub fn examples()
     ensures text { delta_text seat_given ≡ seat_given_text }
     ensures greater { joined_rows two_sites (seat_given ∷ (writer_waits ∷ [])) ≡ given_and_waiting }
     ensures either_order { joined_rows two_sites (writer_waits ∷ (seat_given ∷ [])) ≡ given_and_waiting }
-    ensures repeated { joined_rows (shape_of three_sites) (three_sent ∷ (two_sent ∷ (two_sent ∷ []))) ≡ three_sent.rows ++ silent_row ∷ [] }
-    ensures all_three { joined_rows (shape_of three_sites) (announced ∷ (two_sent ∷ (three_sent ∷ []))) ≡ book_rows three_sent_book }
-    ensures shown { snapshot_rows three_sent_book ≡ three_sent.rows }
+    ensures repeated { joined_rows (shape_of three_sites) (three_sent ∷ (two_sent ∷ (two_sent ∷ []))) ≡ three_sent.rows }
+    ensures all_three { joined_rows (shape_of three_sites) (announced ∷ (two_sent ∷ (three_sent ∷ []))) ≡ three_sent.rows }
+    ensures shown { all_moved (book_shape three_sent_book) (counter_of three_sent_book) ≡ three_sent.rows }
+    ensures narrower { joined_rows two_sites (record { from = 0; rows = told_alone ∷ [] } ∷ []) ≡ told_by_both ∷ [] }
+    ensures too_narrow { first_failing (is_placed two_sites) (told_alone ∷ (lacks_its_own ∷ [])) ≡ Some 1 }
+    ensures too_wide { first_failing (is_placed two_sites) (told_of_three ∷ []) ≡ Some 0 }
     ensures written { book_line three_sent_book ≡ three_sent_text ++ codes "\n" }
     ensures refused { refusal_text 2 (Unfit (OtherLayout 1)) ≡ codes "line 2 refused OtherLayout 1\n" }
     ensures many_sites { layout_fault 17 three_sites.records ≡ Some TooManySites }

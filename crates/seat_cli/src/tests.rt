@@ -100,7 +100,29 @@ fn three_messages_join_to_the_last(rt: HostRuntime) {
     }
 }
 
-const REFUSED_INPUTS: [(&str, &str, &str); 12] = [
+// A row of the first site, told before the second one came, and the same row at both sites.
+const TOLD_ALONE: &str =
+    "{\"from\":0,\"rows\":[{\"ann\":0,\"fin\":0,\"out\":[2],\"r\":0,\"s\":0,\"taken\":1}],\"v\":1}\n";
+
+const TOLD_BY_BOTH: &str =
+    "{\"from\":0,\"rows\":[{\"ann\":0,\"fin\":0,\"out\":[2,0],\"r\":0,\"s\":0,\"taken\":1}],\"v\":1}\n";
+
+#[test]
+fn a_row_of_fewer_sites_is_joined(rt: HostRuntime) {
+    let alloc = rt.alloc();
+    let layout = built_in(alloc).expect(&rt, "a layout");
+    assert!(rt;
+        is_answer(alloc, &layout, TOLD_ALONE, Status::Done, TOLD_BY_BOTH),
+        "{TOLD_ALONE}"
+    );
+}
+
+const REFUSED_INPUTS: [(&str, &str, &str); 13] = [
+    (
+        "",
+        "{\"from\":0,\"rows\":[{\"ann\":0,\"fin\":0,\"out\":[0],\"r\":0,\"s\":1,\"taken\":0}],\"v\":1}\n",
+        "line 1 refused OtherLayout 0\n",
+    ),
     (
         "",
         "{\"from\":0,\"rows\":[{\"ann\":0,\"fin\":0,\"out\":[1,0],\"r\":0,\"s\":0,\"taken\":0}],\"v\":1}\n",
