@@ -1,5 +1,5 @@
 -- A refusal is answered only where it is the reason.
-use Rattle.std.proofs.Common.{◌≡◌, true, false, Option, Some, None}
+use Rattle.std.proofs.Common.{◌≡◌, false, Option, Some, None}
 use Rattle.std.specs.Prelude.{is_none}
 use Rattle.admission_core.specs.declared.ask.Ask.{Ask}
 use Rattle.admission_core.specs.declared.ask.Ask.TheVariants.{Read, Announce, Quill, Leave, Give, Help}
