@@ -24,3 +24,4 @@ pub mod LawLemmas
 pub mod BookLemmas
 pub mod CellLemmas
 pub mod ChangeLemmas
+pub mod ReasonLemmas

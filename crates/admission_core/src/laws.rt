@@ -11,6 +11,7 @@ ghost use Rattle.admission_core.specs.declared.ask.Ask.TheVariants.{Read};
 ghost use Rattle.admission_core.specs.declared.ask.Call.{Call};
 ghost use Rattle.admission_core.specs.declared.ask.Phase.{Phase};
 ghost use Rattle.admission_core.specs.declared.ask.Call.TheVariants.{Ask as AskCall};
+ghost use Rattle.admission_core.specs.declared.reply.Refusal.{Refusal};
 ghost use Rattle.admission_core.specs.declared.reply.Refusal.TheVariants.{WriterAnnounced};
 ghost use Rattle.admission_core.specs.declared.reply.Reply.TheVariants.{Admitted, Refused};
 ghost use Rattle.admission_core.specs.declared.reply.Plan.{Plan};
@@ -92,6 +93,11 @@ pub fn durable_law()
     ensures kept_grown { (a : Account) → (n : ℕ) → KeepTheSame (durable_part (grown n a)) (durable_part a) }
     ensures resumed { (a : Account) → IsReached a → ShowTheSame (begin (resumed a.sites a)) (restarted a) }
     ensures resumed_grown { (a : Account) → IsReached a → (n : ℕ) → a.sites ≤ n → ShowTheSame (begin (resumed n a)) (grown n a) }
+{}
+
+/// A refusal is answered only where it is the reason.
+pub fn reason_law()
+    ensures { (v : View) → (call : Call) → (refusal : Refusal) → reply_of v call ≡ Refused refusal → reason v call ≡ Some refusal }
 {}
 
 /// What stands for an account answers as the account does, and two accounts that show the same show the same

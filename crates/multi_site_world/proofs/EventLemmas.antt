@@ -205,7 +205,7 @@ length-first_accounts first layout zero = refl
 length-first_accounts first layout (suc n) =
     omega (arith, length-append (first_accounts first layout n) (first_account first layout n ∷ []), length-first_accounts first layout n)
 
-account_in : (first : ℕ) (layout : LayoutState) (n i : ℕ) (d : Account) → i < n → get_or (first_accounts first layout n) i d ≡ first_account first layout i
+pub account_in : (first : ℕ) (layout : LayoutState) (n i : ℕ) (d : Account) → i < n → get_or (first_accounts first layout n) i d ≡ first_account first layout i
 account_in first layout zero i d below = absurd (omega arith)
 account_in first layout (suc n) i d below = at (cases_eq i n) (account_in first layout n i d)
   where
@@ -218,12 +218,12 @@ account_in first layout (suc n) i d below = at (cases_eq i n) (account_in first 
         get_or_append_left (first_accounts first layout n) (first_account first layout n ∷ []) d i (omega (arith, length-first_accounts first layout n)) ∙ earlier lower
 
 -- the layout that a site begins with: its site is there, and it has no more sites than the whole
-record IsFirst (layout : LayoutState) (i : ℕ) (l : LayoutState) : Type 0 where
+pub record IsFirst (layout : LayoutState) (i : ℕ) (l : LayoutState) : Type 0 where
   pub records : l.records ≡ layout.records
   pub site_there : i < l.sites
   pub few_sites : l.sites ≤ layout.sites
 
-is_first : (first : ℕ) (layout : LayoutState) (i : ℕ) → i < layout.sites → IsFirst layout i (first_layout first layout i)
+pub is_first : (first : ℕ) (layout : LayoutState) (i : ℕ) → i < layout.sites → IsFirst layout i (first_layout first layout i)
 is_first first layout i below =
     cond_both (ltb i first) (at_sites (min first layout.sites) layout) layout (IsFirst layout i)
     (λ e. record { records = refl; site_there = omega (arith, ltb-true i first e); few_sites = omega arith })

@@ -7,3 +7,4 @@ pub mod GatherLemmas
 pub mod GatherSteps
 pub mod GatherLaw
 pub mod InstanceLemmas
+pub mod ReachedLemmas

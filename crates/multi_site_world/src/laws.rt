@@ -14,6 +14,7 @@ ghost use Rattle.admission_core.specs.Account.{Account, begin, seats_in, session
 ghost use Rattle.admission_core.specs.Knowledge.{known};
 ghost use Rattle.admission_core.specs.View.{problem_in, view_of, rights_of};
 ghost use Rattle.admission_core.specs.Serving.{after, reply_of};
+ghost use Rattle.admission_core.specs.Reached.{IsReached};
 ghost use Rattle.admission_core.specs.Laws.{SameCounters, KnowsUnfinished, SourcesAgree, MayAsk, IsFirstUnfinished};
 ghost use Rattle.multi_site_world.specs.declared.event.Event.{Event};
 ghost use Rattle.multi_site_world.specs.declared.event.Event.TheVariants.{Call, Take, Thin};
@@ -28,6 +29,11 @@ ghost use Rattle.multi_site_world.specs.Examples.{small_layout, seats_at_home, s
 /// and the seats in flight, and no site has spent more than it gained.
 pub fn conservation_law()
     ensures { (w : World) → IsReachedWorld w → (r : ℕ) → IsConserved w r }
+{}
+
+/// Each account of a reached world is one that steps lead to: the laws of one site hold of it.
+pub fn account_law()
+    ensures { (w : World) → IsReachedWorld w → (i : ℕ) → i < w.layout.sites → IsReached (account_at w i) }
 {}
 
 /// A site that knows all sites merges every message that was sent, whole or thin, and every delta of rows that
