@@ -18,9 +18,9 @@ use Rattle.admission_core.proofs.CounterLemmas.{known_own}
 use Rattle.admission_core.proofs.LawLemmas.{sound_reached}
 use Rattle.admission_core.specs.View.{View, view_of, spent, gained, rights_of, shows_writer, first_unfinished}
 use Rattle.admission_core.specs.Books.{ShowsBook, HasBook}
-use Rattle.admission_core.proofs.SumLemmas.{total_same, total_others_same}
+use Rattle.merge_core.proofs.SumLemmas.{total_same, total_others_same}
 use Rattle.admission_core.proofs.LeastLemmas.{IsLeast, least_below-none, least_below-some, least_below-found}
-use Rattle.admission_core.proofs.ListSumLemmas.{total-list, total_others-list}
+use Rattle.merge_core.proofs.ListSumLemmas.{total-list, total_others-list}
 
 -- the layout of a view that shows a book has as many sites as the book ..
 pub layout_sites : (b : BookState) (v : View) → ShowsBook b v → v.layout.sites ≡ b.sites

@@ -12,7 +12,7 @@ use Rattle.admission_core.specs.Account.{Account, Operation, seats_in, own, rise
 use Rattle.admission_core.specs.Knowledge.{known, told}
 use Rattle.admission_core.specs.View.{view_of, gained, spent, rights_of}
 use Rattle.admission_core.specs.Sound.{IsBalanced}
-use Rattle.admission_core.proofs.SumLemmas.{total_split, total_others_same, total_others_add}
+use Rattle.merge_core.proofs.SumLemmas.{total_split, total_others_same, total_others_add}
 
 pub known_own : (a : Account) (r : ℕ) (cell : Cell) → known a r a.origin.site cell ≡ own a r cell
 known_own a r cell = cond-true (eqb a.origin.site a.origin.site) (own a r cell) (told a r a.origin.site cell) (eq-eqb a.origin.site a.origin.site refl)

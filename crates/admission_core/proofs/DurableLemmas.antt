@@ -13,7 +13,7 @@ use Rattle.admission_core.specs.View.{view_of, gained, spent}
 use Rattle.admission_core.specs.Sound.{IsBalanced, IsSound}
 use Rattle.admission_core.specs.Laws.{ShowTheSame, KeepTheSame}
 use Rattle.merge_core.specs.Sums.{total_others}
-use Rattle.admission_core.proofs.SumLemmas.{total_others_same}
+use Rattle.merge_core.proofs.SumLemmas.{total_others_same}
 use Rattle.admission_core.proofs.KeyLemmas.{is_key-true}
 use Rattle.admission_core.proofs.CounterLemmas.{known_own, known_other, gained_own, spent_own}
 use Rattle.admission_core.proofs.RowLemmas.{FitsRow-along}

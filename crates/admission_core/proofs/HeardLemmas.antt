@@ -16,7 +16,8 @@ use Rattle.admission_core.specs.View.{view_of, gained, spent, rights_of}
 use Rattle.merge_core.specs.Tests.{is_placed, is_valid}
 use Rattle.admission_core.specs.Merging.{first_ahead, tells_too_much}
 use Rattle.admission_core.specs.Sound.{FitsRow, IsSound}
-use Rattle.admission_core.proofs.SumLemmas.{total_le, total_others_same, total_others_more}
+use Rattle.merge_core.proofs.SumLemmas.{total_le, total_others_same}
+use Rattle.admission_core.proofs.SumLemmas.{total_others_more}
 use Rattle.admission_core.proofs.CounterLemmas.{known_own, known_other, gained_own, spent_own}
 use Rattle.admission_core.proofs.RowLemmas.{AllPass, FitsRow-along, FitsRow-max, FitsRow-shown, start_below, start_diagonal, start_elsewhere, shown_past_records, shown_past_rows, shown_past_sites, shown_same, records_number, number_of_cells-zero}
 use Rattle.admission_core.proofs.LeastLemmas.{least_below-none}

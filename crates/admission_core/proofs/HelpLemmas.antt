@@ -16,7 +16,7 @@ use Rattle.admission_core.specs.Replies.{Line, line, no_record_there, planned, h
 use Rattle.admission_core.specs.Serving.{reason, reply_of, answer, replied, advanced, unless_refused, after}
 use Rattle.admission_core.specs.Sound.{IsSound}
 use Rattle.admission_core.specs.Laws.{IsFirstUnfinished}
-use Rattle.admission_core.proofs.SumLemmas.{total_others_only}
+use Rattle.merge_core.proofs.SumLemmas.{total_others_only}
 use Rattle.admission_core.proofs.CounterLemmas.{does, Raises, own_here, gained_step, spent_step}
 use Rattle.admission_core.proofs.ServingLemmas.{first_reason-none}
 use Rattle.admission_core.proofs.ReaderLemmas.{reason_behind, found}

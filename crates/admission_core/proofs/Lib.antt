@@ -19,7 +19,6 @@ pub mod ReaderLemmas
 pub mod SnapshotLemmas
 pub mod ThinLemmas
 pub mod HelpLemmas
-pub mod ListSumLemmas
 pub mod LawLemmas
 pub mod BookLemmas
 pub mod CellLemmas

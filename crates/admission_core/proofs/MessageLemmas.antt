@@ -18,7 +18,7 @@ use Rattle.admission_core.specs.Merging.{tells_too_much}
 use Rattle.admission_core.specs.Replies.{merge_lines}
 use Rattle.admission_core.specs.Serving.{reason}
 use Rattle.admission_core.specs.Sound.{FitsRow}
-use Rattle.admission_core.proofs.SumLemmas.{total_zero}
+use Rattle.merge_core.proofs.SumLemmas.{total_zero}
 use Rattle.admission_core.proofs.RowLemmas.{AllPass, first_failing-none}
 use Rattle.admission_core.proofs.ServingLemmas.{first_reason-none}
 

@@ -15,7 +15,7 @@ use Rattle.admission_core.specs.View.{View, problem_in, gained, spent, rights_of
 use Rattle.admission_core.specs.Replies.{Line, line, first_reason, holder_limit, no_record_there, must_wait, read_lines}
 use Rattle.admission_core.specs.Serving.{reply_of, replied}
 use Rattle.admission_core.specs.Laws.{IsFirstUnfinished, MayAsk, DifferInNotices}
-use Rattle.admission_core.proofs.SumLemmas.{total_same, total_others_same}
+use Rattle.merge_core.proofs.SumLemmas.{total_same, total_others_same}
 use Rattle.admission_core.proofs.LeastLemmas.{least_below-found}
 use Rattle.admission_core.proofs.ServingLemmas.{Clear}
 

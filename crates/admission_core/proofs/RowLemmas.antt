@@ -14,7 +14,7 @@ use Rattle.merge_core.specs.Naming.{shown_by}
 use Rattle.merge_core.specs.Sums.{one_if, number_of_cells}
 use Rattle.merge_core.specs.Tests.{is_placed, is_valid, overfull, first_failing}
 use Rattle.admission_core.specs.Sound.{FitsRow}
-use Rattle.admission_core.proofs.SumLemmas.{total_member}
+use Rattle.merge_core.proofs.SumLemmas.{total_member}
 
 pub FitsRow-along : (granted s : ℕ) (f g : Cell → ℕ) → ((cell : Cell) → g cell ≡ f cell) → FitsRow granted s f → FitsRow granted s g
 FitsRow-along granted s f g same fits = record {

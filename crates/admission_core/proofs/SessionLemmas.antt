@@ -4,7 +4,7 @@ use Rattle.std.proofs.lemmas.Bool.{eq-eqb, cond-true, cond-false, cases_Bool, an
 use Rattle.admission_core.specs.declared.ask.Phase.{Phase}
 use Rattle.admission_core.specs.Account.{Key, Session, is_key, without, with_phase, present, on_phase, session_total, occurs}
 use Rattle.admission_core.specs.Replies.{holder_limit}
-use Rattle.admission_core.proofs.SumLemmas.{eqb_comm}
+use Rattle.merge_core.proofs.SumLemmas.{eqb_comm}
 use Rattle.admission_core.proofs.KeyLemmas.{keys_total, AgreeBut, is_key-true, keys_listed, keys_without, keys_push}
 
 pub is_key-refl : (r h : ℕ) → is_key r h r h ≡ true

@@ -11,7 +11,7 @@ use Rattle.merge_core.specs.Rows.{grant, start_counter, no_record}
 use Rattle.merge_core.specs.Sums.{total}
 use Rattle.admission_core.specs.Account.{start_origin, begin, seats_in}
 use Rattle.admission_core.specs.Sound.{IsSound}
-use Rattle.admission_core.proofs.SumLemmas.{total_only, total_others_same, total_others_zero}
+use Rattle.merge_core.proofs.SumLemmas.{total_only, total_others_same, total_others_zero}
 use Rattle.admission_core.proofs.CounterLemmas.{spent_own}
 use Rattle.admission_core.proofs.RowLemmas.{FitsRow-start, start_diagonal, start_elsewhere}
 use Rattle.admission_core.proofs.HeardLemmas.{FitsRow-kept, kept_yes, kept_row, kept_most}

@@ -11,7 +11,7 @@ use Rattle.merge_core.specs.Sums.{total_others}
 use Rattle.admission_core.specs.Account.{Account, Operation, EnteredRead, AnnouncedWriter, EnteredWrite, LeftRecord, GaveSeats, seats_in, own, record_of, phase_of, arrivals, sessions_of, session_total, weight, writers, on_phase}
 use Rattle.admission_core.specs.View.{view_of, rights_of}
 use Rattle.admission_core.specs.Sound.{IsBalanced, IsSound}
-use Rattle.admission_core.proofs.SumLemmas.{total_others_zero, total_others_only, total_others_same}
+use Rattle.merge_core.proofs.SumLemmas.{total_others_zero, total_others_only, total_others_same}
 use Rattle.admission_core.proofs.SessionLemmas.{session_arrives, session_changes, IsListed, IsListed-arrives, IsListed-changes, IsAmong, IsAmong-changes, AreHolders, AreHolders-changes}
 use Rattle.admission_core.proofs.CounterLemmas.{does, Raises, Raises-elsewhere, own_here, balance_step}
 

@@ -16,7 +16,8 @@ use Rattle.merge_core.specs.Changes.{keeps_counter}
 use Rattle.admission_core.specs.Knowledge.{told_after, told, known}
 use Rattle.admission_core.specs.View.{view_of, rights_of}
 use Rattle.admission_core.specs.Sound.{FitsRow, IsSound}
-use Rattle.admission_core.proofs.SumLemmas.{total_same, total_add, total_member, total_two, total_others_same, total_others_add, total_others-swap, total_others_more}
+use Rattle.merge_core.proofs.SumLemmas.{total_same, total_add, total_member, total_two, total_others_same, total_others_add, total_others-swap}
+use Rattle.admission_core.proofs.SumLemmas.{total_others_more}
 use Rattle.admission_core.proofs.SessionLemmas.{adds, sessions-keys, keys_member, keys_two}
 use Rattle.admission_core.proofs.CounterLemmas.{known_other}
 use Rattle.admission_core.proofs.RowLemmas.{shown_as, shown_same, start_below, start_elsewhere}

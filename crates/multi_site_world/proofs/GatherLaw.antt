@@ -8,7 +8,7 @@ use Rattle.merge_core.specs.Sums.{total_others}
 use Rattle.admission_core.specs.Account.{Account, Key, seats_in, own, inside, phase_of, arrivals, weight, on_phase}
 use Rattle.admission_core.specs.Knowledge.{known}
 use Rattle.admission_core.specs.View.{view_of, rights_of}
-use Rattle.admission_core.proofs.SumLemmas.{total_member}
+use Rattle.merge_core.proofs.SumLemmas.{total_member}
 use Rattle.admission_core.proofs.KeyLemmas.{keys_total}
 use Rattle.admission_core.proofs.SessionLemmas.{adds, sessions-keys}
 use Rattle.multi_site_world.specs.World.{World, account_at, run, replies}

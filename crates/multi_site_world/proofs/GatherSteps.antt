@@ -20,7 +20,7 @@ use Rattle.admission_core.specs.Serving.{reply_of}
 use Rattle.admission_core.specs.Merging.{snapshot_of}
 use Rattle.admission_core.specs.Laws.{IsFirstUnfinished}
 use Rattle.admission_core.proofs.HelpLemmas.{help_reply}
-use Rattle.admission_core.proofs.SumLemmas.{total_zero, total_split}
+use Rattle.merge_core.proofs.SumLemmas.{total_zero, total_split}
 use Rattle.admission_core.proofs.CounterLemmas.{known_own, known_other}
 use Rattle.multi_site_world.specs.declared.event.Event.TheVariants.{Call, Send, Take}
 use Rattle.multi_site_world.specs.declared.event.WorldReply.{WorldReply}
