@@ -3,12 +3,12 @@ use Rattle.std.specs.Prelude.{◌≡◌, ◌⊎◌, ℕ, List, [], Result, Ok, E
 use Rattle.merge_core.specs.Layout.{LayoutState, shape_of}
 use Rattle.text_input.specs.Source.{HasFault, SourceState}
 use Rattle.text_input.specs.Sink.{Prints, SinkState}
-use Rattle.clap.specs.Words.{Text, HasKind, IsAmong}
+use Rattle.clap.specs.Words.{Text, IsAmong}
 use Rattle.clap.specs.declared.error.ErrorKind.{ErrorKind}
 use Rattle.clap.specs.declared.error.ErrorKind.TheVariants.{OutOfMemory, DisplayHelp, DisplayVersion}
 use Rattle.seat_cli.specs.declared.layout_file.LayoutFault.{LayoutFault}
 use Rattle.seat_cli.specs.declared.status.Status.{Status}
-use Rattle.seat_cli.specs.declared.status.Status.TheVariants.{Done, Usage, Memory, Io}
+use Rattle.seat_cli.specs.declared.status.Status.TheVariants.{Done, Memory, Io}
 use Rattle.seat_cli.specs.Arguments.{asked_layout, usage_errors}
 use Rattle.seat_cli.specs.Endings.{EndsWith, without_layout}
 use Rattle.seat_cli.specs.Engine.{EndsJoin}

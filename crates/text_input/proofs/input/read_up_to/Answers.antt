@@ -1,4 +1,4 @@
-use Rattle.std.proofs.Common.{rules, ◌≡◌, ◌+◌, ◌∙◌, ◌++◌, inl, inr, sym, subst, take, ap}
+use Rattle.std.proofs.Common.{rules, ◌≡◌, ◌+◌, ◌∙◌, ◌++◌, inl, sym, subst, take}
 use Rattle.std.specs.Io.KnownBytes.{Consumes}
 use Rattle.text_input.specs.Input.{Loses}
 use Rattle.text_input.proofs.InputLemmas.{lost_at_end, lost_more, lost_no_more, read_failed}
