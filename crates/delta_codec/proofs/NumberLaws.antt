@@ -43,6 +43,14 @@ goes_on first n i more bytes inside digit room so_far =
     let one : digits_at n (drop i bytes) ≡ digits_at more (drop (i + 1) bytes) = step n i bytes inside ∙ rw digit (parts.0 ∙ ap (λ (k : ℕ). digits_at k (drop (i + 1) bytes)) (sym parts.1)) in
     sym one ∙ so_far
 
+-- a digit more, where there is room for any
+pub goes_on_below : (first n i : ℕ) (bytes : List ℕ) → i < length bytes → n < 1844674407370955161 → is_ascii_digit (get_or bytes i 0) ≡ true → digits_at n (drop i bytes) ≡ digits_at first bytes → digits_at (n * 10 + (get_or bytes i 0 - 48)) (drop (i + 1) bytes) ≡ digits_at first bytes
+goes_on_below first n i bytes inside room digit so_far =
+    let most : get_or bytes i 0 ≤ 57 = grind (arith, nat_tests) in
+    let below : ltb (n * 10 + (get_or bytes i 0 - 48)) (2 ^ 64) ≡ true = lt-ltb _ _ (omega (arith, room, most)) in
+    let one : digits_at n (drop i bytes) ≡ digits_at (n * 10 + (get_or bytes i 0 - 48)) (drop (i + 1) bytes) = step n i bytes inside ∙ rw (digit, below) refl in
+    sym one ∙ so_far
+
 -- no byte is left
 pub ends : (first n i : ℕ) (bytes : List ℕ) → length bytes ≤ i → digits_at n (drop i bytes) ≡ digits_at first bytes → digits_at first bytes ≡ Some (n, take (length bytes - length bytes) (drop (length bytes) bytes))
 unfolding digits_at
@@ -50,28 +58,6 @@ ends first n i bytes past so_far =
     let all : digits_at n (drop i bytes) ≡ Some (n, []) = at_drop_all (digits_at n) bytes i past in
     let rest : take (length bytes - length bytes) (drop (length bytes) bytes) ≡ [] = take_rest bytes (length bytes) ∙ drop_all (length bytes) bytes (omega arith) in
     sym so_far ∙ all ∙ ap (λ (xs : List ℕ). Some (n, xs)) (sym rest)
-
--- ---- four digits at once
-
-digit_more : (n b : ℕ) (bs : List ℕ) → is_ascii_digit b ≡ true → n * 10 + (b - 48) < 2 ^ 64 → digits_at n (b ∷ bs) ≡ digits_at (n * 10 + (b - 48)) bs
-unfolding digits_at
-digit_more n b bs digit fits =
-    let room : ltb (n * 10 + (b - 48)) (2 ^ 64) ≡ true = lt-ltb _ _ fits in
-    rw (digit, room) refl
-
-pub four_more : (bytes : List ℕ) (w x y z n : ℕ) → 4 ≤ length bytes → is_ascii_digit (get_or bytes 0 0) ≡ true → is_ascii_digit (get_or bytes 1 0) ≡ true → is_ascii_digit (get_or bytes 2 0) ≡ true → is_ascii_digit (get_or bytes 3 0) ≡ true → w ≡ get_or bytes 0 0 - 48 → x ≡ get_or bytes 1 0 - 48 → y ≡ get_or bytes 2 0 - 48 → z ≡ get_or bytes 3 0 - 48 → n * 10000 + ((w * 10 + x) * 100 + (y * 10 + z)) < 2 ^ 64 → digits_at n bytes ≡ digits_at (n * 10000 + ((w * 10 + x) * 100 + (y * 10 + z))) (take (length bytes - 4) (drop 4 bytes))
-four_more [] w x y z n long da db dc dd vw vx vy vz fits = absurd (omega arith)
-four_more (a ∷ []) w x y z n long da db dc dd vw vx vy vz fits = absurd (omega arith)
-four_more (a ∷ b ∷ []) w x y z n long da db dc dd vw vx vy vz fits = absurd (omega arith)
-four_more (a ∷ b ∷ c ∷ []) w x y z n long da db dc dd vw vx vy vz fits = absurd (omega arith)
-four_more (a ∷ b ∷ c ∷ d ∷ rest) w x y z n long da db dc dd vw vx vy vz fits =
-    let first = digit_more n a (b ∷ c ∷ d ∷ rest) da (omega arith) in
-    let second = digit_more (n * 10 + (a - 48)) b (c ∷ d ∷ rest) db (omega arith) in
-    let third = digit_more ((n * 10 + (a - 48)) * 10 + (b - 48)) c (d ∷ rest) dc (omega arith) in
-    let fourth = digit_more (((n * 10 + (a - 48)) * 10 + (b - 48)) * 10 + (c - 48)) d rest dd (omega arith) in
-    let sum : (((n * 10 + (a - 48)) * 10 + (b - 48)) * 10 + (c - 48)) * 10 + (d - 48) ≡ n * 10000 + ((w * 10 + x) * 100 + (y * 10 + z)) = omega arith in
-    let behind : take (length (a ∷ b ∷ c ∷ d ∷ rest) - 4) (drop 4 (a ∷ b ∷ c ∷ d ∷ rest)) ≡ rest = take_rest (a ∷ b ∷ c ∷ d ∷ rest) 4 in
-    first ∙ second ∙ third ∙ fourth ∙ rw (sum, behind) refl
 
 -- ---- exactly a number's own text is taken
 

@@ -1,37 +1,11 @@
 //! Numbers in decimal digits, without a sign or a leading zero.
-ghost use Rattle.std.specs.Prelude.{ℕ, length, IsTrue, IfSome, ◌≡◌, ◌+◌, ◌-◌, ◌*◌, ◌^◌, ◌<◌, ◌≤◌, nat_lt, if◌then◌else◌, Option, Some, None};
-ghost use Rattle.std.specs.Char.{is_ascii_digit};
+ghost use Rattle.std.specs.Prelude.{◌≡◌, ◌+◌, ◌-◌, ◌*◌, ◌^◌, ◌<◌, ◌≤◌, nat_lt, if◌then◌else◌, Option, Some, None};
 ghost use Rattle.delta_codec.specs.Readers.{Gives, digits_at, number_at, short_at};
 
 use crate::unread::Unread;
 
-// Up to this number there is room for any four further digits.
-const ROOM_FOR_FOUR: u64 = u64::MAX / 10_000 - 1;
-
-fn value(digit: u8) -> u64
-    requires { IsTrue (is_ascii_digit digit) }
-    ensures { result ≡ digit - 48 }
-{
-    u64::from(digit - b'0')
-}
-
-// The four digits at the front as a number, and the bytes behind them: no digit waits for the one before it.
-fn four_at(bytes: &[u8]) -> Option<(u64, &[u8])>
-    ensures shorter { IfSome result (λ x. length x.1.now < length bytes.now) }
-    ensures below { IfSome result (λ x. x.0 < 10000) }
-    ensures goes_on { IfSome result (λ x. (n : ℕ) → n * 10000 + x.0 < 2 ^ 64
-        → digits_at n bytes.now ≡ digits_at (n * 10000 + x.0) x.1.now) }
-{
-    let [a, b, c, d, rest @ ..] = bytes else {
-        return None;
-    };
-    if a.is_ascii_digit() && b.is_ascii_digit() && c.is_ascii_digit() && d.is_ascii_digit() {
-        let high = value(*a) * 10 + value(*b);
-        let low = value(*c) * 10 + value(*d);
-        return Some((high * 100 + low, rest));
-    }
-    None
-}
+// Below this number there is room for any further digit.
+const MOST_TENS: u64 = u64::MAX / 10;
 
 fn with_digit(number: u64, digit: u8) -> Option<u64>
     requires { digit < 10 }
@@ -40,7 +14,8 @@ fn with_digit(number: u64, digit: u8) -> Option<u64>
     number.checked_mul(10)?.checked_add(u64::from(digit))
 }
 
-// The digits one by one.
+// The digits behind so great a number that one may find no room.
+#[cold]
 fn last_digits(first: u64, bytes: &[u8]) -> Result<(u64, &[u8]), Unread>
     ensures { Gives (λ x. (x.0, x.1.now)) result (digits_at first bytes.now) }
 {
@@ -58,20 +33,22 @@ fn last_digits(first: u64, bytes: &[u8]) -> Result<(u64, &[u8]), Unread>
     Ok((number, &bytes[bytes.len()..]))
 }
 
-// The digits, four at a time as long as there are four and room for them.
+// The digits as long as there is room for any further one, which nearly all numbers keep to the end.
 fn digits(first: u64, bytes: &[u8]) -> Result<(u64, &[u8]), Unread>
     ensures { Gives (λ x. (x.0, x.1.now)) result (digits_at first bytes.now) }
 {
     let mut number = first;
-    let mut rest = bytes;
-    while number <= ROOM_FOR_FOUR {
-        let Some((four, behind)) = four_at(rest) else {
-            return last_digits(number, rest);
-        };
-        number = number * 10_000 + four;
-        rest = behind;
+    for i in 0..bytes.len() {
+        let byte = bytes[i];
+        if !byte.is_ascii_digit() {
+            return Ok((number, &bytes[i..]));
+        }
+        if number >= MOST_TENS {
+            return last_digits(number, &bytes[i..]);
+        }
+        number = number * 10 + u64::from(byte - b'0');
     }
-    last_digits(number, rest)
+    Ok((number, &bytes[bytes.len()..]))
 }
 
 /// The number at the front and the bytes behind it. Refused from 2^64 on.

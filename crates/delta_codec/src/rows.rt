@@ -8,8 +8,13 @@ use crate::literals::after;
 use crate::numbers::{number_at, short_at};
 use crate::unread::Unread;
 use grow_counters::Counts;
-use merge_core::Row;
+use merge_core::{MOST_RECORDS, MOST_SITES, Row};
 use std::alloc::Global;
+
+// Behind the first counter of a row there are at most so many, and behind the first row of a delta.
+const MORE_COUNTERS: u16 = MOST_SITES - 1;
+
+const MORE_ROWS: u16 = MOST_SITES * MOST_RECORDS as u16 - 1;
 
 #[tactic(auto, unfolding(crate::specs::DeltaReaders::number_behind))]
 fn number_behind<'a>(literal: &[u8], bytes: &'a [u8]) -> Result<(u64, &'a [u8]), Unread>
@@ -33,7 +38,7 @@ fn numbers_behind<'a>(
 ) -> Result<(Vec<u64>, &'a [u8]), Unread>
     ensures { Gives (λ x. (x.0.items, x.1.now)) result (numbers_behind literal.now bytes.now) }
 {
-    joined_at(alloc, 15, after(literal, bytes)?)
+    joined_at(alloc, MORE_COUNTERS, after(literal, bytes)?)
 }
 
 #[tactic(auto, unfolding(crate::specs::DeltaReaders::row_at))]
@@ -77,6 +82,6 @@ pub fn rows_at(alloc: Global, bytes: &[u8]) -> Result<(Vec<Row>, &[u8]), Unread>
     match bytes {
         [] => Err(Unread::Refused),
         [b']', ..] => Ok((Vec::new(alloc), bytes)),
-        [_, ..] => joined_at(alloc, 4095, bytes),
+        [_, ..] => joined_at(alloc, MORE_ROWS, bytes),
     }
 }

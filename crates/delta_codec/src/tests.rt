@@ -1,7 +1,7 @@
-//! Worked texts and faults, and a plain reading that goes by way of a JSON tree.
+//! Worked texts and faults, texts at the limits, and a plain reading that goes by way of a JSON tree.
 use crate::laws::text_laws;
-use crate::{TEXT_LIMIT, decode, encode};
-use grow_counters::Counts;
+use crate::{DecodeError, TEXT_LIMIT, decode, encode};
+use grow_counters::{COUNTER_LIMIT, Counts};
 use merge_core::{Delta, Row};
 use serde_json::Value;
 use std::alloc::{AllocError, Global};
@@ -14,7 +14,52 @@ const ONE_ROW: &str =
 
 const SAME_ROW_AGAIN: &str = "},{\"ann\":0,\"fin\":0,\"out\":[2,1],\"r\":0,\"s\":0,\"taken\":0}]";
 
-const MOST: u64 = u64::MAX;
+// A text, a piece of it, what that is replaced by, and the fault that is told then.
+type Change = (&'static str, &'static str, &'static str, &'static str);
+
+const CHANGES: [Change; 14] = [
+    (NO_ROWS, "0", "16", "NotCanonical"),
+    (
+        NO_ROWS,
+        "\"from\":0",
+        "\"from\":0,\"from\":0",
+        "NotCanonical",
+    ),
+    (NO_ROWS, "\"v\":1", "\"v\":2", "NotCanonical"),
+    (NO_ROWS, "1}", "1} ", "NotCanonical"),
+    (ONE_ROW, ",", ", ", "NotCanonical"),
+    (ONE_ROW, "[2,1]", "[2,01]", "NotJson"),
+    (ONE_ROW, "[2,1]", "[]", "NotCanonical"),
+    (ONE_ROW, "[2,1]", "[18446744073709551616,1]", "NotCanonical"),
+    (ONE_ROW, "[2,1]", "[1e999,1]", "NotJson"),
+    (
+        ONE_ROW,
+        "[2,1]",
+        "[2,1,0,0,0,0,0,0,0,0,0,0,0,0,0,0,0]",
+        "NotCanonical",
+    ),
+    (ONE_ROW, "\"r\":0", "\"r\":256", "NotCanonical"),
+    (ONE_ROW, "\"r\":0", "\"r\":65536", "NotCanonical"),
+    (
+        ONE_ROW,
+        "\"ann\":0,\"fin\":0",
+        "\"fin\":0,\"ann\":0",
+        "NotCanonical",
+    ),
+    (ONE_ROW, "}]", SAME_ROW_AGAIN, "NotCanonical"),
+];
+
+// What each fault prints.
+const PRINTED: [(DecodeError, &str); 5] = [
+    (DecodeError::TooLong, "the text is too long"),
+    (DecodeError::NotUtf8, "the text is not UTF-8"),
+    (DecodeError::NotJson, "the text is not JSON"),
+    (
+        DecodeError::NotCanonical,
+        "the text is not the canonical text of a delta",
+    ),
+    (DecodeError::Memory, "out of memory"),
+];
 
 // The text of the delta that the bytes are read as, or the name of the fault.
 fn answer(alloc: Global, bytes: &[u8]) -> Result<String, AllocError> {
@@ -93,26 +138,72 @@ fn plain_answer(alloc: Global, bytes: &[u8]) -> Result<String, AllocError> {
     String::from_str(alloc, "NotCanonical")
 }
 
-fn greatest_row(alloc: Global, r: u16, s: u16) -> Result<Row, AllocError> {
-    let out = Counts::from_vec(vec![in alloc; MOST; 16]?);
+fn full_row(alloc: Global, r: u16, s: u16, most: u64) -> Result<Row, AllocError> {
+    let out = Counts::from_vec(vec![in alloc; most; 16]?);
     Ok(Row {
         r,
         s,
         out,
-        taken: MOST,
-        ann: MOST,
-        fin: MOST,
+        taken: most,
+        ann: most,
+        fin: most,
     })
 }
 
-fn greatest_delta(alloc: Global) -> Result<Option<Delta>, AllocError> {
+// A row of each of 16 sites for each of 256 records, all of whose counters are the same.
+fn full_delta(alloc: Global, most: u64) -> Result<Option<Delta>, AllocError> {
     let mut rows = Vec::new(alloc);
     for r in 0..256u16 {
         for s in 0..16u16 {
-            rows.push(greatest_row(alloc, r, s)?)?;
+            rows.push(full_row(alloc, r, s, most)?)?;
         }
     }
     Ok(Delta::new(15, rows).ok())
+}
+
+fn is_full(row: &Row, most: u64) -> bool {
+    if row.taken != most || row.ann != most || row.fin != most || row.out.len() != 16 {
+        return false;
+    }
+    for counter in row.out.as_slice() {
+        if *counter != most {
+            return false;
+        }
+    }
+    true
+}
+
+// How many rows from the front on are those of the full delta.
+fn full_rows(delta: &Delta, most: u64) -> usize {
+    let mut at = 0usize;
+    for row in delta.rows() {
+        if at >= 4096
+            || usize::from(row.r) != at / 16
+            || usize::from(row.s) != at % 16
+            || !is_full(row, most)
+        {
+            return at;
+        }
+        at += 1;
+    }
+    at
+}
+
+// The length of the full delta's text, and how many of its rows are read back from it.
+fn there_and_back(alloc: Global, most: u64) -> Result<Option<(usize, usize)>, AllocError> {
+    let Some(delta) = full_delta(alloc, most)? else {
+        return Ok(None);
+    };
+    let text = encode(alloc, &delta)?;
+    match decode(alloc, text.as_bytes()) {
+        Ok(read) => Ok(Some((text.len(), full_rows(&read, most)))),
+        Err(_) => Ok(None),
+    }
+}
+
+// What is told of so many opening brackets.
+fn brackets(alloc: Global, count: usize) -> Result<String, AllocError> {
+    answer(alloc, &vec![in alloc; b'['; count]?)
 }
 
 #[test]
@@ -127,64 +218,44 @@ fn texts_are_read_and_written(rt: HostRuntime) -> Result<(), Fail> {
         "\"taken\":0",
         "\"taken\":18446744073709551615",
     )?;
-    for text in [NO_ROWS, ONE_ROW, three.as_str(), most.as_str()] {
-        assert!(rt; answer(alloc, text.as_bytes())?.as_str() == text, "{text}");
-        assert!(rt;
-            plain_answer(alloc, text.as_bytes())?.as_str() == text,
-            "{text} by a tree"
-        );
+    let long = changed(alloc, ONE_ROW, "[2,1]", "[12345678,1234567890123]")?;
+    for text in [
+        NO_ROWS,
+        ONE_ROW,
+        three.as_str(),
+        most.as_str(),
+        long.as_str(),
+    ] {
+        assert_eq!(rt; answer(alloc, text.as_bytes())?.as_str(), text);
+        assert_eq!(rt; plain_answer(alloc, text.as_bytes())?.as_str(), text);
     }
+    Ok(())
+}
+
+#[test]
+fn deltas_at_the_limits_are_read_and_written(rt: HostRuntime) -> Result<(), Fail> {
+    let alloc = rt.alloc();
     text_laws();
-    let delta = greatest_delta(alloc)?.ok_or("a delta")?;
-    let text = encode(alloc, &delta)?;
-    assert!(rt; text.len() < TEXT_LIMIT);
-    assert!(rt; answer(alloc, text.as_bytes())?.as_str() == text.as_str());
+    assert_eq!(rt; there_and_back(alloc, u64::MAX)?, Some((1_814_330, 4096)));
+    assert_eq!(rt;
+        there_and_back(alloc, COUNTER_LIMIT)?,
+        Some((1_269_562, 4096))
+    );
+    assert_eq!(rt; brackets(alloc, TEXT_LIMIT)?.as_str(), "NotJson");
+    assert_eq!(rt; brackets(alloc, TEXT_LIMIT + 1)?.as_str(), "TooLong");
+    assert_eq!(rt; brackets(alloc, TEXT_LIMIT + 2)?.as_str(), "TooLong");
     Ok(())
 }
 
 #[test]
 fn a_changed_text_is_refused(rt: HostRuntime) -> Result<(), Fail> {
     let alloc = rt.alloc();
-    for (text, old, new, fault) in [
-        (NO_ROWS, "0", "16", "NotCanonical"),
-        (
-            NO_ROWS,
-            "\"from\":0",
-            "\"from\":0,\"from\":0",
-            "NotCanonical",
-        ),
-        (NO_ROWS, "\"v\":1", "\"v\":2", "NotCanonical"),
-        (NO_ROWS, "1}", "1} ", "NotCanonical"),
-        (ONE_ROW, ",", ", ", "NotCanonical"),
-        (ONE_ROW, "[2,1]", "[2,01]", "NotJson"),
-        (ONE_ROW, "[2,1]", "[]", "NotCanonical"),
-        (ONE_ROW, "[2,1]", "[18446744073709551616,1]", "NotCanonical"),
-        (ONE_ROW, "[2,1]", "[1e999,1]", "NotJson"),
-        (
-            ONE_ROW,
-            "[2,1]",
-            "[2,1,0,0,0,0,0,0,0,0,0,0,0,0,0,0,0]",
-            "NotCanonical",
-        ),
-        (ONE_ROW, "\"r\":0", "\"r\":256", "NotCanonical"),
-        (ONE_ROW, "\"r\":0", "\"r\":65536", "NotCanonical"),
-        (
-            ONE_ROW,
-            "\"ann\":0,\"fin\":0",
-            "\"fin\":0,\"ann\":0",
-            "NotCanonical",
-        ),
-        (ONE_ROW, "}]", SAME_ROW_AGAIN, "NotCanonical"),
-    ] {
+    for (text, old, new, fault) in CHANGES {
         let text = changed(alloc, text, old, new)?;
-        assert!(rt;
-            answer(alloc, text.as_bytes())?.as_str() == fault,
-            "{old} to {new}"
-        );
-        assert!(rt;
-            plain_answer(alloc, text.as_bytes())?.as_str() == fault,
-            "{old} to {new}"
-        );
+        let read = answer(alloc, text.as_bytes())?;
+        let plain = plain_answer(alloc, text.as_bytes())?;
+        assert_eq!(rt; (new, read.as_str()), (new, fault));
+        assert_eq!(rt; (new, plain.as_str()), (new, fault));
     }
     Ok(())
 }
@@ -194,18 +265,20 @@ fn other_inputs_are_refused(rt: HostRuntime) -> Result<(), Fail> {
     let alloc = rt.alloc();
     let mut deep = vec![in alloc; b'['; 200]?;
     deep.extend_from_slice(&[b']'; 200])?;
-    assert!(rt; answer(alloc, &deep)?.as_str() == "NotJson");
-    assert!(rt; answer(alloc, b"{}")?.as_str() == "NotCanonical");
-    assert!(rt; answer(alloc, &[255])?.as_str() == "NotUtf8");
-    let mut long = vec![in alloc; b'['; TEXT_LIMIT]?;
-    assert!(rt; answer(alloc, &long)?.as_str() == "NotJson");
-    long.push(b'[')?;
-    assert!(rt; answer(alloc, &long)?.as_str() == "TooLong");
+    assert_eq!(rt; answer(alloc, &deep)?.as_str(), "NotJson");
+    assert_eq!(rt; answer(alloc, b"{}")?.as_str(), "NotCanonical");
+    assert_eq!(rt; answer(alloc, &[255])?.as_str(), "NotUtf8");
     for end in 0..ONE_ROW.len() {
-        assert!(rt;
-            answer(alloc, &ONE_ROW.as_bytes()[..end])?.as_str() == "NotJson",
-            "{end}"
-        );
+        let read = answer(alloc, &ONE_ROW.as_bytes()[..end])?;
+        assert_eq!(rt; (end, read.as_str()), (end, "NotJson"));
+    }
+    Ok(())
+}
+
+#[test]
+fn a_fault_is_printed(rt: HostRuntime) -> Result<(), Fail> {
+    for (fault, text) in PRINTED {
+        assert_eq!(rt; format!(in rt.alloc(); "{fault}")?.as_str(), text);
     }
     Ok(())
 }
@@ -221,7 +294,7 @@ fn a_tree_gives_the_same_answers(rt: HostRuntime) -> Result<(), Fail> {
                 text[i] = byte;
                 let read = answer(alloc, &text)?;
                 let plain = plain_answer(alloc, &text)?;
-                assert!(rt; read.as_str() == plain.as_str(), "{i} {byte}");
+                assert_eq!(rt; (i, byte, read.as_str()), (i, byte, plain.as_str()));
                 text[i] = kept;
             }
         }
