@@ -73,7 +73,7 @@ impl Book {
         ensures records { result ≡ length self.now.records }
         ensures book { IsBook self.now }
     {
-        let _ = &self.sites;
+        let _ = &self.sites; // tells the invariant: at most 256 records
         self.records.len() as u16
     }
 

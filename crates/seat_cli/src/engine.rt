@@ -45,7 +45,7 @@ fn answer_input<W: Write>(
 {
     match joined_book(alloc, layout, input) {
         Ok(book) => {
-            let _sites = layout.sites();
+            let _sites = layout.sites(); // tells that the layout is one
             let Ok(line) = book_line(alloc, &book) else {
                 return Status::Memory;
             };

@@ -30,7 +30,7 @@ impl Book {
         ensures risen { result ≡ raised_by (book_shape self.old) (counter_of self.old) delta.now.rows }
         ensures book { IsBook self.new }
     {
-        let _ = &self.sites;
+        let _ = &self.sites; // tells the invariant, which the loop keeps
         let mut risen = 0;
         for row in delta.rows() {
             risen += self.join_row(row);
@@ -45,7 +45,7 @@ impl Book {
         ensures names { NamesKnown self.old deltas.now self.new }
         ensures book { IsBook self.new }
     {
-        let _ = &self.sites;
+        let _ = &self.sites; // tells the invariant, which the loop keeps
         for delta in deltas {
             self.join(delta);
         }

@@ -52,10 +52,9 @@ fn is_row(row: &Row) -> bool
     ensures { IsTrue result ↔ IsRow row.now }
 {
     let out = row.out.as_slice();
-    // Read, so that it is known that they fit 64 bits.
-    let _taken = row.taken;
-    let _ann = row.ann;
-    let _fin = row.fin;
+    let _taken = row.taken; // read, so that it is known to fit 64 bits
+    let _ann = row.ann; // likewise
+    let _fin = row.fin; // likewise
     if usize::from(row.r) >= MOST_RECORDS || row.s >= MOST_SITES {
         return false;
     }
