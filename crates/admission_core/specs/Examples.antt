@@ -154,7 +154,7 @@ abbrev pub help_cases : List Case
 help_cases =
     refused (everyone None) (counts 0 0 0 0 0) (Help 3) NoRecord
     ∷ refused (everyone None) (counts 1000000000001 1000000000001 0 0 0) (Help 1) NoPlan
-    ∷ refused (everyone None) (with_writer 0 (counts 1000000000002 1000000000000 0 0 0)) (Help 1) CounterFull
+    ∷ refused (everyone None) (with_writer 0 (counts 1000000000001 1000000000000 0 0 0)) (Help 1) CounterFull
     ∷ asked (everyone None) (with_writer 0 (counts 1000000000000 999999999999 0 0 0)) (Help 1) (Gave 0 1)
     ∷ refused (everyone None) (with_writer 1 (counts 3 0 0 0 0)) (Help 1) NoPlan
     ∷ refused (everyone None) (with_writer 2 (with_writer 1 (counts 3 0 0 0 0))) (Help 1) NoPlan
