@@ -1,6 +1,6 @@
 -- The reply table at one site, line by line: for each two refusals that can both apply, a state to which both do,
 -- and on both sides of each limit. A state is a view, so that any counters may be asked about.
-use Rattle.std.specs.Prelude.{ℕ, ◌+◌, ◌==◌, ◌&&◌, List, [], ◌∷◌, map, if◌then◌else◌, Option, Some, None}
+use Rattle.std.specs.Prelude.{ℕ, ◌+◌, ◌==◌, ◌&&◌, List, [], ◌∷◌, ◌++◌, map, if◌then◌else◌, Option, Some, None}
 use Rattle.merge_core.specs.declared.cell.Cell.{Cell}
 use Rattle.merge_core.specs.declared.cell.Cell.TheVariants.{Out, Taken, Ann, Fin}
 use Rattle.merge_core.specs.declared.delta.Row.{Row}
@@ -17,6 +17,7 @@ use Rattle.admission_core.specs.declared.reply.Refusal.TheVariants.{NoRecord, Ba
 use Rattle.admission_core.specs.declared.reply.Reply.{Reply}
 use Rattle.admission_core.specs.declared.reply.Reply.TheVariants.{Admitted, Announced, Left, Given, Gave, Merged, Snapshot as SnapshotReply, Refused}
 use Rattle.admission_core.specs.Account.{Account, Session, begin}
+use Rattle.admission_core.specs.Durable.{Named, named}
 use Rattle.admission_core.specs.View.{View}
 use Rattle.admission_core.specs.Serving.{Step, Serves, reply_of}
 
@@ -153,7 +154,7 @@ abbrev pub help_cases : List Case
 help_cases =
     refused (everyone None) (counts 0 0 0 0 0) (Help 3) NoRecord
     ∷ refused (everyone None) (counts 1000000000001 1000000000001 0 0 0) (Help 1) NoPlan
-    ∷ refused (everyone None) (with_writer 0 (counts 1000000000002 1000000000000 0 0 0)) (Help 1) CounterFull
+    ∷ refused (everyone None) (with_writer 0 (counts 1000000000001 1000000000000 0 0 0)) (Help 1) CounterFull
     ∷ asked (everyone None) (with_writer 0 (counts 1000000000000 999999999999 0 0 0)) (Help 1) (Gave 0 1)
     ∷ refused (everyone None) (with_writer 1 (counts 3 0 0 0 0)) (Help 1) NoPlan
     ∷ refused (everyone None) (with_writer 2 (with_writer 1 (counts 3 0 0 0 0))) (Help 1) NoPlan
@@ -245,3 +246,20 @@ comings = Read 2 9 ∷ (Leave 2 9 ∷ (Quill 1 4 ∷ (Announce 2 6 ∷ (Read 2 9
 -- who came again goes last, the writer keeps its place, and the base comes first
 abbrev pub comings_order : List Session
 comings_order = record { r = 1; h = 4; phase = Writer } ∷ (record { r = 2; h = 6; phase = Waiting } ∷ (record { r = 2; h = 9; phase = Reader } ∷ []))
+
+-- slots of site 1 of three, and the first and the last of each kind at site 15 of sixteen
+abbrev pub slots_asked : List (Option Named)
+slots_asked =
+    map (named 3 1) (0 ∷ (1 ∷ (2 ∷ (3 ∷ (99 ∷ (100 ∷ (101 ∷ (102 ∷ (103 ∷ (200 ∷ (201 ∷ (202 ∷ (203 ∷ (300 ∷ (301 ∷ (302 ∷ (303 ∷ (400 ∷ (401 ∷ (402 ∷ (403 ∷ [])))))))))))))))))))))
+    ++ map (named 16 15) (15 ∷ (16 ∷ (114 ∷ (115 ∷ (314 ∷ (315 ∷ (414 ∷ (415 ∷ []))))))))
+
+-- a counter that is named
+abbrev pub names : ℕ → Cell → Option Named
+names s cell = Some (record { s = s; cell = cell })
+
+abbrev pub slots_wanted : List (Option Named)
+slots_wanted =
+    names 1 (Out 0) ∷ (names 1 (Out 1) ∷ (names 1 (Out 2) ∷ (None ∷ (None ∷ (names 0 (Out 1) ∷ (None ∷ (names 2 (Out 1) ∷ (None
+    ∷ (names 1 Taken ∷ (names 1 Ann ∷ (names 1 Fin ∷ (None ∷ (names 0 Ann ∷ (None ∷ (names 2 Ann ∷ (None
+    ∷ (names 0 Fin ∷ (None ∷ (names 2 Fin ∷ (None
+    ∷ (names 15 (Out 15) ∷ (None ∷ (names 14 (Out 15) ∷ (None ∷ (names 14 Ann ∷ (None ∷ (names 14 Fin ∷ (None ∷ []))))))))))))))))))))))))))))

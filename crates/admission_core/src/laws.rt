@@ -29,7 +29,7 @@ ghost use Rattle.writer_notices.specs.Notices.{open_count, IsOpen, IsLeastOpen};
 ghost use Rattle.admission_core.specs.Laws.{SameCounters, KnowsUnfinished, raised_to, CountsUnits, CountsSessions, SourcesAgree, DeltasAgree, IsFirstUnfinished, MayAsk, DifferInNotices, IsFeasible, ShowTheSame, KeepTheSame, StandsFor};
 ghost use Rattle.admission_core.specs.Durable.{durable_cells, AreRising, put_cells, change_between, IsEmpty};
 ghost use Rattle.admission_core.specs.Order.{sessions_next};
-ghost use Rattle.admission_core.specs.Examples.{answers, wanted, read_cases, announce_cases, write_cases, leave_cases, give_cases, help_cases, merge_cases, snapshot_cases, begun, asks, comings, comings_order};
+ghost use Rattle.admission_core.specs.Examples.{answers, wanted, read_cases, announce_cases, write_cases, leave_cases, give_cases, help_cases, merge_cases, snapshot_cases, slots_asked, slots_wanted, begun, asks, comings, comings_order};
 
 /// An account may begin at the start of each site, and wherever a stop leaves a reached account, under its
 /// layout or a later one.
@@ -144,5 +144,6 @@ pub fn reply_examples()
     ensures help { answers help_cases ≡ wanted help_cases }
     ensures merge { answers merge_cases ≡ wanted merge_cases }
     ensures snapshot { answers snapshot_cases ≡ wanted snapshot_cases }
+    ensures slots { slots_asked ≡ slots_wanted }
     ensures order { sessions_of (replay begun (asks comings)) ≡ comings_order }
 {}
