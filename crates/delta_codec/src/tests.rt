@@ -254,8 +254,8 @@ fn a_changed_text_is_refused(rt: HostRuntime) -> Result<(), Fail> {
         let text = changed(alloc, text, old, new)?;
         let read = answer(alloc, text.as_bytes())?;
         let plain = plain_answer(alloc, text.as_bytes())?;
-        assert_eq!(rt; (new, read.as_str()), (new, fault));
-        assert_eq!(rt; (new, plain.as_str()), (new, fault));
+        assert_eq!(rt; read.as_str(), fault, "{old} to {new}");
+        assert_eq!(rt; plain.as_str(), fault, "{old} to {new}, by a tree");
     }
     Ok(())
 }
@@ -270,7 +270,7 @@ fn other_inputs_are_refused(rt: HostRuntime) -> Result<(), Fail> {
     assert_eq!(rt; answer(alloc, &[255])?.as_str(), "NotUtf8");
     for end in 0..ONE_ROW.len() {
         let read = answer(alloc, &ONE_ROW.as_bytes()[..end])?;
-        assert_eq!(rt; (end, read.as_str()), (end, "NotJson"));
+        assert_eq!(rt; read.as_str(), "NotJson", "{end}");
     }
     Ok(())
 }
@@ -294,7 +294,7 @@ fn a_tree_gives_the_same_answers(rt: HostRuntime) -> Result<(), Fail> {
                 text[i] = byte;
                 let read = answer(alloc, &text)?;
                 let plain = plain_answer(alloc, &text)?;
-                assert_eq!(rt; (i, byte, read.as_str()), (i, byte, plain.as_str()));
+                assert_eq!(rt; read.as_str(), plain.as_str(), "{i} {byte}");
                 text[i] = kept;
             }
         }
