@@ -188,7 +188,7 @@ kept_other n i kept from until at xs zs r is_r below is_from is_until size same 
     by : (k < n) ⊎ (n ≤ k) → get_or (rows_of n n zs) k [] ≡ get_or (rows_of n n xs) k []
     by (inl there) =
         ext_get_or 0 (get_or (rows_of n n zs) k []) (get_or (rows_of n n xs) k []) (width-rows_of n n k zs (same ∙ size) there ∙ sym (width-rows_of n n k xs size there)) (λ j left.
-            let j_inside : j < n = omega (arith, left, width-rows_of n n k zs (same ∙ size) there) in
-            cell-rows_of n n k j zs there j_inside ∙ (outside j j_inside (cases_lt k i) ∙ sym (cell-rows_of n n k j xs there j_inside)))
+        let j_inside : j < n = omega (arith, left, width-rows_of n n k zs (same ∙ size) there) in
+        cell-rows_of n n k j zs there j_inside ∙ (outside j j_inside (cases_lt k i) ∙ sym (cell-rows_of n n k j xs there j_inside)))
     by (inr past) =
         get_or_past (rows_of n n zs) k [] (omega (arith, length-rows_of n n zs)) ∙ sym (get_or_past (rows_of n n xs) k [] (omega (arith, length-rows_of n n xs)))

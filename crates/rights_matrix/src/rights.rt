@@ -185,7 +185,13 @@ impl Rights {
 
     /// Sends `n` rights from site `i`, which has these `rights`, to site `j`, or refuses as
     /// [`Rights::transfer`] does, and adds nothing up.
-    pub fn transfer_from(&mut self, i: u16, j: u16, n: u64, rights: u64) -> Result<(), TransferError>
+    pub fn transfer_from(
+        &mut self,
+        i: u16,
+        j: u16,
+        n: u64,
+        rights: u64,
+    ) -> Result<(), TransferError>
         requires from { i < site_count self.old }
         requires to { j < site_count self.old }
         ensures answer { let fault = refusal_of self.old i j n rights in

@@ -40,9 +40,15 @@ fn rows_are_heard_and_forgotten(rt: HostRuntime) -> Result<(), Fail> {
 #[test]
 fn the_widest_matrix(rt: HostRuntime) -> Result<(), Fail> {
     let mut rights = Rights::new(rt.alloc(), MOST_SITES, 15, u32::MAX)?;
-    assert_eq!(rt; rights.transfer_from(15, 14, COUNTER_LIMIT, u64::MAX), Ok(()));
+    assert_eq!(rt;
+        rights.transfer_from(15, 14, COUNTER_LIMIT, u64::MAX),
+        Ok(())
+    );
     assert_eq!(rt; rights.get(15, 14), COUNTER_LIMIT);
-    assert_eq!(rt; rights.transfer_from(15, 14, 1, u64::MAX), Err(TransferError::CounterFull));
+    assert_eq!(rt;
+        rights.transfer_from(15, 14, 1, u64::MAX),
+        Err(TransferError::CounterFull)
+    );
     Ok(())
 }
 
@@ -53,7 +59,10 @@ fn errors_say_what_is_wrong(rt: HostRuntime) -> Result<(), Fail> {
     let none = TransferError::ZeroSeats.to_string(rt.alloc())?;
     assert_eq!(rt; none.as_str(), "a transfer of no rights");
     let full = TransferError::CounterFull.to_string(rt.alloc())?;
-    assert_eq!(rt; full.as_str(), "the counter of these transfers would pass its limit");
+    assert_eq!(rt;
+        full.as_str(),
+        "the counter of these transfers would pass its limit"
+    );
     let few = TransferError::TooFewRights { rights: 7 }.to_string(rt.alloc())?;
     assert_eq!(rt; few.as_str(), "only 7 rights are left at this site");
     Ok(())

@@ -10,4 +10,3 @@ place-requires-clause-column c = omega (arith, side_is _ _ _ c.self.view_is, c.r
 
 pub returns : goal.returns
 returns c = c.get.ensures ∙ cell_read _ _ _ _ c.self.inside.cells _ c.self.view_is c.requires.row c.requires.column c.place.ensures.value
-

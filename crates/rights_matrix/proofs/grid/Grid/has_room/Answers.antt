@@ -9,7 +9,6 @@ pub place-requires-clause-column : goal.place-requires-clause-column
 place-requires-clause-column c = omega (arith, side_is _ _ _ c.self.view_is, c.requires.column)
 
 pub returns : goal.returns
-returns c = 
+returns c =
     let here : get_or c.self.inside.cells c.place.result 0 ≡ get_or (get_or c.args.self.now c.args.i []) c.args.j 0 = cell_read _ _ _ _ c.self.inside.cells _ c.self.view_is c.requires.row c.requires.column c.place.ensures.value in
     rw here at c.has_room.ensures
-

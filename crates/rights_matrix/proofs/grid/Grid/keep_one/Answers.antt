@@ -12,15 +12,14 @@ pub returns-clause-size : goal.returns-clause-size
 returns-clause-size c = length-rows_of _ _ _ ∙ sym (side_is _ _ _ c.self.view_is)
 
 pub returns-clause-width : goal.returns-clause-width
-returns-clause-width c = 
+returns-clause-width c =
     let inside : c.args.i < c.self.inside.side = omega (arith, side_is _ _ _ c.self.view_is, c.requires.row) in
     width-rows_of _ _ _ _ (c.keep_one.ensures.size ∙ c.self.invariant.1) inside ∙ (sym (width-rows_of _ _ _ _ c.self.invariant.1 inside) ∙ ap (λ (x : List (List ℕ)). length (get_or x c.args.i [])) c.self.view_is)
 
 pub returns-clause-counters : goal.returns-clause-counters
-returns-clause-counters c = 
+returns-clause-counters c =
     kept_row _ _ _ _ _ _ c.self.inside.cells _ _ c.self.view_is c.requires.row (omega (arith, c.place-from.ensures.value)) (omega (arith, c.place-from.ensures.value, c.from.ensures)) (omega (arith, c.place-at.ensures.value)) c.self.invariant.1 c.keep_one.ensures.size c.keep_one.ensures.counters
 
 pub returns-clause-others : goal.returns-clause-others
-returns-clause-others c = 
+returns-clause-others c =
     kept_other _ _ c.args.kept _ _ _ c.self.inside.cells _ _ c.self.view_is c.requires.row (omega (arith, c.place-from.ensures.value)) (omega (arith, c.place-from.ensures.value, c.from.ensures)) c.self.invariant.1 c.keep_one.ensures.size c.keep_one.ensures.counters
-

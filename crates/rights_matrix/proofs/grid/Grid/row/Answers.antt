@@ -6,7 +6,6 @@ pub place-from-requires-clause-row : goal.place-from-requires-clause-row
 place-from-requires-clause-row c = omega (arith, side_is _ _ _ c.self.view_is, c.requires)
 
 pub returns : goal.returns
-returns c = 
+returns c =
     let width : c.place-from.result + c.from.result - c.place-from.result ≡ c.self.inside.side = omega (arith, c.from.ensures) in
     rw (width, c.as_slice-cells.ensures.counters) (row_read _ _ _ c.self.inside.cells _ c.self.view_is c.requires (omega (arith, c.place-from.ensures.value)))
-

@@ -3,4 +3,3 @@ use Rattle.rights_matrix.proofs.rights.Rights.give_back.Goals as goal
 
 pub returns-clause-rights : goal.returns-clause-rights
 returns-clause-rights c = makes_read _ _ _ _ _ c.self.view_is c.self.invariant c.requires.site c.add.ensures
-

@@ -6,4 +6,3 @@ invariant_of-self c = join_keeps _ _ _ _ c.join.new.self c.self.view_is c.other.
 
 pub returns-clause-matrix : goal.returns-clause-matrix
 returns-clause-matrix c = join_keeps _ _ _ _ c.join.new.self c.self.view_is c.other.view_is c.self.invariant c.other.invariant c.requires c.join.ensures.rows
-

@@ -8,4 +8,3 @@ returns-clause-makes c =
 
 pub returns-clause-moves : goal.returns-clause-moves
 returns-clause-moves c = λ apart. moves_read _ _ _ _ _ _ c.self.view_is c.self.invariant c.requires.from c.requires.to (λ e. apart (sym e)) c.add.ensures
-

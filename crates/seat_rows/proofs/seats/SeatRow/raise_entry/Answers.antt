@@ -31,6 +31,7 @@ gain-requires-2-clause-room c =
 
 pub invariant_of-self-2 : goal.invariant_of-self-2
 invariant_of-self-2 c =
-    let inside = (site_there _ _ _ _ c.self.view_is c.requires.site) in
-    ( IsSeatState-raised _ _ _ _ _ _ c.self.invariant.0 c.raise_to-by.ensures.matrix inside (λ e. c.if-s-j.false (sym e)) c.raise_to-by.ensures.state,
-      tells_moved _ _ _ _ _ _ _ _ _ c.self.invariant.1 inside (site_there _ _ _ _ c.self.view_is c.requires.to) (λ e. c.if-s-j.false (sym e)) c.raise_to-by.ensures.state (c.raise_to-by.ensures.moves c.if-s-j.false) c.lose.ensures c.gain-2.ensures )
+    let inside = (site_there _ _ _ _ c.self.view_is c.requires.site) in (
+      IsSeatState-raised _ _ _ _ _ _ c.self.invariant.0 c.raise_to-by.ensures.matrix inside (λ e. c.if-s-j.false (sym e)) c.raise_to-by.ensures.state,
+      tells_moved _ _ _ _ _ _ _ _ _ c.self.invariant.1 inside (site_there _ _ _ _ c.self.view_is c.requires.to) (λ e. c.if-s-j.false (sym e)) c.raise_to-by.ensures.state (c.raise_to-by.ensures.moves c.if-s-j.false) c.lose.ensures c.gain-2.ensures,
+    )

@@ -18,6 +18,7 @@ gain-requires-clause-room c =
 pub invariant_of-self-2 : goal.invariant_of-self-2
 invariant_of-self-2 c =
     let allowed = transfer_allowed c.self.inside.rights c.args.i c.args.j c.args.n c.rights-rights.result c.in_ok-transfer_from.ensures.answer in
-    let inside = (site_there _ _ _ _ c.self.view_is c.requires.from) in
-    ( IsSeatState-raised _ _ _ _ _ _ c.self.invariant.0 c.transfer_from.ensures.matrix inside allowed.0 c.in_ok-transfer_from.ensures.state,
-      tells_moved _ _ _ _ _ _ _ _ _ c.self.invariant.1 inside (site_there _ _ _ _ c.self.view_is c.requires.to) allowed.0 c.in_ok-transfer_from.ensures.state c.in_ok-transfer_from.ensures.rights c.lose.ensures c.gain.ensures )
+    let inside = (site_there _ _ _ _ c.self.view_is c.requires.from) in (
+      IsSeatState-raised _ _ _ _ _ _ c.self.invariant.0 c.transfer_from.ensures.matrix inside allowed.0 c.in_ok-transfer_from.ensures.state,
+      tells_moved _ _ _ _ _ _ _ _ _ c.self.invariant.1 inside (site_there _ _ _ _ c.self.view_is c.requires.to) allowed.0 c.in_ok-transfer_from.ensures.state c.in_ok-transfer_from.ensures.rights c.lose.ensures c.gain.ensures,
+    )
