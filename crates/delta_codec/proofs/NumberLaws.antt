@@ -43,14 +43,6 @@ goes_on first n i more bytes inside digit room so_far =
     let one : digits_at n (drop i bytes) ≡ digits_at more (drop (i + 1) bytes) = step n i bytes inside ∙ rw digit (parts.0 ∙ ap (λ (k : ℕ). digits_at k (drop (i + 1) bytes)) (sym parts.1)) in
     sym one ∙ so_far
 
--- a digit more, where there is room for any
-pub goes_on_below : (first n i : ℕ) (bytes : List ℕ) → i < length bytes → n < 1844674407370955161 → is_ascii_digit (get_or bytes i 0) ≡ true → digits_at n (drop i bytes) ≡ digits_at first bytes → digits_at (n * 10 + (get_or bytes i 0 - 48)) (drop (i + 1) bytes) ≡ digits_at first bytes
-goes_on_below first n i bytes inside room digit so_far =
-    let most : get_or bytes i 0 ≤ 57 = grind (arith, nat_tests) in
-    let below : ltb (n * 10 + (get_or bytes i 0 - 48)) (2 ^ 64) ≡ true = lt-ltb _ _ (omega (arith, room, most)) in
-    let one : digits_at n (drop i bytes) ≡ digits_at (n * 10 + (get_or bytes i 0 - 48)) (drop (i + 1) bytes) = step n i bytes inside ∙ rw (digit, below) refl in
-    sym one ∙ so_far
-
 -- no byte is left
 pub ends : (first n i : ℕ) (bytes : List ℕ) → length bytes ≤ i → digits_at n (drop i bytes) ≡ digits_at first bytes → digits_at first bytes ≡ Some (n, take (length bytes - length bytes) (drop (length bytes) bytes))
 unfolding digits_at

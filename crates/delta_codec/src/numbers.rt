@@ -4,19 +4,23 @@ ghost use Rattle.delta_codec.specs.Readers.{Gives, digits_at, number_at, short_a
 
 use crate::unread::Unread;
 
-// Below this number there is room for any further digit.
+// Below this number there is room for any further digit, at it for those up to `MOST_LAST`, above it for none.
 const MOST_TENS: u64 = u64::MAX / 10;
+
+const MOST_LAST: u64 = u64::MAX % 10;
 
 fn with_digit(number: u64, digit: u8) -> Option<u64>
     requires { digit < 10 }
     ensures { result ≡ (if nat_lt (number * 10 + digit) (2 ^ 64) then Some (number * 10 + digit) else None) }
 {
-    number.checked_mul(10)?.checked_add(u64::from(digit))
+    let digit = u64::from(digit);
+    if number >= MOST_TENS && (number > MOST_TENS || digit > MOST_LAST) {
+        return None;
+    }
+    Some(number * 10 + digit)
 }
 
-// The digits behind so great a number that one may find no room.
-#[cold]
-fn last_digits(first: u64, bytes: &[u8]) -> Result<(u64, &[u8]), Unread>
+fn digits(first: u64, bytes: &[u8]) -> Result<(u64, &[u8]), Unread>
     ensures { Gives (λ x. (x.0, x.1.now)) result (digits_at first bytes.now) }
 {
     let mut number = first;
@@ -29,24 +33,6 @@ fn last_digits(first: u64, bytes: &[u8]) -> Result<(u64, &[u8]), Unread>
             Some(more) => number = more,
             None => return Err(Unread::Refused),
         }
-    }
-    Ok((number, &bytes[bytes.len()..]))
-}
-
-// The digits as long as there is room for any further one, which nearly all numbers keep to the end.
-fn digits(first: u64, bytes: &[u8]) -> Result<(u64, &[u8]), Unread>
-    ensures { Gives (λ x. (x.0, x.1.now)) result (digits_at first bytes.now) }
-{
-    let mut number = first;
-    for i in 0..bytes.len() {
-        let byte = bytes[i];
-        if !byte.is_ascii_digit() {
-            return Ok((number, &bytes[i..]));
-        }
-        if number >= MOST_TENS {
-            return last_digits(number, &bytes[i..]);
-        }
-        number = number * 10 + u64::from(byte - b'0');
     }
     Ok((number, &bytes[bytes.len()..]))
 }
