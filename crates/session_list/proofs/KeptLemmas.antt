@@ -262,13 +262,15 @@ leaves r h es n is = by (position (same_key (r, h)) (keys_of es)) refl
 
 -- ---- the start
 
-pub numbered-none : IsNumbered [] 0
+-- no entry is numbered before the first arrival
+pub numbered_empty : (es : List Entry) → es ≡ [] → IsNumbered es 0
 unfolding IsDistinct
-numbered-none = record { unique = tt; numbers = tt; below = λ i d h. absurd (omega arith) }
+numbered_empty es none = subst (λ l. IsNumbered l 0) (sym none) (record { unique = tt; numbers = tt; below = λ i d h. absurd (omega arith) })
 
-pub sessions_by-none : sessions_by [] 0 ≡ []
+-- and no session is listed
+pub sessions_empty : (es : List Entry) → sessions_by es 0 ≡ []
 unfolding in_order
-sessions_by-none = refl
+sessions_empty es = refl
 
 -- ---- the calls that change the map
 

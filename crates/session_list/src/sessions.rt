@@ -42,6 +42,7 @@ impl Sessions {
     ghost use Rattle.session_list.specs.Sessions.{is_of, phase_in, with_phase, without, IsOnce};
 
     /// No session. Takes no memory.
+    #[tactic(auto, using(crate::proofs::KeptLemmas::sessions_empty))]
     pub fn new(alloc: Global) -> Sessions
         ensures { result.sessions ≡ [] }
     {
