@@ -1,102 +1,112 @@
--- What a call changes of the durable part.
-use Rattle.std.proofs.Common.{◌≡◌, ℕ, ◌≤◌, true, not, List, [], ◌∷◌, length, Option, is_none, refl, sym, ap, ◌∙◌, arith}
-use Rattle.std.specs.List.{AllByRecursion, filter}
-use Rattle.std.proofs.lemmas.Bool.{cond-false}
+-- The change that is prepared is the one that the durable parts differ in.
+use Rattle.std.proofs.Common.{◌≡◌, ℕ, ◌⊎◌, inl, inr, max, true, false, List, [], Option, Some, None, refl, sym, ap, ◌∙◌, arith}
+use Rattle.std.proofs.lemmas.Bool.{cases_Bool, cond-true, cond-false}
 use Rattle.merge_core.specs.declared.cell.Cell.{Cell}
-use Rattle.merge_core.specs.Layout.{shape_of}
-use Rattle.merge_core.specs.Rows.{start_counter}
-use Rattle.merge_core.specs.Changes.{keeps_counter}
-use Rattle.admission_core.specs.declared.ask.Call.{Call}
-use Rattle.admission_core.specs.declared.ask.Phase.{Phase}
-use Rattle.admission_core.specs.declared.ask.Phase.TheVariants.{Reader, Waiting, Writer}
-use Rattle.admission_core.specs.Account.{Account, Origin, Session, stored_phase, sessions_of}
-use Rattle.admission_core.specs.Knowledge.{known, durable_part}
-use Rattle.admission_core.specs.Serving.{after}
-use Rattle.admission_core.specs.Reached.{IsReached}
-use Rattle.admission_core.specs.Laws.{KeepTheSame}
-use Rattle.admission_core.specs.Durable.{named, at_slot, places, kept_cells, risen_cells, slots_of, start_slots, durable_cells, AreRising, put_cells, is_same_phase, is_phase, change_between, IsEmpty}
-use Rattle.admission_core.proofs.RowLemmas.{start_below}
-use Rattle.admission_core.proofs.HeardLemmas.{kept_yes, known_fits}
-use Rattle.admission_core.proofs.ServingLemmas.{origin_after, sites_after}
-use Rattle.admission_core.proofs.NoticeLemmas.{known_after}
-use Rattle.admission_core.proofs.OrderLemmas.{IsStored, all_stored}
-use Rattle.admission_core.proofs.DurableLemmas.{sound_resumed}
-use Rattle.admission_core.proofs.LawLemmas.{sound_reached}
-use Rattle.admission_core.proofs.CellLemmas.{cells_put, pick_rises, none_risen, places_placed, named_kept, named_below}
+use Rattle.merge_core.specs.declared.delta.Row.{Row}
+use Rattle.merge_core.specs.Delta.{DeltaState}
+use Rattle.merge_core.specs.Layout.{LayoutState, IsLayout, shape_of}
+use Rattle.admission_model.specs.declared.ask.Ask.{Ask}
+use Rattle.admission_model.specs.declared.ask.Call.{Call}
+use Rattle.admission_model.specs.declared.ask.Call.TheVariants.{Ask as AskCall, Merge, Snapshot as SnapshotCall}
+use Rattle.admission_model.specs.declared.durable.DurableCell.{DurableCell}
+use Rattle.admission_model.specs.declared.reply.Refusal.{Refusal}
+use Rattle.admission_model.specs.declared.reply.Refusal.TheVariants.{Memory}
+use Rattle.admission_model.specs.declared.reply.Reply.TheVariants.{Refused}
+use Rattle.admission_model.specs.Account.{Account, layout_of}
+use Rattle.admission_model.specs.Knowledge.{known, hears}
+use Rattle.admission_model.specs.View.{View, view_of}
+use Rattle.admission_model.specs.Serving.{reason, reply_of, answer, advanced, unless_refused, operation_of, after}
+use Rattle.admission_model.specs.Reached.{IsReached}
+use Rattle.admission_model.specs.Asked.{operation_change}
+use Rattle.admission_model.specs.Durable.{Change, change_between, at_slot, places, risen_cells, slots_of}
+use Rattle.admission_model.proofs.AskedLemmas.{changed_asked, changed_nothing, changed_merged}
+use Rattle.admission_model.proofs.RowLemmas.{shown_same}
+use Rattle.admission_core.specs.Core.{Core, core_view, Stands, SameContent, is_memory, served}
+use Rattle.admission_core.specs.Kept.{change_of, put_by, removed_by}
+use Rattle.admission_core.specs.Joining.{joined_counter}
+use Rattle.admission_core.specs.Prepared.{Prepared, refused_with, IsReadyFor, IsChangeFor}
+use Rattle.admission_core.proofs.CoreLemmas.{shows_account}
+use Rattle.admission_core.proofs.ReadyLemmas.{served_after, stands_along, view_along, answered_from_memory}
+use Rattle.admission_core.proofs.StandsLemmas.{known_joined, after_merge}
 
-pub durable_rises : (a : Account) → AreRising (durable_cells a)
-durable_rises a = pick_rises _ (slots_of a) (places a.origin.layout) (places_placed 0 (length a.origin.layout.records))
+-- no change
+abbrev nothing : Change
+nothing = record { cells = []; put = []; removed = [] }
 
--- the new account's cells, at the old account's places
-module _ (a : Account) (call : Call) where
-  new_slots : ℕ → ℕ → ℕ
-  new_slots = at_slot a.sites a.origin.site (known (after a call))
+-- an account does not differ from itself
+no_change : (a b : Account) → IsReached a → b ≡ a → nothing ≡ change_between a b
+no_change a b is same =
+    let none = changed_nothing a is in
+    let empty : nothing ≡ change_between a a = λ i. record { cells = sym none.no_cells i; put = sym none.no_put i; removed = sym none.none_removed i } in
+    empty ∙ ap (change_between a) (sym same)
 
-  cells_after : durable_cells (after a call) ≡ kept_cells (start_slots a) (at_slot a.sites a.origin.site (known (after a call))) (places a.origin.layout)
-  cells_after =
-      ap (λ n. kept_cells (at_slot n (after a call).origin.site (start_counter (shape_of (after a call).origin.layout))) (at_slot n (after a call).origin.site (known (after a call))) (places (after a call).origin.layout)) (sites_after a call)
-      ∙ ap (λ (o : Origin). kept_cells (at_slot a.sites o.site (start_counter (shape_of o.layout))) (at_slot a.sites o.site (known (after a call))) (places o.layout)) (origin_after a call)
+-- after a refusal the account is as it was
+served_refused : (a : Account) (call : Call) (refusal : Refusal) → reason (view_of a) call ≡ Some refusal → served a call (Refused refusal) ≡ a
+served_refused a call refusal is = at (cases_Bool (is_memory (Refused refusal)))
+  where
+    at : (is_memory (Refused refusal) ≡ true) ⊎ (is_memory (Refused refusal) ≡ false) → served a call (Refused refusal) ≡ a
+    at (inl e) = cond-true (is_memory (Refused refusal)) a (after a call) e
+    at (inr e) = cond-false (is_memory (Refused refusal)) a (after a call) e ∙ ap (λ (o : Option Refusal). unless_refused o a (advanced a call)) is
 
-  risen_after : (change_between a (after a call)).cells ≡ risen_cells (slots_of a) (at_slot a.sites a.origin.site (known (after a call))) (places a.origin.layout)
-  risen_after =
-      ap (λ n. risen_cells (slots_of a) (at_slot n (after a call).origin.site (known (after a call))) (places (after a call).origin.layout)) (sites_after a call)
-      ∙ ap (λ (o : Origin). risen_cells (slots_of a) (at_slot a.sites o.site (known (after a call))) (places o.layout)) (origin_after a call)
+-- a refusal has no change
+pub refused_change : (c : Core) (call : Call) (refusal : Refusal) → reason (core_view c) call ≡ Some refusal → IsChangeFor c call (refused_with refusal)
+refused_change c call refusal is = λ a stands.
+    let told : reason (view_of a) call ≡ Some refusal = ap (λ (v : View). reason v call) (sym (shows_account a c stands)) ∙ is in
+    no_change a (served a call (Refused refusal)) stands.reached (served_refused a call refusal told)
 
-  -- the cells that a call's change puts make the old cells the new ones
-  pub change_put : IsReached a → put_cells (change_between a (after a call)).cells (durable_cells a) ≡ durable_cells (after a call)
-  change_put is =
-      ap (λ cs. put_cells cs (durable_cells a)) risen_after
-      ∙ (cells_put (start_slots a) (slots_of a) (at_slot a.sites a.origin.site (known (after a call)))
-      (λ r slot. named_below a.origin.site r (start_counter (shape_of a.origin.layout)) (known a) (named a.sites a.origin.site slot) (named_kept a.sites a.origin.site slot)
-      (λ s cell kept. start_below (shape_of a.origin.layout) r s (known a r s) (known_fits a (sound_reached a is) r s) cell))
-      (λ r slot. named_below a.origin.site r (known a) (known (after a call)) (named a.sites a.origin.site slot) (named_kept a.sites a.origin.site slot)
-      (λ s cell kept. known_after a call r s cell))
-      (places a.origin.layout) (places_placed 0 (length a.origin.layout.records))
-      ∙ sym cells_after)
+-- nor has want of memory
+pub memory_change : (c : Core) (call : Call) → IsChangeFor c call (refused_with Memory)
+memory_change c call = λ a stands. no_change a a stands.reached refl
 
-  same_phase_true : (p : Phase) → is_same_phase p p ≡ true
-  same_phase_true Reader = refl
-  same_phase_true Waiting = refl
-  same_phase_true Writer = refl
+-- the account after a call that was answered
+answered_after : (a : Account) (c : Core) → Stands a c → (call : Call) (p : Prepared) → p.reply ≡ answer (core_view c) call → served a call p.reply ≡ after a call
+answered_after a c stands call p is =
+    served_after a call p.reply (ap is_memory is ∙ answered_from_memory (core_view c) call)
 
-  none_put : (phase : ℕ → ℕ → Option Phase) (ss : List Session) → AllByRecursion (IsStored phase) ss → filter (λ s. not (is_phase s.phase (phase s.r s.h))) ss ≡ []
-  none_put phase [] all = refl
-  none_put phase (s ∷ ss) all =
-      cond-false (not (is_phase s.phase (phase s.r s.h))) (s ∷ filter (λ x. not (is_phase x.phase (phase x.r x.h))) ss) (filter (λ x. not (is_phase x.phase (phase x.r x.h))) ss)
-      (ap (λ o. not (is_phase s.phase o)) all.0 ∙ ap not (same_phase_true s.phase))
-      ∙ none_put phase ss all.1
+-- an ask that nothing refuses has the change of its operation
+pub asked_change : (c : Core) (ask : Ask) (p : Prepared) → IsLayout c.layout → reason (core_view c) (AskCall ask) ≡ None → p.reply ≡ answer (core_view c) (AskCall ask) → change_of p.change ≡ operation_change (core_view c) (operation_of (core_view c) ask) → IsChangeFor c (AskCall ask) p
+asked_change c ask p layout free reply change = λ a stands.
+    let same : core_view c ≡ view_of a = shows_account a c stands in
+    let accepted : reason (view_of a) (AskCall ask) ≡ None = ap (λ (v : View). reason v (AskCall ask)) (sym same) ∙ free in
+    let sites : c.layout.sites ≡ a.sites = ap (λ (l : LayoutState). l.sites) stands.shows.layout in
+    change
+    ∙ (ap (λ (v : View). operation_change v (operation_of v ask)) same
+    ∙ (sym (changed_asked a stands.reached (omega (arith, sites, layout.few_sites)) ask accepted)
+    ∙ ap (change_between a) (sym (answered_after a c stands (AskCall ask) p reply))))
 
-  none_gone : (phase : ℕ → ℕ → Option Phase) (ss : List Session) → AllByRecursion (IsStored phase) ss → filter (λ s. is_none (phase s.r s.h)) ss ≡ []
-  none_gone phase [] all = refl
-  none_gone phase (s ∷ ss) all =
-      cond-false (is_none (phase s.r s.h)) (s ∷ filter (λ x. is_none (phase x.r x.h)) ss) (filter (λ x. is_none (phase x.r x.h)) ss) (ap is_none all.0)
-      ∙ none_gone phase ss all.1
+-- a snapshot has none
+pub snapshot_change : (c : Core) (p : Prepared) → p.reply ≡ answer (core_view c) SnapshotCall → change_of p.change ≡ nothing → IsChangeFor c SnapshotCall p
+snapshot_change c p reply change = λ a stands.
+    change ∙ no_change a (served a SnapshotCall p.reply) stands.reached (answered_after a c stands SnapshotCall p reply)
 
-  -- a change is empty where the durable part is the same
-  pub change_empty : IsReached a → KeepTheSame (durable_part (after a call)) (durable_part a) → IsEmpty (change_between a (after a call))
-  change_empty is same = record {
-    no_cells = risen_after ∙ none_risen (slots_of a) (at_slot a.sites a.origin.site (known (after a call))) (λ r slot.
-        named_below a.origin.site r (known (after a call)) (known a) (named a.sites a.origin.site slot) (named_kept a.sites a.origin.site slot) (λ s cell kept. level r s cell kept))
-        (places a.origin.layout);
-    no_put = ap (λ ss. filter (λ s. not (is_phase s.phase (stored_phase (sessions_of a) s.r s.h))) ss) same.sessions ∙ none_put (stored_phase (sessions_of a)) (sessions_of a) stored;
-    none_removed = ap (λ ss. filter (λ s. is_none (stored_phase ss s.r s.h)) (sessions_of a)) same.sessions ∙ none_gone (stored_phase (sessions_of a)) (sessions_of a) stored;
-  }
-    where
-      stored : AllByRecursion (IsStored (stored_phase (sessions_of a))) (sessions_of a)
-      stored = all_stored (sessions_of a) (sound_resumed a a.sites (omega arith) (sound_reached a is)).listed_once
+-- the cells that rows raise, by a view
+abbrev raised_cells : View → List Row → List DurableCell
+raised_cells v rows = risen_cells (at_slot v.layout.sites v.site v.counter) (at_slot v.layout.sites v.site (joined_counter v rows)) (places v.layout)
 
-      level : (r s : ℕ) (cell : Cell) → keeps_counter a.origin.site s cell ≡ true → known (after a call) r s cell ≤ known a r s cell
-      level r s cell kept =
-          let site : keeps_counter (after a call).origin.site s cell ≡ true = ap (λ (o : Origin). keeps_counter o.site s cell) (origin_after a call) ∙ kept in
-          omega (
-            arith,
-            same.counters r s cell,
-            kept_yes (after a call).origin (known (after a call)) r s cell site,
-            kept_yes a.origin (known a) r s cell kept,
-          )
+-- a merge that nothing refuses has the cells that rise, and no session
+pub merged_change : (c : Core) (delta : DeltaState) (p : Prepared) → reason (core_view c) (Merge delta) ≡ None → p.reply ≡ answer (core_view c) (Merge delta) → p.change.cells ≡ raised_cells (core_view c) delta.rows → p.change.session ≡ None → IsChangeFor c (Merge delta) p
+merged_change c delta p free reply cells session = λ a stands.
+    let same : core_view c ≡ view_of a = shows_account a c stands in
+    let accepted : reason (view_of a) (Merge delta) ≡ None = ap (λ (v : View). reason v (Merge delta)) (sym same) ∙ free in
+    let keeps = changed_merged a stands.reached delta.rows in
+    let joins : joined_counter (view_of a) delta.rows ≡ known (hears a delta.rows) = λ i r s cell.
+    (ap (max (known a r s cell)) (shown_same (shape_of (layout_of a)) (shape_of a.origin.layout) refl delta.rows r s cell) ∙ known_joined a stands.reached delta accepted r s cell) i in
+    let told : p.change.cells ≡ (change_between a (hears a delta.rows)).cells =
+    cells
+    ∙ (ap (λ (v : View). raised_cells v delta.rows) same
+    ∙ ap (λ (f : ℕ → ℕ → Cell → ℕ). risen_cells (slots_of a) (at_slot a.sites a.origin.site f) (places a.origin.layout)) joins) in
+    let heard : change_of p.change ≡ change_between a (hears a delta.rows) = λ i. record {
+      cells = told i;
+      put = (ap put_by session ∙ sym keeps.no_put) i;
+      removed = (ap removed_by session ∙ sym keeps.none_removed) i;
+    } in
+    heard ∙ ap (change_between a) (sym (answered_after a c stands (Merge delta) p reply ∙ after_merge a delta accepted))
 
-pub put_law : (a : Account) → IsReached a → (call : Call) → put_cells (change_between a (after a call)).cells (durable_cells a) ≡ durable_cells (after a call)
-put_law a is call = change_put a call is
+-- what is prepared for a core is prepared for the one that differs in its room alone
+pub change_along : (old new : Core) → SameContent old new → (call : Call) (p : Prepared) → IsChangeFor new call p → IsChangeFor old call p
+change_along old new same call p it = λ a stands. it a (stands_along a old new same stands)
 
-pub empty_law : (a : Account) → IsReached a → (call : Call) → KeepTheSame (durable_part (after a call)) (durable_part a) → IsEmpty (change_between a (after a call))
-empty_law a is call same = change_empty a call is same
+-- the answer is the model's
+pub replies : (old mid : Core) (call : Call) (p : Prepared) → SameContent old mid → IsReadyFor mid call p → is_memory p.reply ≡ false → (a : Account) → Stands a old → p.reply ≡ reply_of (view_of a) call
+replies old mid call p same ready there a stands =
+    ready.reply there ∙ ap (λ (v : View). reply_of v call) (view_along old mid same ∙ shows_account a old stands)

@@ -1,202 +1,216 @@
--- What shows the same decides and does the same.
-use Rattle.std.proofs.Common.{◌≡◌, ◌≢◌, ℕ, ◌+◌, ◌⊎◌, inl, inr, max, true, false, ◌&&◌, cond, eqb, leb, List, map, Option, Some, None, refl, sym, ap, subst, ◌∙◌, arith}
-use Rattle.std.proofs.lemmas.Bool.{cases_eq, cases_Bool, eq-eqb, ne_eqb, cond-true, cond-false}
+-- What a core stands for after each of its steps.
+use Rattle.std.proofs.Common.{◌≡◌, ℕ, ◌+◌, ◌≤◌, ◌⊎◌, inl, inr, max, cond, eqb, List, ◌∷◌, Option, None, refl, sym, ap, subst, ◌∙◌, arith}
+use Rattle.std.specs.Prelude.{◌&&◌}
+use Rattle.std.proofs.lemmas.Bool.{cases_eq}
 use Rattle.merge_core.specs.declared.cell.Cell.{Cell}
-use Rattle.merge_core.specs.declared.delta.Row.{Row}
-use Rattle.merge_core.specs.Layout.{LayoutState, shape_of, record_shape}
-use Rattle.merge_core.specs.Rows.{start_counter}
+use Rattle.merge_core.specs.declared.cell.Cell.TheVariants.{Out, Taken, Ann, Fin}
+use Rattle.merge_core.specs.Delta.{DeltaState}
+use Rattle.merge_core.specs.Layout.{LayoutState, Shape, shape_of}
 use Rattle.merge_core.specs.Naming.{shown_by}
-use Rattle.merge_core.specs.Changes.{keeps_counter}
-use Rattle.admission_core.specs.declared.ask.Ask.{Ask}
-use Rattle.admission_core.specs.declared.ask.Call.{Call}
-use Rattle.admission_core.specs.declared.ask.Call.TheVariants.{Ask as AskCall, Merge, Snapshot as SnapshotCall}
-use Rattle.admission_core.specs.declared.ask.Phase.{Phase}
-use Rattle.admission_core.specs.declared.ask.Phase.TheVariants.{Reader, Waiting, Writer}
-use Rattle.admission_core.specs.declared.reply.Refusal.{Refusal}
-use Rattle.admission_core.specs.Account.{Account, Session, Operation, EnteredRead, AnnouncedWriter, EnteredWrite, LeftRecord, GaveSeats, seats_in, own, rise_of, record_of, phase_of, sessions_of, is_key}
-use Rattle.admission_core.specs.Knowledge.{kept_or_start, known, hears, grown}
-use Rattle.admission_core.specs.View.{View, view_of}
-use Rattle.admission_core.specs.Serving.{reason, reply_of, operation_of, advanced, unless_refused, after, Step, Serves, Restarts, Grows, after_step}
-use Rattle.admission_core.specs.Order.{sessions_next}
-use Rattle.admission_core.specs.Laws.{StandsFor, ShowTheSame}
-use Rattle.admission_core.proofs.RowLemmas.{shown_same}
-use Rattle.admission_core.proofs.CounterLemmas.{does, known_own, known_other}
-use Rattle.admission_core.proofs.HeardLemmas.{kept_yes, kept_row}
-use Rattle.admission_core.proofs.OrderLemmas.{sessions_advanced}
+use Rattle.merge_core.specs.Tests.{is_placed, is_valid, first_failing}
+use Rattle.merge_core.specs.Check.{IsChecked}
+use Rattle.merge_core.specs.Changes.{JoinsRows}
+use Rattle.merge_core.specs.Book.{IsBook, book_shape, counter_of}
+use Rattle.session_list.specs.declared.session.Phase.{Phase}
+use Rattle.session_list.specs.declared.session.Session.{Session}
+use Rattle.session_list.specs.Sessions.{phase_in}
+use Rattle.admission_model.specs.declared.ask.Ask.{Ask}
+use Rattle.admission_model.specs.declared.ask.Call.{Call}
+use Rattle.admission_model.specs.declared.ask.Call.TheVariants.{Ask as AskCall, Merge}
+use Rattle.admission_model.specs.declared.reply.Refusal.{Refusal}
+use Rattle.admission_model.specs.declared.operation.Operation.{Operation}
+use Rattle.admission_model.specs.declared.operation.Operation.TheVariants.{EnteredRead, AnnouncedWriter, EnteredWrite, LeftRecord, GaveSeats}
+use Rattle.admission_model.specs.Account.{Account, Origin, layout_of, seats_in, record_of, rise_of, phase_of, sessions_of, own}
+use Rattle.admission_model.specs.Knowledge.{known, hears}
+use Rattle.admission_model.specs.View.{View, view_of}
+use Rattle.admission_model.specs.Order.{sessions_next}
+use Rattle.admission_model.specs.Serving.{Serves, reason, operation_of, after, unless_refused}
+use Rattle.admission_model.specs.Merging.{first_ahead}
+use Rattle.admission_model.specs.Replies.{merge_lines}
+use Rattle.admission_model.specs.Reached.{IsReached}
+use Rattle.admission_model.proofs.CounterLemmas.{known_own}
+use Rattle.admission_model.proofs.RowLemmas.{none_of, AllPass-from, shown_same}
+use Rattle.admission_model.proofs.HeardLemmas.{shown_own}
+use Rattle.admission_model.proofs.LawLemmas.{sound_reached, begins_again}
+use Rattle.admission_model.proofs.OrderLemmas.{sessions_asked}
+use Rattle.admission_model.proofs.ServingLemmas.{Clear, clear_of, origin_after, sites_after}
+use Rattle.admission_model.proofs.StandsLemmas.{known_asked, heard_other}
+use Rattle.admission_core.specs.Core.{Core, core_view, Stands, IsCore}
+use Rattle.admission_core.specs.Carrying.{RaisesOwn}
+use Rattle.admission_core.specs.Prepared.{IsOperationOf}
+use Rattle.admission_core.proofs.CoreLemmas.{shows_account}
 
--- a view that stands for an account is the account's
-same_view : (v : View) (order : List Session) (a : Account) → StandsFor v order a → v ≡ view_of a
-same_view v order a stands =
-    λ i. record {
-      layout = stands.layout i;
-      site = stands.site i;
-      phase = λ r h. stands.phases r h i;
-      counter = λ r s cell. stands.counters r s cell i;
+-- a served account is reached
+pub reached_after : (a : Account) (call : Call) → IsReached a → IsReached (after a call)
+reached_after a call is = record {
+  from = is.from;
+  may_begin = is.may_begin;
+  steps = Serves call ∷ is.steps;
+  reached = ap (λ (b : Account). after b call) is.reached;
+}
+
+-- the sessions of a reached account tell its phases
+pub phases_told : (a : Account) → IsReached a → (r h : ℕ) → phase_in (sessions_of a) r h ≡ phase_of a r h
+phases_told a is r h = (begins_again a is).phases r h
+
+-- a call changes neither layout nor site
+layout_after : (a : Account) (call : Call) → layout_of (after a call) ≡ layout_of a
+layout_after a call = λ i. record { sites = sites_after a call i; records = (origin_after a call i).layout.records }
+
+site_after : (a : Account) (call : Call) → (after a call).origin.site ≡ a.origin.site
+site_after a call = ap (λ (o : Origin). o.site) (origin_after a call)
+
+-- A core of the same layout and site, with the account's sessions and counters after a call, stands for the
+-- account after it.
+pub stands_after : (a : Account) (c d : Core) → Stands a c → (call : Call) → d.layout ≡ c.layout → d.site ≡ c.site → IsBook d.book → shape_of d.layout ≡ book_shape d.book → d.sessions ≡ sessions_of (after a call) → ((r s : ℕ) (cell : Cell) → counter_of d.book r s cell ≡ known (after a call) r s cell) → Stands (after a call) d
+stands_after a c d is call layout site book shape sessions counters = record {
+  reached = reached;
+  book = book;
+  shape = shape;
+  shows = record {
+    layout = layout ∙ (is.shows.layout ∙ sym (layout_after a call));
+    site = site ∙ (is.shows.site ∙ sym (site_after a call));
+    phases = λ r h. ap (λ (ss : List Session). phase_in ss r h) sessions ∙ phases_told (after a call) reached r h;
+    order_kept = sessions;
+    counters = counters;
+  };
+}
+  where
+    reached : IsReached (after a call)
+    reached = reached_after a call is.reached
+
+-- an operation looks at the seats of its own record alone
+rise_there : (seats : ℕ → ℕ) (site : ℕ) (phase : ℕ → ℕ → Option Phase) (operation : Operation) (cell : Cell) → rise_of (λ _. seats (record_of operation)) site phase operation cell ≡ rise_of seats site phase operation cell
+rise_there seats site phase (EnteredRead r h) (Out j) = refl
+rise_there seats site phase (EnteredRead r h) Taken = refl
+rise_there seats site phase (EnteredRead r h) Ann = refl
+rise_there seats site phase (EnteredRead r h) Fin = refl
+rise_there seats site phase (AnnouncedWriter r h) (Out j) = refl
+rise_there seats site phase (AnnouncedWriter r h) Taken = refl
+rise_there seats site phase (AnnouncedWriter r h) Ann = refl
+rise_there seats site phase (AnnouncedWriter r h) Fin = refl
+rise_there seats site phase (EnteredWrite r h) (Out j) = refl
+rise_there seats site phase (EnteredWrite r h) Taken = refl
+rise_there seats site phase (EnteredWrite r h) Ann = refl
+rise_there seats site phase (EnteredWrite r h) Fin = refl
+rise_there seats site phase (LeftRecord r h) (Out j) = refl
+rise_there seats site phase (LeftRecord r h) Taken = refl
+rise_there seats site phase (LeftRecord r h) Ann = refl
+rise_there seats site phase (LeftRecord r h) Fin = refl
+rise_there seats site phase (GaveSeats r to n) (Out j) = refl
+rise_there seats site phase (GaveSeats r to n) Taken = refl
+rise_there seats site phase (GaveSeats r to n) Ann = refl
+rise_there seats site phase (GaveSeats r to n) Fin = refl
+
+-- what an operation adds, by what a view shows
+abbrev adds_by : View → Operation → ℕ → ℕ → Cell → ℕ
+adds_by v operation r s cell =
+    cond (eqb s v.site && eqb (record_of operation) r) (rise_of (seats_in v.layout) v.site v.phase operation cell) 0
+
+-- a core that carried an operation out stands for the account that did
+pub did : (a : Account) (c d : Core) → Stands a c → (ask : Ask) → reason (core_view c) (AskCall ask) ≡ None → d.layout ≡ c.layout → d.site ≡ c.site → IsBook d.book → RaisesOwn c.book d.book c.sessions c.site (seats_in c.layout (record_of (operation_of (core_view c) ask))) (operation_of (core_view c) ask) → d.sessions ≡ sessions_next (operation_of (core_view c) ask) c.sessions → Stands (after a (AskCall ask)) d
+did a c d is ask free layout site book raises sessions =
+    stands_after a c d is (AskCall ask) layout site book (ap shape_of layout ∙ (is.shape ∙ sym raises.shape)) order counters
+  where
+    same : core_view c ≡ view_of a
+    same = shows_account a c is
+
+    accepted : reason (view_of a) (AskCall ask) ≡ None
+    accepted = sym (ap (λ (v : View). reason v (AskCall ask)) same) ∙ free
+
+    operation : Operation
+    operation = operation_of (core_view c) ask
+
+    is_same : operation ≡ operation_of (view_of a) ask
+    is_same = ap (λ (v : View). operation_of v ask) same
+
+    order : d.sessions ≡ sessions_of (after a (AskCall ask))
+    order =
+        sessions
+        ∙ (ap (sessions_next operation) is.shows.order_kept
+        ∙ (ap (λ (o : Operation). sessions_next o (sessions_of a)) is_same
+        ∙ sym (sessions_asked a ask accepted)))
+
+    counters : (r s : ℕ) (cell : Cell) → counter_of d.book r s cell ≡ known (after a (AskCall ask)) r s cell
+    counters r s cell =
+        raises.counters r s cell
+        ∙ (ap (λ (n : ℕ). counter_of c.book r s cell + cond (eqb s c.site && eqb (record_of operation) r) n 0) (rise_there (seats_in c.layout) c.site (phase_in c.sessions) operation cell)
+        ∙ (ap (λ (n : ℕ). n + adds_by (core_view c) operation r s cell) (is.shows.counters r s cell)
+        ∙ (ap (λ (v : View). known a r s cell + adds_by v (operation_of v ask) r s cell) same
+        ∙ sym (known_asked a ask accepted r s cell))))
+
+-- the same, of an operation and a number of seats that are known to be these
+pub did_as : (a : Account) (c d : Core) → Stands a c → (ask : Ask) (operation : Operation) (n : ℕ) → IsOperationOf c ask operation → n ≡ seats_in c.layout (record_of operation) → d.layout ≡ c.layout → d.site ≡ c.site → IsBook d.book → RaisesOwn c.book d.book c.sessions c.site n operation → d.sessions ≡ sessions_next operation c.sessions → Stands (after a (AskCall ask)) d
+did_as a c d is ask operation n it seats layout site book raises sessions =
+    let raised : RaisesOwn c.book d.book c.sessions c.site (seats_in c.layout (record_of operation)) operation =
+    subst (λ (m : ℕ). RaisesOwn c.book d.book c.sessions c.site m operation) seats raises in
+    did a c d is ask it.accepted layout site book
+    (subst (λ (o : Operation). RaisesOwn c.book d.book c.sessions c.site (seats_in c.layout (record_of o)) o) it.is raised)
+    (sessions ∙ ap (λ (o : Operation). sessions_next o c.sessions) it.is)
+
+-- what an account knows after a delta that nothing refuses: the greater of what it knew and what the rows show
+pub known_joined : (a : Account) → IsReached a → (delta : DeltaState) → reason (view_of a) (Merge delta) ≡ None → (r s : ℕ) (cell : Cell) → max (known a r s cell) (shown_by (shape_of a.origin.layout) delta.rows r s cell) ≡ known (hears a delta.rows) r s cell
+known_joined a is delta accepted r s cell = at (cases_eq s a.origin.site)
+  where
+    clear : Clear (merge_lines (view_of a) delta)
+    clear = clear_of (merge_lines (view_of a) delta) accepted
+
+    -- the rows tell nothing new of the own row
+    own_told : shown_by (shape_of a.origin.layout) delta.rows r a.origin.site cell ≤ own a r cell
+    own_told =
+        subst (λ (n : ℕ). n ≤ own a r cell)
+        (shown_same (shape_of (layout_of a)) (shape_of a.origin.layout) refl delta.rows r a.origin.site cell)
+        (shown_own a delta.rows (sound_reached a is)
+        (AllPass-from (is_placed (shape_of (layout_of a))) delta.rows (none_of (first_failing (is_placed (shape_of (layout_of a))) delta.rows) clear.0))
+        (none_of (first_ahead (view_of a) delta.rows) clear.1.1.0) r cell)
+
+    at : (s ≡ a.origin.site) ⊎ (s ≡ a.origin.site → ⊥) → max (known a r s cell) (shown_by (shape_of a.origin.layout) delta.rows r s cell) ≡ known (hears a delta.rows) r s cell
+    at (inl e) =
+        subst (λ (x : ℕ). max (known a r x cell) (shown_by (shape_of a.origin.layout) delta.rows r x cell) ≡ known (hears a delta.rows) r x cell) (sym e)
+        (omega (arith, known_own a r cell, known_own (hears a delta.rows) r cell, own_told))
+    at (inr ne) = sym (heard_other a delta.rows r s cell ne)
+
+-- the account after such a delta
+pub after_merge : (a : Account) (delta : DeltaState) → reason (view_of a) (Merge delta) ≡ None → after a (Merge delta) ≡ hears a delta.rows
+after_merge a delta accepted = ap (λ (o : Option Refusal). unless_refused o a (hears a delta.rows)) accepted
+
+-- a core that joined a delta stands for the account that heard it
+pub joined : (a : Account) (c d : Core) → Stands a c → (delta : DeltaState) → reason (core_view c) (Merge delta) ≡ None → d.layout ≡ c.layout → d.site ≡ c.site → d.sessions ≡ c.sessions → IsBook d.book → JoinsRows c.book d.book delta.rows → Stands (after a (Merge delta)) d
+joined a c d is delta free layout site same_sessions book joins =
+    stands_after a c d is (Merge delta) layout site book (ap shape_of layout ∙ (is.shape ∙ sym joins.shape)) order counters
+  where
+    accepted : reason (view_of a) (Merge delta) ≡ None
+    accepted = sym (ap (λ (v : View). reason v (Merge delta)) (shows_account a c is)) ∙ free
+
+    heard : after a (Merge delta) ≡ hears a delta.rows
+    heard = after_merge a delta accepted
+
+    order : d.sessions ≡ sessions_of (after a (Merge delta))
+    order = same_sessions ∙ (is.shows.order_kept ∙ ap sessions_of (sym heard))
+
+    shown : (r s : ℕ) (cell : Cell) → shown_by (book_shape c.book) delta.rows r s cell ≡ shown_by (shape_of a.origin.layout) delta.rows r s cell
+    shown r s cell =
+        ap (λ (shape : Shape). shown_by shape delta.rows r s cell) (sym is.shape)
+        ∙ (ap (λ (l : LayoutState). shown_by (shape_of l) delta.rows r s cell) is.shows.layout
+        ∙ shown_same (shape_of (layout_of a)) (shape_of a.origin.layout) refl delta.rows r s cell)
+
+    counters : (r s : ℕ) (cell : Cell) → counter_of d.book r s cell ≡ known (after a (Merge delta)) r s cell
+    counters r s cell =
+        joins.counters r s cell
+        ∙ (ap (λ (n : ℕ). max n (shown_by (book_shape c.book) delta.rows r s cell)) (is.shows.counters r s cell)
+        ∙ (ap (λ (n : ℕ). max (known a r s cell) n) (shown r s cell)
+        ∙ (known_joined a is.reached delta accepted r s cell
+        ∙ ap (λ (b : Account). known b r s cell) (sym heard))))
+
+-- a delta that nothing refuses is checked
+pub mergeable : (c : Core) → IsCore c → (delta : DeltaState) → reason (core_view c) (Merge delta) ≡ None → IsChecked (book_shape c.book) delta.rows
+mergeable c is delta free = subst (λ (shape : Shape). IsChecked shape delta.rows) is.stands.shape checked
+  where
+    clear : Clear (merge_lines (core_view c) delta)
+    clear = clear_of (merge_lines (core_view c) delta) free
+
+    checked : IsChecked (shape_of c.layout) delta.rows
+    checked = record {
+      placed = none_of (first_failing (is_placed (shape_of c.layout)) delta.rows) clear.0;
+      valid = none_of (first_failing (is_valid (shape_of c.layout)) delta.rows) clear.1.0;
     }
-
-pub same_reply : (v : View) (order : List Session) (a : Account) → StandsFor v order a → (call : Call) → reply_of v call ≡ reply_of (view_of a) call
-same_reply v order a stands call = ap (λ u. reply_of u call) (same_view v order a stands)
-
--- what is known after an operation
-known_does : (a : Account) (operation : Operation) (r s : ℕ) (cell : Cell) → known (does operation a) r s cell ≡ known a r s cell + cond (eqb s a.origin.site && eqb (record_of operation) r) (rise_of (seats_in a.origin.layout) a.origin.site (phase_of a) operation cell) 0
-known_does a operation r s cell = at (cases_eq s a.origin.site)
-  where
-    rise : ℕ
-    rise = rise_of (seats_in a.origin.layout) a.origin.site (phase_of a) operation cell
-
-    at : (s ≡ a.origin.site) ⊎ (s ≡ a.origin.site → ⊥) → known (does operation a) r s cell ≡ known a r s cell + cond (eqb s a.origin.site && eqb (record_of operation) r) (rise_of (seats_in a.origin.layout) a.origin.site (phase_of a) operation cell) 0
-    at (inl e) =
-        omega (
-          arith,
-          ap (λ x. known (does operation a) r x cell) e,
-          known_own (does operation a) r cell,
-          ap (λ x. known a r x cell) e,
-          known_own a r cell,
-          ap (λ b. cond (b && eqb (record_of operation) r) (rise_of (seats_in a.origin.layout) a.origin.site (phase_of a) operation cell) 0) (eq-eqb s a.origin.site e),
-        )
-    at (inr ne) =
-        omega (
-          arith,
-          known_other (does operation a) r s cell ne,
-          known_other a r s cell ne,
-          ap (λ b. cond (b && eqb (record_of operation) r) (rise_of (seats_in a.origin.layout) a.origin.site (phase_of a) operation cell) 0) (ne_eqb s a.origin.site ne),
-        )
-
-pub known_asked : (a : Account) (ask : Ask) → reason (view_of a) (AskCall ask) ≡ None → (r s : ℕ) (cell : Cell) → known (after a (AskCall ask)) r s cell ≡ known a r s cell + cond (eqb s a.origin.site && eqb (record_of (operation_of (view_of a) ask)) r) (rise_of (seats_in a.origin.layout) a.origin.site (phase_of a) (operation_of (view_of a) ask) cell) 0
-known_asked a ask free r s cell =
-    ap (λ o. known (unless_refused o a (advanced a (AskCall ask))) r s cell) free ∙ known_does a (operation_of (view_of a) ask) r s cell
-
--- what is known after a delta was heard
-pub heard_own : (a : Account) (rows : List Row) (r s : ℕ) (cell : Cell) → s ≡ a.origin.site → known (hears a rows) r s cell ≡ own a r cell
-heard_own a rows r s cell e = ap (λ x. known (hears a rows) r x cell) e ∙ known_own (hears a rows) r cell
-
-pub heard_other : (a : Account) (rows : List Row) (r s : ℕ) (cell : Cell) → s ≢ a.origin.site → known (hears a rows) r s cell ≡ max (known a r s cell) (shown_by (shape_of a.origin.layout) rows r s cell)
-heard_other a rows r s cell ne = omega (arith, known_other (hears a rows) r s cell ne, known_other a r s cell ne)
-
--- what is known after a restart or a growth
-known_again : (a : Account) (n r s : ℕ) (cell : Cell) → known (grown n a) r s cell ≡ kept_or_start a.origin (known a) r s cell
-known_again a n r s cell = at (cases_eq s a.origin.site)
-  where
-    at : (s ≡ a.origin.site) ⊎ (s ≡ a.origin.site → ⊥) → known (grown n a) r s cell ≡ kept_or_start a.origin (known a) r s cell
-    at (inl e) =
-        subst (λ (x : ℕ). known (grown n a) r x cell ≡ kept_or_start a.origin (known a) r x cell) (sym e)
-        (known_own (grown n a) r cell ∙ (sym (known_own a r cell) ∙ sym (kept_yes a.origin (known a) r a.origin.site cell (kept_row a.origin.site cell))))
-    at (inr ne) =
-        known_other (grown n a) r s cell ne
-        ∙ ap (λ x. cond (keeps_counter a.origin.site s cell) x (start_counter (shape_of a.origin.layout) r s cell)) (sym (known_other a r s cell ne))
-
--- the phases after an operation
-abbrev phase_next : Operation → (ℕ → ℕ → Option Phase) → ℕ → ℕ → Option Phase
-phase_next (EnteredRead r2 h2) phase r h = cond (is_key r2 h2 r h) (Some Reader) (phase r h)
-phase_next (AnnouncedWriter r2 h2) phase r h = cond (is_key r2 h2 r h) (Some Waiting) (phase r h)
-phase_next (EnteredWrite r2 h2) phase r h = cond (is_key r2 h2 r h) (Some Writer) (phase r h)
-phase_next (LeftRecord r2 h2) phase r h = cond (is_key r2 h2 r h) None (phase r h)
-phase_next (GaveSeats r2 to seats) phase r h = phase r h
-
-phase_does : (a : Account) (operation : Operation) (r h : ℕ) → phase_of (does operation a) r h ≡ phase_next operation (phase_of a) r h
-phase_does a (EnteredRead r2 h2) r h = refl
-phase_does a (AnnouncedWriter r2 h2) r h = refl
-phase_does a (EnteredWrite r2 h2) r h = refl
-phase_does a (LeftRecord r2 h2) r h = refl
-phase_does a (GaveSeats r2 to seats) r h = refl
-
-module _ (a b : Account) (same : ShowTheSame a b) where
-  views : view_of a ≡ view_of b
-  views = same_view (view_of a) (sessions_of a) b same
-
-  seats : seats_in a.origin.layout ≡ seats_in b.origin.layout
-  seats = ap seats_in same.layout
-
-  phases : phase_of a ≡ phase_of b
-  phases = λ i r h. same.phases r h i
-
-  counters : known a ≡ known b
-  counters = λ i r s cell. same.counters r s cell i
-
-  -- two accounts that do the same operation
-  same_done : (operation : Operation) → sessions_of (does operation a) ≡ sessions_next operation (sessions_of a) → sessions_of (does operation b) ≡ sessions_next operation (sessions_of b) → ShowTheSame (does operation a) (does operation b)
-  same_done operation sessions_a sessions_b = record {
-    layout = same.layout;
-    site = same.site;
-    phases = λ r h. phase_does a operation r h ∙ (ap (λ phase. phase_next operation phase r h) phases ∙ sym (phase_does b operation r h));
-    order_kept = sessions_a ∙ (ap (sessions_next operation) same.order_kept ∙ sym sessions_b);
-    counters = λ r s cell.
-        known_does a operation r s cell
-        ∙ (ap (λ x. x + cond (eqb s a.origin.site && eqb (record_of operation) r) (rise_of (seats_in a.origin.layout) a.origin.site (phase_of a) operation cell) 0) (same.counters r s cell)
-        ∙ (ap (λ i. known b r s cell + cond (eqb s i && eqb (record_of operation) r) (rise_of (seats_in a.origin.layout) i (phase_of a) operation cell) 0) same.site
-        ∙ (ap (λ f. known b r s cell + cond (eqb s b.origin.site && eqb (record_of operation) r) (rise_of f b.origin.site (phase_of a) operation cell) 0) seats
-        ∙ (ap (λ phase. known b r s cell + cond (eqb s b.origin.site && eqb (record_of operation) r) (rise_of (seats_in b.origin.layout) b.origin.site phase operation cell) 0) phases
-        ∙ sym (known_does b operation r s cell)))));
-  }
-
-  same_shown_rows : (rows : List Row) (r s : ℕ) (cell : Cell) → shown_by (shape_of a.origin.layout) rows r s cell ≡ shown_by (shape_of b.origin.layout) rows r s cell
-  same_shown_rows rows r s cell =
-      shown_same (shape_of a.origin.layout) (shape_of b.origin.layout) (ap (λ (l : LayoutState). map record_shape l.records) same.layout) rows r s cell
-
-  same_heard : (rows : List Row) → ShowTheSame (hears a rows) (hears b rows)
-  same_heard rows = record {
-    layout = same.layout;
-    site = same.site;
-    phases = same.phases;
-    order_kept = same.order_kept;
-    counters = λ r s cell. at r s cell (cases_eq s a.origin.site);
-  }
-    where
-      at : (r s : ℕ) (cell : Cell) → (s ≡ a.origin.site) ⊎ (s ≡ a.origin.site → ⊥) → known (hears a rows) r s cell ≡ known (hears b rows) r s cell
-      at r s cell (inl e) =
-          heard_own a rows r s cell e
-          ∙ (sym (known_own a r cell) ∙ (sym (ap (λ x. known a r x cell) e)
-          ∙ (same.counters r s cell
-          ∙ (ap (λ x. known b r x cell) (e ∙ same.site) ∙ (known_own b r cell ∙ sym (heard_own b rows r s cell (e ∙ same.site)))))))
-      at r s cell (inr ne) =
-          heard_other a rows r s cell ne
-          ∙ (ap (λ x. max x (shown_by (shape_of a.origin.layout) rows r s cell)) (same.counters r s cell)
-          ∙ (ap (λ x. max (known b r s cell) x) (same_shown_rows rows r s cell)
-          ∙ sym (heard_other b rows r s cell (λ e. ne (e ∙ sym same.site)))))
-
-  same_again : (n m : ℕ) → n ≡ m → ShowTheSame (grown n a) (grown m b)
-  same_again n m e = record {
-    layout = λ i. record { sites = e i; records = (same.layout i).records };
-    site = same.site;
-    phases = same.phases;
-    order_kept = same.order_kept;
-    counters = λ r s cell.
-        known_again a n r s cell
-        ∙ (ap (λ f. cond (keeps_counter a.origin.site s cell) (f r s cell) (start_counter (shape_of a.origin.layout) r s cell)) counters
-        ∙ (ap (λ i. cond (keeps_counter i s cell) (known b r s cell) (start_counter (shape_of a.origin.layout) r s cell)) same.site
-        ∙ (ap (λ (l : LayoutState). cond (keeps_counter b.origin.site s cell) (known b r s cell) (start_counter (shape_of l) r s cell)) same.layout
-        ∙ sym (known_again b m r s cell))));
-  }
-
-  same_called : (call : Call) (o : Option Refusal) → reason (view_of a) call ≡ o → reason (view_of b) call ≡ o → ShowTheSame (unless_refused o a (advanced a call)) (unless_refused o b (advanced b call))
-  same_called call (Some refusal) e f = same
-  same_called (AskCall ask) None e f =
-      let operation : operation_of (view_of a) ask ≡ operation_of (view_of b) ask = ap (λ v. operation_of v ask) views in
-      subst (λ (x : Operation). ShowTheSame (advanced a (AskCall ask)) (does x b)) operation
-      (same_done (operation_of (view_of a) ask) (sessions_advanced a ask e)
-      (subst (λ (x : Operation). sessions_of (does x b) ≡ sessions_next x (sessions_of b)) (sym operation) (sessions_advanced b ask f)))
-  same_called (Merge delta) None e f = same_heard delta.rows
-  same_called SnapshotCall None e f = same
-
-  same_after : (call : Call) → ShowTheSame (after a call) (after b call)
-  same_after call =
-      let reasons : reason (view_of a) call ≡ reason (view_of b) call = ap (λ v. reason v call) views in
-      subst (λ (o : Option Refusal). ShowTheSame (after a call) (unless_refused o b (advanced b call))) reasons
-      (same_called call (reason (view_of a) call) refl (sym reasons))
-
-  -- two accounts that show the same show the same after each step
-  pub same_step : (step : Step) → ShowTheSame (after_step a step) (after_step b step)
-  same_step (Serves call) = same_after call
-  same_step Restarts = same_again a.sites b.sites (ap (λ (l : LayoutState). l.sites) same.layout)
-  same_step (Grows n) = at (cases_Bool (leb a.sites n))
-    where
-      tests : leb a.sites n ≡ leb b.sites n
-      tests = ap (λ (l : LayoutState). leb l.sites n) same.layout
-
-      at : (leb a.sites n ≡ true) ⊎ (leb a.sites n ≡ false) → ShowTheSame (after_step a (Grows n)) (after_step b (Grows n))
-      at (inl e) =
-          subst (λ (c : Account). ShowTheSame c (after_step b (Grows n))) (sym (cond-true (leb a.sites n) (grown n a) a e))
-          (subst (λ (c : Account). ShowTheSame (grown n a) c) (sym (cond-true (leb b.sites n) (grown n b) b (sym tests ∙ e))) (same_again n n refl))
-      at (inr e) =
-          subst (λ (c : Account). ShowTheSame c (after_step b (Grows n))) (sym (cond-false (leb a.sites n) (grown n a) a e))
-          (subst (λ (c : Account). ShowTheSame a c) (sym (cond-false (leb b.sites n) (grown n b) b (sym tests ∙ e))) same)

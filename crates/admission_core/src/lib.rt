@@ -1,9 +1,18 @@
-//! One site's admission: what callers may ask, what a site may answer, and the laws of the definitions.
+//! One site's admission: each call is answered at once, from the site's own book, as the model of a site
+//! answers it.
 #![tactic(auto)]
 
-pub use ask::{Ask, Call, Phase};
-pub use reply::{Plan, Refusal, Reply};
+pub use admission_model::{
+    Ask, Call, DurableCell, Operation, Phase, Plan, Refusal, Reply, Session,
+};
+pub use change::{Change, SessionChange};
+pub use durable::Durable;
+pub use prepared::Prepared;
+pub use site_core::SiteCore;
 
-mod ask;
-pub mod laws;
-mod reply;
+mod change;
+mod durable;
+mod prepared;
+mod site_core;
+#[cfg(test)]
+mod tests;

@@ -10,25 +10,25 @@ use Rattle.merge_core.specs.Delta.{DeltaState}
 use Rattle.merge_core.specs.declared.layout.RecordSpec.{RecordSpec}
 use Rattle.merge_core.specs.Layout.{LayoutState, IsLayout, Shape, shape_of, record_shape, at_sites}
 use Rattle.merge_core.specs.Rows.{start_counter, counter_in, counters_of}
-use Rattle.admission_core.specs.declared.ask.Ask.{Ask}
-use Rattle.admission_core.specs.declared.ask.Call.TheVariants.{Ask as AskCall, Merge}
-use Rattle.admission_core.specs.Account.{Account, begin, start_origin, layout_of, own}
+use Rattle.admission_model.specs.declared.ask.Ask.{Ask}
+use Rattle.admission_model.specs.declared.ask.Call.TheVariants.{Ask as AskCall, Merge}
+use Rattle.admission_model.specs.Account.{Account, begin, start_origin, layout_of, own}
 use Rattle.merge_core.specs.Changes.{keeps_counter}
-use Rattle.admission_core.specs.Knowledge.{told_after, told, known, hears, restarted, grown}
-use Rattle.admission_core.specs.View.{view_of}
+use Rattle.admission_model.specs.Knowledge.{told_after, told, known, hears, restarted, grown}
+use Rattle.admission_model.specs.View.{view_of}
 use Rattle.merge_core.specs.Moved.{told_row}
-use Rattle.admission_core.specs.Replies.{merge_lines}
-use Rattle.admission_core.specs.Merging.{snapshot_of}
-use Rattle.admission_core.specs.Serving.{unless_refused, after}
-use Rattle.admission_core.specs.Sound.{FitsRow, IsSound}
-use Rattle.admission_core.proofs.CounterLemmas.{known_own, known_other}
-use Rattle.admission_core.proofs.RowLemmas.{start_below}
-use Rattle.admission_core.proofs.HeardLemmas.{sound_grown, known_fits, kept_most}
-use Rattle.admission_core.proofs.ServingLemmas.{first_both, sound_after, origin_after, sites_after}
-use Rattle.admission_core.proofs.StartLemmas.{sound_start}
-use Rattle.admission_core.proofs.ToldLemmas.{told_row-below, told_row-tellable, told_row-wide, all_told}
-use Rattle.admission_core.proofs.SnapshotLemmas.{told_apart}
-use Rattle.admission_core.proofs.ThinLemmas.{all_thin}
+use Rattle.admission_model.specs.Replies.{merge_lines}
+use Rattle.admission_model.specs.Merging.{snapshot_of}
+use Rattle.admission_model.specs.Serving.{unless_refused, after}
+use Rattle.admission_model.specs.Sound.{FitsRow, IsSound}
+use Rattle.admission_model.proofs.CounterLemmas.{known_own, known_other}
+use Rattle.admission_model.proofs.RowLemmas.{start_below}
+use Rattle.admission_model.proofs.HeardLemmas.{sound_grown, known_fits, kept_most}
+use Rattle.admission_model.proofs.ServingLemmas.{first_both, sound_after, origin_after, sites_after}
+use Rattle.admission_model.proofs.StartLemmas.{sound_start}
+use Rattle.admission_model.proofs.ToldLemmas.{told_row-below, told_row-tellable, told_row-wide, all_told}
+use Rattle.admission_model.proofs.SnapshotLemmas.{told_apart}
+use Rattle.admission_model.proofs.ThinLemmas.{all_thin}
 use Rattle.multi_site_world.specs.declared.event.Event.{Event}
 use Rattle.multi_site_world.specs.declared.event.Event.TheVariants.{Call, Send, Take, Thin, Restart, Grow}
 use Rattle.multi_site_world.specs.World.{World, account_at, with_account, first_layout, first_account, first_accounts, start_world, world_taken, thin, thin_message, world_grown, world_here, place_of, happens, run}

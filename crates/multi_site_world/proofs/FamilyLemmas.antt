@@ -8,22 +8,22 @@ use Rattle.merge_core.specs.declared.delta.Row.{Row}
 use Rattle.merge_core.specs.declared.layout.RecordSpec.{RecordSpec}
 use Rattle.merge_core.specs.Layout.{LayoutState, IsLayout, shape_of, record_shape, at_sites}
 use Rattle.merge_core.specs.Rows.{grant, start_counter}
-use Rattle.admission_core.specs.declared.ask.Phase.{Phase}
-use Rattle.admission_core.specs.declared.ask.Phase.TheVariants.{Reader, Waiting, Writer}
+use Rattle.session_list.specs.declared.session.Phase.{Phase}
+use Rattle.session_list.specs.declared.session.Phase.TheVariants.{Reader, Waiting, Writer}
 use Rattle.merge_core.specs.Sums.{total, total_others}
-use Rattle.admission_core.specs.Account.{Account, Heard, HeardRows, StartedAgain, Origin, begin, start_origin, seats_in, own, phase_of, inside, weight, on_phase, arrivals}
+use Rattle.admission_model.specs.Account.{Account, Heard, HeardRows, StartedAgain, Origin, begin, start_origin, seats_in, own, phase_of, inside, weight, on_phase, arrivals}
 use Rattle.merge_core.specs.Changes.{keeps_counter}
-use Rattle.admission_core.specs.Knowledge.{told_after, told, known}
-use Rattle.admission_core.specs.View.{view_of, rights_of}
-use Rattle.admission_core.specs.Sound.{FitsRow, IsSound}
+use Rattle.admission_model.specs.Knowledge.{told_after, told, known}
+use Rattle.admission_model.specs.View.{view_of, rights_of}
+use Rattle.admission_model.specs.Sound.{FitsRow, IsSound}
 use Rattle.merge_core.proofs.SumLemmas.{total_same, total_add, total_member, total_two, total_others_same, total_others_add, total_others-swap}
-use Rattle.admission_core.proofs.SumLemmas.{total_others_more}
-use Rattle.admission_core.proofs.SessionLemmas.{adds, sessions-keys, keys_member, keys_two}
-use Rattle.admission_core.proofs.CounterLemmas.{known_other}
-use Rattle.admission_core.proofs.RowLemmas.{shown_as, shown_same, start_below, start_elsewhere}
-use Rattle.admission_core.proofs.ServingLemmas.{sound_replay, origin_replay}
-use Rattle.admission_core.proofs.HeardLemmas.{site_sum_own}
-use Rattle.admission_core.proofs.StartLemmas.{sound_start, grants_total, some_seats}
+use Rattle.admission_model.proofs.SumLemmas.{total_others_more}
+use Rattle.admission_model.proofs.SessionLemmas.{adds, sessions-keys, keys_member, keys_two}
+use Rattle.admission_model.proofs.CounterLemmas.{known_other}
+use Rattle.admission_model.proofs.RowLemmas.{shown_as, shown_same, start_below, start_elsewhere}
+use Rattle.admission_model.proofs.ServingLemmas.{sound_replay, origin_replay}
+use Rattle.admission_model.proofs.HeardLemmas.{site_sum_own}
+use Rattle.admission_model.proofs.StartLemmas.{sound_start, grants_total, some_seats}
 use Rattle.multi_site_world.specs.Laws.{in_flight, all_in_flight, all_rights, all_inside, IsInside, IsWriterAlone, HeardNoMore, AreLogged, IsConsistentCut}
 
 -- the seats and the grants of a layout depend on its records alone

@@ -2,15 +2,15 @@
 use Rattle.std.proofs.Common.{◌≡◌, ◌≢◌, ℕ, ◌<◌, ◌≤◌, ◌⊎◌, inl, inr, true, false, cond, eqb, List, [], ◌∷◌, length, Option, Some, None, refl, ap, ◌∙◌, arith}
 use Rattle.std.proofs.lemmas.Bool.{cases_Bool, eqb-true, cond-true, cond-false, ne_eqb}
 use Rattle.merge_core.specs.declared.cell.Cell.TheVariants.{Out}
-use Rattle.admission_core.specs.declared.ask.Phase.{Phase}
-use Rattle.admission_core.specs.declared.ask.Phase.TheVariants.{Reader, Waiting, Writer}
+use Rattle.session_list.specs.declared.session.Phase.{Phase}
+use Rattle.session_list.specs.declared.session.Phase.TheVariants.{Reader, Waiting, Writer}
 use Rattle.merge_core.specs.Sums.{total_others}
-use Rattle.admission_core.specs.Account.{Account, Key, seats_in, own, inside, phase_of, arrivals, weight, on_phase}
-use Rattle.admission_core.specs.Knowledge.{known}
-use Rattle.admission_core.specs.View.{view_of, rights_of}
+use Rattle.admission_model.specs.Account.{Account, Key, seats_in, own, inside, phase_of, arrivals, weight, on_phase}
+use Rattle.admission_model.specs.Knowledge.{known}
+use Rattle.admission_model.specs.View.{view_of, rights_of}
 use Rattle.merge_core.proofs.SumLemmas.{total_member}
-use Rattle.admission_core.proofs.KeyLemmas.{keys_total}
-use Rattle.admission_core.proofs.SessionLemmas.{adds, sessions-keys}
+use Rattle.admission_model.proofs.KeyLemmas.{keys_total}
+use Rattle.admission_model.proofs.SessionLemmas.{adds, sessions-keys}
 use Rattle.multi_site_world.specs.World.{World, account_at, run, replies}
 use Rattle.multi_site_world.specs.Laws.{IsReachedWorld, in_flight, all_in_flight, IsInside, gathering, AreGathered, MayGather, CanGather}
 use Rattle.multi_site_world.proofs.WorldLemmas.{IsSoundWorld}

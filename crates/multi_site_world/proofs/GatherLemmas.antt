@@ -9,19 +9,19 @@ use Rattle.merge_core.specs.Delta.{DeltaState}
 use Rattle.merge_core.specs.declared.layout.RecordSpec.{RecordSpec}
 use Rattle.merge_core.specs.Layout.{shape_of}
 use Rattle.merge_core.specs.Naming.{shown_by}
-use Rattle.admission_core.specs.declared.ask.Ask.TheVariants.{Help}
-use Rattle.admission_core.specs.declared.ask.Call.TheVariants.{Ask as AskCall, Merge}
-use Rattle.admission_core.specs.declared.reply.Refusal.TheVariants.{CounterFull}
-use Rattle.admission_core.specs.declared.reply.Reply.TheVariants.{Refused}
-use Rattle.admission_core.specs.Account.{Account, Origin, layout_of, own, inside}
-use Rattle.admission_core.specs.Knowledge.{known, hears}
-use Rattle.admission_core.specs.View.{view_of}
-use Rattle.admission_core.specs.Merging.{snapshot_of}
-use Rattle.admission_core.specs.Serving.{reason, reply_of, unless_refused, after}
-use Rattle.admission_core.specs.Laws.{IsFirstUnfinished}
-use Rattle.admission_core.proofs.CounterLemmas.{known_own}
-use Rattle.admission_core.proofs.SnapshotLemmas.{snapshot_shows}
-use Rattle.admission_core.proofs.HelpLemmas.{IsHelped, helped}
+use Rattle.admission_model.specs.declared.ask.Ask.TheVariants.{Help}
+use Rattle.admission_model.specs.declared.ask.Call.TheVariants.{Ask as AskCall, Merge}
+use Rattle.admission_model.specs.declared.reply.Refusal.TheVariants.{CounterFull}
+use Rattle.admission_model.specs.declared.reply.Reply.TheVariants.{Refused}
+use Rattle.admission_model.specs.Account.{Account, Origin, layout_of, own, inside}
+use Rattle.admission_model.specs.Knowledge.{known, hears}
+use Rattle.admission_model.specs.View.{view_of}
+use Rattle.admission_model.specs.Merging.{snapshot_of}
+use Rattle.admission_model.specs.Serving.{reason, reply_of, unless_refused, after}
+use Rattle.admission_model.specs.Laws.{IsFirstUnfinished}
+use Rattle.admission_model.proofs.CounterLemmas.{known_own}
+use Rattle.admission_model.proofs.SnapshotLemmas.{snapshot_shows}
+use Rattle.admission_model.proofs.HelpLemmas.{IsHelped, helped}
 use Rattle.multi_site_world.specs.declared.event.Event.{Event}
 use Rattle.multi_site_world.specs.declared.event.Event.TheVariants.{Call, Send, Take}
 use Rattle.multi_site_world.specs.World.{World, account_at, with_account, world_taken, world_here, place_of, happens}

@@ -8,20 +8,20 @@ use Rattle.merge_core.specs.declared.cell.Cell.TheVariants.{Out, Ann, Fin}
 use Rattle.merge_core.specs.declared.layout.RecordSpec.{RecordSpec}
 use Rattle.merge_core.specs.Layout.{LayoutState, shape_of}
 use Rattle.merge_core.specs.Naming.{shown_by}
-use Rattle.admission_core.specs.declared.ask.Ask.TheVariants.{Help}
-use Rattle.admission_core.specs.declared.ask.Call.TheVariants.{Ask as AskCall}
-use Rattle.admission_core.specs.declared.reply.Refusal.TheVariants.{CounterFull, NoPlan}
-use Rattle.admission_core.specs.declared.reply.Reply.TheVariants.{Gave, Refused}
+use Rattle.admission_model.specs.declared.ask.Ask.TheVariants.{Help}
+use Rattle.admission_model.specs.declared.ask.Call.TheVariants.{Ask as AskCall}
+use Rattle.admission_model.specs.declared.reply.Refusal.TheVariants.{CounterFull, NoPlan}
+use Rattle.admission_model.specs.declared.reply.Reply.TheVariants.{Gave, Refused}
 use Rattle.merge_core.specs.Sums.{total_others}
-use Rattle.admission_core.specs.Account.{Account, seats_in, own, inside}
-use Rattle.admission_core.specs.Knowledge.{known, told, told_after}
-use Rattle.admission_core.specs.View.{view_of, rights_of}
-use Rattle.admission_core.specs.Serving.{reply_of}
-use Rattle.admission_core.specs.Merging.{snapshot_of}
-use Rattle.admission_core.specs.Laws.{IsFirstUnfinished}
-use Rattle.admission_core.proofs.HelpLemmas.{help_reply}
+use Rattle.admission_model.specs.Account.{Account, seats_in, own, inside}
+use Rattle.admission_model.specs.Knowledge.{known, told, told_after}
+use Rattle.admission_model.specs.View.{view_of, rights_of}
+use Rattle.admission_model.specs.Serving.{reply_of}
+use Rattle.admission_model.specs.Merging.{snapshot_of}
+use Rattle.admission_model.specs.Laws.{IsFirstUnfinished}
+use Rattle.admission_model.proofs.HelpLemmas.{help_reply}
 use Rattle.merge_core.proofs.SumLemmas.{total_zero, total_split}
-use Rattle.admission_core.proofs.CounterLemmas.{known_own, known_other}
+use Rattle.admission_model.proofs.CounterLemmas.{known_own, known_other}
 use Rattle.multi_site_world.specs.declared.event.Event.TheVariants.{Call, Send, Take}
 use Rattle.multi_site_world.specs.declared.event.WorldReply.{WorldReply}
 use Rattle.multi_site_world.specs.declared.event.WorldReply.TheVariants.{Core}

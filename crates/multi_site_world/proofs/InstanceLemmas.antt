@@ -4,12 +4,12 @@ use Rattle.std.proofs.lemmas.Bool.{cond_both}
 use Rattle.merge_core.specs.declared.cell.Cell.{Cell}
 use Rattle.merge_core.specs.declared.cell.Cell.TheVariants.{Out, Taken, Ann, Fin}
 use Rattle.merge_core.specs.Rows.{counter_in}
-use Rattle.admission_core.specs.declared.ask.Phase.TheVariants.{Waiting}
-use Rattle.admission_core.specs.Account.{phase_of, own}
-use Rattle.admission_core.specs.Knowledge.{known}
-use Rattle.admission_core.specs.View.{view_of}
-use Rattle.admission_core.specs.Serving.{Step}
-use Rattle.admission_core.specs.Laws.{IsFirstUnfinished}
+use Rattle.session_list.specs.declared.session.Phase.TheVariants.{Waiting}
+use Rattle.admission_model.specs.Account.{phase_of, own}
+use Rattle.admission_model.specs.Knowledge.{known}
+use Rattle.admission_model.specs.View.{view_of}
+use Rattle.admission_model.specs.Serving.{Step}
+use Rattle.admission_model.specs.Laws.{IsFirstUnfinished}
 use Rattle.multi_site_world.specs.World.{account_at}
 use Rattle.multi_site_world.specs.Laws.{IsInside, MayGather, CanGather, AreTheOthers, IsOneOf, HasCounted, HasTaken, AreLogged, IsConsistentCut}
 use Rattle.multi_site_world.specs.Instances.{three_sites, writer_heard, others_of_1, writer_there, second_message, log_of_0, logs, accounts_of}

@@ -11,22 +11,22 @@ use Rattle.merge_core.specs.Delta.{DeltaState}
 use Rattle.merge_core.specs.Layout.{LayoutState, IsLayout, Shape, shape_of}
 use Rattle.merge_core.specs.Moved.{raised_by}
 use Rattle.merge_core.specs.Tests.{is_placed, is_valid, first_failing}
-use Rattle.admission_core.specs.declared.ask.Ask.TheVariants.{Read}
-use Rattle.admission_core.specs.declared.ask.Call.TheVariants.{Ask as AskCall, Merge}
-use Rattle.admission_core.specs.declared.reply.Refusal.TheVariants.{WriterAnnounced, OtherLayout, BadRow, OwnRowAhead}
-use Rattle.admission_core.specs.declared.reply.Reply.{Reply}
-use Rattle.admission_core.specs.declared.reply.Reply.TheVariants.{Admitted, Refused}
-use Rattle.admission_core.specs.Account.{Account, layout_of, seats_in}
-use Rattle.admission_core.specs.Knowledge.{known}
-use Rattle.admission_core.specs.View.{problem_in, view_of}
-use Rattle.admission_core.specs.Merging.{first_ahead}
-use Rattle.admission_core.specs.Replies.{line}
-use Rattle.admission_core.specs.Serving.{reason, replied, reply_of, answer}
-use Rattle.admission_core.specs.Laws.{SourcesAgree, MayAsk, IsFirstUnfinished}
-use Rattle.admission_core.proofs.RowLemmas.{AllPass, AllPass-from, none_of, placed_parts}
-use Rattle.admission_core.proofs.UnitLemmas.{equal_counters}
-use Rattle.admission_core.proofs.NoticeLemmas.{none_admitted}
-use Rattle.admission_core.proofs.ReaderLemmas.{reason_behind, reader_held}
+use Rattle.admission_model.specs.declared.ask.Ask.TheVariants.{Read}
+use Rattle.admission_model.specs.declared.ask.Call.TheVariants.{Ask as AskCall, Merge}
+use Rattle.admission_model.specs.declared.reply.Refusal.TheVariants.{WriterAnnounced, OtherLayout, BadRow, OwnRowAhead}
+use Rattle.admission_model.specs.declared.reply.Reply.{Reply}
+use Rattle.admission_model.specs.declared.reply.Reply.TheVariants.{Admitted, Refused}
+use Rattle.admission_model.specs.Account.{Account, layout_of, seats_in}
+use Rattle.admission_model.specs.Knowledge.{known}
+use Rattle.admission_model.specs.View.{problem_in, view_of}
+use Rattle.admission_model.specs.Merging.{first_ahead}
+use Rattle.admission_model.specs.Replies.{line}
+use Rattle.admission_model.specs.Serving.{reason, replied, reply_of, answer}
+use Rattle.admission_model.specs.Laws.{SourcesAgree, MayAsk, IsFirstUnfinished}
+use Rattle.admission_model.proofs.RowLemmas.{AllPass, AllPass-from, none_of, placed_parts}
+use Rattle.admission_model.proofs.UnitLemmas.{equal_counters}
+use Rattle.admission_model.proofs.NoticeLemmas.{none_admitted}
+use Rattle.admission_model.proofs.ReaderLemmas.{reason_behind, reader_held}
 use Rattle.multi_site_world.specs.declared.event.Event.{Event}
 use Rattle.multi_site_world.specs.declared.event.Event.TheVariants.{Call, Send, Take, Thin, Restart, Grow}
 use Rattle.multi_site_world.specs.declared.event.WorldReply.{WorldReply}

@@ -5,12 +5,12 @@ use Rattle.std.proofs.lemmas.List.{length-set}
 use Rattle.std.proofs.lemmas.Bool.{cases_eq, cond_both, cond-true, ltb-true, le-leb}
 use Rattle.merge_core.specs.Delta.{DeltaState}
 use Rattle.merge_core.specs.Layout.{LayoutState, IsLayout}
-use Rattle.admission_core.specs.declared.ask.Call.TheVariants.{Ask as AskCall, Merge}
-use Rattle.admission_core.specs.Account.{Account, begin, start_origin}
-use Rattle.admission_core.specs.Knowledge.{grown, restarted}
-use Rattle.admission_core.specs.Serving.{Step, Serves, Restarts, Grows, after, after_step}
-use Rattle.admission_core.specs.Reached.{IsReached}
-use Rattle.admission_core.proofs.StartLemmas.{sound_start}
+use Rattle.admission_model.specs.declared.ask.Call.TheVariants.{Ask as AskCall, Merge}
+use Rattle.admission_model.specs.Account.{Account, begin, start_origin}
+use Rattle.admission_model.specs.Knowledge.{grown, restarted}
+use Rattle.admission_model.specs.Serving.{Step, Serves, Restarts, Grows, after, after_step}
+use Rattle.admission_model.specs.Reached.{IsReached}
+use Rattle.admission_model.proofs.StartLemmas.{sound_start}
 use Rattle.multi_site_world.specs.declared.event.Event.{Event}
 use Rattle.multi_site_world.specs.declared.event.Event.TheVariants.{Call, Send, Take, Thin, Restart, Grow}
 use Rattle.multi_site_world.specs.World.{World, account_at, with_account, first_layout, start_world, world_taken, thin_message, world_here, place_of, happens, run}

@@ -11,20 +11,20 @@ use Rattle.merge_core.specs.Layout.{shape_of}
 use Rattle.merge_core.specs.Naming.{shown_by}
 use Rattle.merge_core.specs.Tests.{is_placed, first_failing}
 use Rattle.merge_core.specs.Thin.{thin_rows}
-use Rattle.admission_core.specs.declared.ask.Call.TheVariants.{Ask as AskCall, Merge}
-use Rattle.admission_core.specs.Account.{Account, layout_of, own}
-use Rattle.admission_core.specs.Knowledge.{known, hears, grown, restarted}
-use Rattle.admission_core.specs.View.{view_of}
-use Rattle.admission_core.specs.Replies.{merge_lines}
-use Rattle.admission_core.specs.Serving.{reason, unless_refused, after, Serves, Restarts}
-use Rattle.admission_core.specs.Sound.{IsSound}
-use Rattle.admission_core.proofs.CounterLemmas.{known_own, known_other}
-use Rattle.admission_core.proofs.RowLemmas.{AllPass, AllPass-from, none_of, placed_parts, start_below}
-use Rattle.admission_core.proofs.HeardLemmas.{known_fits}
-use Rattle.admission_core.proofs.ServingLemmas.{first_both}
-use Rattle.admission_core.proofs.NoticeLemmas.{IsNotice, notices_stay, known_grown}
-use Rattle.admission_core.proofs.SnapshotLemmas.{matches}
-use Rattle.admission_core.proofs.ThinLemmas.{thin_raises, all_thin}
+use Rattle.admission_model.specs.declared.ask.Call.TheVariants.{Ask as AskCall, Merge}
+use Rattle.admission_model.specs.Account.{Account, layout_of, own}
+use Rattle.admission_model.specs.Knowledge.{known, hears, grown, restarted}
+use Rattle.admission_model.specs.View.{view_of}
+use Rattle.admission_model.specs.Replies.{merge_lines}
+use Rattle.admission_model.specs.Serving.{reason, unless_refused, after, Serves, Restarts}
+use Rattle.admission_model.specs.Sound.{IsSound}
+use Rattle.admission_model.proofs.CounterLemmas.{known_own, known_other}
+use Rattle.admission_model.proofs.RowLemmas.{AllPass, AllPass-from, none_of, placed_parts, start_below}
+use Rattle.admission_model.proofs.HeardLemmas.{known_fits}
+use Rattle.admission_model.proofs.ServingLemmas.{first_both}
+use Rattle.admission_model.proofs.NoticeLemmas.{IsNotice, notices_stay, known_grown}
+use Rattle.admission_model.proofs.SnapshotLemmas.{matches}
+use Rattle.admission_model.proofs.ThinLemmas.{thin_raises, all_thin}
 use Rattle.multi_site_world.specs.declared.event.Event.{Event}
 use Rattle.multi_site_world.specs.declared.event.Event.TheVariants.{Call, Send, Take, Thin, Restart, Grow}
 use Rattle.multi_site_world.specs.World.{World, account_at, with_account, world_taken, thin, thin_message, world_here, place_of, happens}

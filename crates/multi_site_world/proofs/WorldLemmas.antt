@@ -10,20 +10,20 @@ use Rattle.merge_core.specs.declared.layout.RecordSpec.{RecordSpec}
 use Rattle.merge_core.specs.Layout.{LayoutState, IsLayout, shape_of, record_shape}
 use Rattle.merge_core.specs.Rows.{grant, counter_in, counters_of}
 use Rattle.merge_core.specs.Naming.{shown_by}
-use Rattle.admission_core.specs.declared.ask.Ask.{Ask}
-use Rattle.admission_core.specs.declared.ask.Call.{Call}
-use Rattle.admission_core.specs.declared.ask.Call.TheVariants.{Ask as AskCall, Merge, Snapshot as SnapshotCall}
-use Rattle.admission_core.specs.Account.{Account, Origin, begin, start_origin, layout_of, own}
-use Rattle.admission_core.specs.Knowledge.{told, hears}
-use Rattle.admission_core.specs.View.{view_of}
-use Rattle.admission_core.specs.Replies.{ask_lines, merge_lines}
-use Rattle.admission_core.specs.Serving.{reason, advanced, unless_refused, after}
-use Rattle.admission_core.specs.Sound.{FitsRow, IsSound}
-use Rattle.admission_core.proofs.CounterLemmas.{known_own}
-use Rattle.admission_core.proofs.RowLemmas.{shown_as, shown_same, start_below}
-use Rattle.admission_core.proofs.SnapshotLemmas.{matches}
-use Rattle.admission_core.proofs.ServingLemmas.{first_both}
-use Rattle.admission_core.proofs.MessageLemmas.{IsTellable, merge_accepted}
+use Rattle.admission_model.specs.declared.ask.Ask.{Ask}
+use Rattle.admission_model.specs.declared.ask.Call.{Call}
+use Rattle.admission_model.specs.declared.ask.Call.TheVariants.{Ask as AskCall, Merge, Snapshot as SnapshotCall}
+use Rattle.admission_model.specs.Account.{Account, Origin, begin, start_origin, layout_of, own}
+use Rattle.admission_model.specs.Knowledge.{told, hears}
+use Rattle.admission_model.specs.View.{view_of}
+use Rattle.admission_model.specs.Replies.{ask_lines, merge_lines}
+use Rattle.admission_model.specs.Serving.{reason, advanced, unless_refused, after}
+use Rattle.admission_model.specs.Sound.{FitsRow, IsSound}
+use Rattle.admission_model.proofs.CounterLemmas.{known_own}
+use Rattle.admission_model.proofs.RowLemmas.{shown_as, shown_same, start_below}
+use Rattle.admission_model.proofs.SnapshotLemmas.{matches}
+use Rattle.admission_model.proofs.ServingLemmas.{first_both}
+use Rattle.admission_model.proofs.MessageLemmas.{IsTellable, merge_accepted}
 use Rattle.multi_site_world.specs.World.{World, account_at, with_account}
 use Rattle.multi_site_world.proofs.FamilyLemmas.{IsFamily, row_fits, same_shown, same_grant}
 

@@ -5,13 +5,13 @@ use Rattle.merge_core.specs.declared.cell.Cell.TheVariants.{Out, Taken, Ann, Fin
 use Rattle.merge_core.specs.declared.delta.Row.{Row}
 use Rattle.merge_core.specs.Delta.{DeltaState}
 use Rattle.merge_core.specs.Layout.{LayoutState}
-use Rattle.admission_core.specs.declared.ask.Ask.TheVariants.{Read, Announce, Quill, Leave, Give, Help}
-use Rattle.admission_core.specs.declared.ask.Phase.TheVariants.{Reader, Waiting, Writer}
-use Rattle.admission_core.specs.declared.reply.Refusal.TheVariants.{NoRecord, BadHolder, AlreadyHere, CounterFull, NoSeat, WriterAnnounced, TooManyWriters, NotAnnounced, AlreadyInside, MissingSeats, NotHere, NoSite as NoSuchSite, ToSelf, ZeroSeats, TooFewRights, NoPlan, OtherLayout}
-use Rattle.admission_core.specs.declared.reply.Reply.{Reply}
-use Rattle.admission_core.specs.declared.reply.Reply.TheVariants.{Admitted, Announced, Left, Given, Gave, Merged, Refused}
-use Rattle.admission_core.specs.Account.{begin, own, inside}
-use Rattle.admission_core.specs.View.{View, view_of, rights_of}
+use Rattle.admission_model.specs.declared.ask.Ask.TheVariants.{Read, Announce, Quill, Leave, Give, Help}
+use Rattle.session_list.specs.declared.session.Phase.TheVariants.{Reader, Waiting, Writer}
+use Rattle.admission_model.specs.declared.reply.Refusal.TheVariants.{NoRecord, BadHolder, AlreadyHere, CounterFull, NoSeat, WriterAnnounced, TooManyWriters, NotAnnounced, AlreadyInside, MissingSeats, NotHere, NoSite as NoSuchSite, ToSelf, ZeroSeats, TooFewRights, NoPlan, OtherLayout}
+use Rattle.admission_model.specs.declared.reply.Reply.{Reply}
+use Rattle.admission_model.specs.declared.reply.Reply.TheVariants.{Admitted, Announced, Left, Given, Gave, Merged, Refused}
+use Rattle.admission_model.specs.Account.{begin, own, inside}
+use Rattle.admission_model.specs.View.{View, view_of, rights_of}
 use Rattle.multi_site_world.specs.World.{World, account_at}
 use Rattle.multi_site_world.specs.declared.event.Event.{Event}
 use Rattle.multi_site_world.specs.declared.event.Event.TheVariants.{Call, Send, Take, Thin, Restart, Grow}

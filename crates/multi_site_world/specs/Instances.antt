@@ -2,13 +2,13 @@
 use Rattle.std.specs.Prelude.{ℕ, ◌==◌, List, [], ◌∷◌, ◌++◌, if◌then◌else◌}
 use Rattle.merge_core.specs.Delta.{DeltaState}
 use Rattle.merge_core.specs.Layout.{LayoutState, at_sites}
-use Rattle.admission_core.specs.declared.ask.Ask.TheVariants.{Read, Announce, Quill, Leave, Help}
-use Rattle.admission_core.specs.declared.ask.Call.TheVariants.{Ask as AskCall, Merge, Snapshot as SnapshotCall}
-use Rattle.admission_core.specs.declared.ask.Phase.TheVariants.{Writer}
-use Rattle.admission_core.specs.declared.reply.Refusal.TheVariants.{WriterAnnounced, MissingSeats, NoPlan}
-use Rattle.admission_core.specs.declared.reply.Reply.TheVariants.{Admitted, Announced, Left, Gave, Merged, Refused}
-use Rattle.admission_core.specs.Account.{Account, begin, start_origin}
-use Rattle.admission_core.specs.Serving.{Step, Serves, replay}
+use Rattle.admission_model.specs.declared.ask.Ask.TheVariants.{Read, Announce, Quill, Leave, Help}
+use Rattle.admission_model.specs.declared.ask.Call.TheVariants.{Ask as AskCall, Merge, Snapshot as SnapshotCall}
+use Rattle.session_list.specs.declared.session.Phase.TheVariants.{Writer}
+use Rattle.admission_model.specs.declared.reply.Refusal.TheVariants.{WriterAnnounced, MissingSeats, NoPlan}
+use Rattle.admission_model.specs.declared.reply.Reply.TheVariants.{Admitted, Announced, Left, Gave, Merged, Refused}
+use Rattle.admission_model.specs.Account.{Account, begin, start_origin}
+use Rattle.admission_model.specs.Serving.{Step, Serves, replay}
 use Rattle.multi_site_world.specs.declared.event.Event.{Event}
 use Rattle.multi_site_world.specs.declared.event.Event.TheVariants.{Call, Send, Take}
 use Rattle.multi_site_world.specs.declared.event.WorldReply.{WorldReply}

@@ -7,17 +7,17 @@ use Rattle.merge_core.specs.Rows.{counter_in, counters_of}
 use Rattle.merge_core.specs.declared.delta.Row.{Row}
 use Rattle.merge_core.specs.Delta.{DeltaState}
 use Rattle.merge_core.specs.Layout.{LayoutState, IsLayout, at_sites}
-use Rattle.admission_core.specs.declared.ask.Phase.{Phase}
-use Rattle.admission_core.specs.declared.ask.Phase.TheVariants.{Reader, Waiting, Writer}
+use Rattle.session_list.specs.declared.session.Phase.{Phase}
+use Rattle.session_list.specs.declared.session.Phase.TheVariants.{Reader, Waiting, Writer}
 use Rattle.merge_core.specs.Sums.{total, total_others}
-use Rattle.admission_core.specs.Account.{Account, Heard, HeardRows, StartedAgain, seats_in, own, inside, phase_of, begin, start_origin}
-use Rattle.admission_core.specs.Knowledge.{known}
-use Rattle.admission_core.specs.View.{view_of, rights_of, gained, spent}
-use Rattle.admission_core.specs.Serving.{Step, replay}
-use Rattle.admission_core.specs.Laws.{IsFirstUnfinished}
-use Rattle.admission_core.specs.declared.ask.Ask.TheVariants.{Help}
-use Rattle.admission_core.specs.declared.reply.Refusal.TheVariants.{CounterFull, NoPlan, OtherLayout}
-use Rattle.admission_core.specs.declared.reply.Reply.TheVariants.{Gave, Merged, Refused}
+use Rattle.admission_model.specs.Account.{Account, Heard, HeardRows, StartedAgain, seats_in, own, inside, phase_of, begin, start_origin}
+use Rattle.admission_model.specs.Knowledge.{known}
+use Rattle.admission_model.specs.View.{view_of, rights_of, gained, spent}
+use Rattle.admission_model.specs.Serving.{Step, replay}
+use Rattle.admission_model.specs.Laws.{IsFirstUnfinished}
+use Rattle.admission_model.specs.declared.ask.Ask.TheVariants.{Help}
+use Rattle.admission_model.specs.declared.reply.Refusal.TheVariants.{CounterFull, NoPlan, OtherLayout}
+use Rattle.admission_model.specs.declared.reply.Reply.TheVariants.{Gave, Merged, Refused}
 use Rattle.multi_site_world.specs.declared.event.Event.{Event}
 use Rattle.multi_site_world.specs.declared.event.Event.TheVariants.{Call, Send, Take}
 use Rattle.multi_site_world.specs.declared.event.WorldReply.{WorldReply}

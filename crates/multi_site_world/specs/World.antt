@@ -5,12 +5,12 @@ use Rattle.std.specs.Prelude.{ℕ, zero, suc, min, nat_lt, List, [], ◌∷◌, 
 use Rattle.merge_core.specs.Delta.{DeltaState}
 use Rattle.merge_core.specs.Layout.{LayoutState, at_sites}
 use Rattle.merge_core.specs.Thin.{thin_rows}
-use Rattle.admission_core.specs.declared.ask.Call.TheVariants.{Ask as AskCall, Merge}
-use Rattle.admission_core.specs.Account.{Account, begin, start_origin}
-use Rattle.admission_core.specs.Knowledge.{restarted, grown}
-use Rattle.admission_core.specs.View.{view_of}
-use Rattle.admission_core.specs.Merging.{snapshot_of}
-use Rattle.admission_core.specs.Serving.{reply_of, after}
+use Rattle.admission_model.specs.declared.ask.Call.TheVariants.{Ask as AskCall, Merge}
+use Rattle.admission_model.specs.Account.{Account, begin, start_origin}
+use Rattle.admission_model.specs.Knowledge.{restarted, grown}
+use Rattle.admission_model.specs.View.{view_of}
+use Rattle.admission_model.specs.Merging.{snapshot_of}
+use Rattle.admission_model.specs.Serving.{reply_of, after}
 use Rattle.multi_site_world.specs.declared.event.Event.{Event}
 use Rattle.multi_site_world.specs.declared.event.Event.TheVariants.{Call, Send, Take, Thin, Restart, Grow}
 use Rattle.multi_site_world.specs.declared.event.WorldReply.{WorldReply}

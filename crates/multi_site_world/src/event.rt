@@ -1,4 +1,4 @@
-use admission_core::{Ask, Reply};
+use admission_model::{Ask, Reply};
 
 /// What may happen next. Messages stay for ever, so that any of them may be taken at any time, or never.
 #[derive(Clone, Copy, Debug, PartialEq, Eq)]

@@ -5,23 +5,23 @@ ghost use Rattle.merge_core.specs.declared.cell.Cell.{Cell};
 ghost use Rattle.merge_core.specs.declared.cell.Cell.TheVariants.{Ann, Fin};
 ghost use Rattle.merge_core.specs.Delta.{DeltaState};
 ghost use Rattle.merge_core.specs.Layout.{LayoutState, IsLayout};
-ghost use Rattle.admission_core.specs.declared.ask.Ask.TheVariants.{Read, Announce};
-ghost use Rattle.admission_core.specs.declared.ask.Call.TheVariants.{Ask as AskCall, Merge, Snapshot as SnapshotCall};
-ghost use Rattle.admission_core.specs.declared.ask.Phase.TheVariants.{Writer};
-ghost use Rattle.admission_core.specs.declared.reply.Refusal.TheVariants.{CounterFull, WriterAnnounced, OtherLayout, BadRow, OwnRowAhead};
-ghost use Rattle.admission_core.specs.declared.reply.Reply.TheVariants.{Admitted, Announced, Refused, Snapshot as SnapshotReply};
-ghost use Rattle.admission_core.specs.Account.{Account, begin, seats_in, sessions_of, start_origin};
-ghost use Rattle.admission_core.specs.Knowledge.{known};
-ghost use Rattle.admission_core.specs.View.{problem_in, view_of, rights_of};
-ghost use Rattle.admission_core.specs.Serving.{after, reply_of};
-ghost use Rattle.admission_core.specs.Reached.{IsReached};
-ghost use Rattle.admission_core.specs.Laws.{SameCounters, KnowsUnfinished, SourcesAgree, MayAsk, IsFirstUnfinished};
+ghost use Rattle.admission_model.specs.declared.ask.Ask.TheVariants.{Read, Announce};
+ghost use Rattle.admission_model.specs.declared.ask.Call.TheVariants.{Ask as AskCall, Merge, Snapshot as SnapshotCall};
+ghost use Rattle.session_list.specs.declared.session.Phase.TheVariants.{Writer};
+ghost use Rattle.admission_model.specs.declared.reply.Refusal.TheVariants.{CounterFull, WriterAnnounced, OtherLayout, BadRow, OwnRowAhead};
+ghost use Rattle.admission_model.specs.declared.reply.Reply.TheVariants.{Admitted, Announced, Refused, Snapshot as SnapshotReply};
+ghost use Rattle.admission_model.specs.Account.{Account, begin, seats_in, sessions_of, start_origin};
+ghost use Rattle.admission_model.specs.Knowledge.{known};
+ghost use Rattle.admission_model.specs.View.{problem_in, view_of, rights_of};
+ghost use Rattle.admission_model.specs.Serving.{after, reply_of};
+ghost use Rattle.admission_model.specs.Reached.{IsReached};
+ghost use Rattle.admission_model.specs.Laws.{SameCounters, KnowsUnfinished, SourcesAgree, MayAsk, IsFirstUnfinished};
 ghost use Rattle.multi_site_world.specs.declared.event.Event.{Event};
 ghost use Rattle.multi_site_world.specs.declared.event.Event.TheVariants.{Call, Take, Thin};
 ghost use Rattle.multi_site_world.specs.declared.event.WorldReply.TheVariants.{Core};
 ghost use Rattle.multi_site_world.specs.World.{World, account_at, happens, replies, run, start_world, world_reply};
 ghost use Rattle.multi_site_world.specs.Laws.{IsReachedWorld, HasTaken, IsConserved, IsWriterAlone, AreLogged, IsConsistentCut, WasSent, all_inside, IsMergedReply, IsMergedOrOther, KnowsAllSites, gathering, CanGather, AreGathered};
-ghost use Rattle.admission_core.specs.Examples.{three_records};
+ghost use Rattle.admission_model.specs.Examples.{three_records};
 ghost use Rattle.multi_site_world.specs.Instances.{three_sites, writer_heard, others_of_1, gathered_replies, writer_there, log_of_0, accounts_of, records_used, records_used_replies};
 ghost use Rattle.multi_site_world.specs.Examples.{small_layout, seats_at_home, seats_at_home_replies, message_again, message_again_replies, seat_grows, seat_grows_replies, grows_whole, grows_whole_replies, seats_shown, seat_moves, seat_moves_replies, writer_announced, writer_announced_replies, reader_not_held, writer_helped, writer_helped_replies, writer_done, writer_done_replies, seat_kept, seat_kept_replies, writer_remembered, writer_remembered_replies, layout_grows, layout_grows_replies, thin_taken, thin_taken_replies, withdrawal_thin, withdrawal_thin_replies, writer_helped_messages, writer_withdraws, writer_withdraws_replies, stale_book, stale_book_replies, refusals, refusals_replies, writers_announced, writers_announced_replies, writers_limit, writers_limit_replies, seats_shared, seats_shared_replies, refusals_in_order, refusals_in_order_replies, used_site, seat_moves_message, other_layout_message, bad_row_message};
 
@@ -42,10 +42,12 @@ pub fn account_law()
 pub fn message_law()
     ensures message { (w : World) → IsReachedWorld w → (i k : ℕ) → KnowsAllSites w i → k < length w.sent → IsMergedReply (world_reply w (Take i k)) }
     ensures thin { (w : World) → IsReachedWorld w → (i k l : ℕ) → KnowsAllSites w i → k < length w.sent → l < length w.sent → IsMergedReply (world_reply w (Thin i k l)) }
-    ensures rows { (w : World) → IsReachedWorld w → (i : ℕ) → (delta : DeltaState) → KnowsAllSites w i → AllByRecursion (WasSent w.sent) delta.rows → IsMergedReply (Core (reply_of (view_of (account_at w i)) (Merge delta))) }
+    ensures rows { (w : World) → IsReachedWorld w → (i : ℕ) → (delta : DeltaState) → KnowsAllSites w i
+        → AllByRecursion (WasSent w.sent) delta.rows → IsMergedReply (Core (reply_of (view_of (account_at w i)) (Merge delta))) }
     ensures message_answered { (w : World) → IsReachedWorld w → (i k : ℕ) → i < w.layout.sites → k < length w.sent → IsMergedOrOther (world_reply w (Take i k)) }
     ensures thin_answered { (w : World) → IsReachedWorld w → (i k l : ℕ) → i < w.layout.sites → k < length w.sent → l < length w.sent → IsMergedOrOther (world_reply w (Thin i k l)) }
-    ensures rows_answered { (w : World) → IsReachedWorld w → (i : ℕ) → (delta : DeltaState) → i < w.layout.sites → AllByRecursion (WasSent w.sent) delta.rows → IsMergedOrOther (Core (reply_of (view_of (account_at w i)) (Merge delta))) }
+    ensures rows_answered { (w : World) → IsReachedWorld w → (i : ℕ) → (delta : DeltaState) → i < w.layout.sites
+        → AllByRecursion (WasSent w.sent) delta.rows → IsMergedOrOther (Core (reply_of (view_of (account_at w i)) (Merge delta))) }
 {}
 
 /// Where a site knows each row of an earlier message, a thin message leaves the counters that the whole one
@@ -63,8 +65,10 @@ pub fn notices_law()
 /// Each site has a log of its own, and nothing is known of an order between them. Where the logs' ends are a
 /// consistent cut, the weights inside are at most the seats, and a writer is alone.
 pub fn separate_logs_law()
-    ensures seats { (layout : LayoutState) → IsLayout layout → (accounts : ℕ → Account) → AreLogged layout accounts → IsConsistentCut layout accounts → (r : ℕ) → all_inside accounts layout.sites r ≤ seats_in layout r }
-    ensures writer { (layout : LayoutState) → IsLayout layout → (accounts : ℕ → Account) → AreLogged layout accounts → IsConsistentCut layout accounts → (r : ℕ) → IsWriterAlone accounts layout.sites r }
+    ensures seats { (layout : LayoutState) → IsLayout layout → (accounts : ℕ → Account) → AreLogged layout accounts
+        → IsConsistentCut layout accounts → (r : ℕ) → all_inside accounts layout.sites r ≤ seats_in layout r }
+    ensures writer { (layout : LayoutState) → IsLayout layout → (accounts : ℕ → Account) → AreLogged layout accounts
+        → IsConsistentCut layout accounts → (r : ℕ) → IsWriterAlone accounts layout.sites r }
 {}
 
 /// From a reached world in which w knows all sites, nobody is inside a record, none of its seats is in flight
@@ -72,7 +76,8 @@ pub fn separate_logs_law()
 /// and w takes the message, in any order of the sites and each at least once, w has the rights to all seats. No
 /// help may meet a full counter.
 pub fn gather_law()
-    ensures rights { (u : World) → IsReachedWorld u → (r w : ℕ) → (others : List ℕ) → CanGather u r w others → rights_of (view_of (account_at (run (gathering r w (length u.sent) others) u) w)) r ≡ seats_in u.layout r }
+    ensures rights { (u : World) → IsReachedWorld u → (r w : ℕ) → (others : List ℕ) → CanGather u r w others
+        → rights_of (view_of (account_at (run (gathering r w (length u.sent) others) u) w)) r ≡ seats_in u.layout r }
     ensures answered { (u : World) → IsReachedWorld u → (r w : ℕ) → (others : List ℕ) → CanGather u r w others → AreGathered (replies (gathering r w (length u.sent) others) u) }
 {}
 
@@ -81,10 +86,14 @@ pub fn gather_law()
 /// own book shows an unfinished writer admits no reader, and tells one whom nothing else refuses of the least
 /// site with such a writer.
 pub fn headline_law()
-    ensures equal_books { (w : World) → IsReachedWorld w → (i j : ℕ) → i < w.layout.sites → j < w.layout.sites → SourcesAgree (account_at w i) (account_at w j) → SameCounters (account_at w i) (account_at w j) }
+    ensures equal_books { (w : World) → IsReachedWorld w → (i j : ℕ) → i < w.layout.sites → j < w.layout.sites
+        → SourcesAgree (account_at w i) (account_at w j) → SameCounters (account_at w i) (account_at w j) }
     ensures writer_alone { (w : World) → IsReachedWorld w → (r : ℕ) → IsWriterAlone (account_at w) w.layout.sites r }
-    ensures no_reader_admitted { (w : World) → IsReachedWorld w → (i r h s : ℕ) → i < w.layout.sites → problem_in w.layout r ≡ 2 → KnowsUnfinished (account_at w i) r s → world_reply w (Call i (Read r h)) ≢ Core Admitted }
-    ensures announced_writer_first { (w : World) → IsReachedWorld w → (i r h s : ℕ) → i < w.layout.sites → problem_in w.layout r ≡ 2 → let v = view_of (account_at w i) in MayAsk v r h → IsFirstUnfinished v r s → world_reply w (Call i (Read r h)) ≡ Core (Refused (WriterAnnounced s)) }
+    ensures no_reader_admitted { (w : World) → IsReachedWorld w → (i r h s : ℕ) → i < w.layout.sites → problem_in w.layout r ≡ 2
+        → KnowsUnfinished (account_at w i) r s → world_reply w (Call i (Read r h)) ≢ Core Admitted }
+    ensures announced_writer_first { (w : World) → IsReachedWorld w → (i r h s : ℕ) → i < w.layout.sites → problem_in w.layout r ≡ 2
+        → let v = view_of (account_at w i) in MayAsk v r h → IsFirstUnfinished v r s
+        → world_reply w (Call i (Read r h)) ≡ Core (Refused (WriterAnnounced s)) }
 {}
 
 /// Short scripts and their replies, by computation alone.
@@ -102,7 +111,8 @@ pub fn examples()
     ensures writer_announced { replies writer_announced (start_world 3 (small_layout 3 3 2)) ≡ writer_announced_replies }
     ensures reader_not_held { replies writer_announced (start_world 3 (small_layout 3 3 1)) ≡ reader_not_held }
     ensures writer_helped { replies (writer_announced ++ writer_helped) (start_world 3 (small_layout 3 3 2)) ≡ writer_announced_replies ++ writer_helped_replies }
-    ensures writer_done { replies (writer_announced ++ (writer_helped ++ writer_done)) (start_world 3 (small_layout 3 3 2)) ≡ writer_announced_replies ++ (writer_helped_replies ++ writer_done_replies) }
+    ensures writer_done { replies (writer_announced ++ (writer_helped ++ writer_done)) (start_world 3 (small_layout 3 3 2))
+        ≡ writer_announced_replies ++ (writer_helped_replies ++ writer_done_replies) }
     ensures seat_kept { replies (seat_moves ++ seat_kept) (start_world 2 (small_layout 2 2 1)) ≡ seat_moves_replies ++ seat_kept_replies }
     ensures writer_remembered { replies writer_remembered (start_world 3 (small_layout 3 3 2)) ≡ writer_remembered_replies }
     ensures layout_grown { replies layout_grows (start_world 1 (small_layout 2 2 1)) ≡ layout_grows_replies }

@@ -1,8 +1,0 @@
-use Rattle.admission_core.proofs.NoticeLemmas.{announced_stay, finished_stay}
-use Rattle.admission_core.proofs.laws.notices_law.Goals as goal
-
-pub returns-clause-announced : goal.returns-clause-announced
-returns-clause-announced c = announced_stay
-
-pub returns-clause-finished : goal.returns-clause-finished
-returns-clause-finished c = finished_stay

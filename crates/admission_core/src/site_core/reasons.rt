@@ -1,0 +1,188 @@
+//! Why a site refuses: for each call its refusals, of which the first that applies is answered.
+use super::SiteCore;
+use admission_model::{Ask, Phase, Refusal};
+use grow_counters::COUNTER_LIMIT;
+use merge_core::Cell;
+
+/// The greatest number of a holder.
+const HOLDER_LIMIT: u64 = 1_000_000_000_000;
+/// The greatest number of unfinished writers of a record at a site.
+const MOST_WRITERS: u64 = 64;
+
+impl SiteCore {
+    ghost use Rattle.std.specs.Prelude.{◌≡◌};
+    ghost use Rattle.admission_model.specs.declared.ask.Call.TheVariants.{Ask as AskCall};
+    ghost use Rattle.admission_model.specs.Replies.{read_lines, announce_lines, write_lines, leave_lines, give_lines, help_lines, first_reason};
+    ghost use Rattle.admission_model.specs.Serving.{reason};
+    ghost use Rattle.admission_core.specs.Core.{core_view};
+
+    /// Why the site refuses what a caller asks, want of memory aside.
+    pub(super) fn ask_reason(&self, ask: Ask) -> Option<Refusal>
+        ensures { result ≡ reason (core_view self.now) (AskCall ask) }
+    {
+        match ask {
+            Ask::Read { r, h } => self.read_reason(r, h),
+            Ask::Announce { r, h } => self.announce_reason(r, h),
+            Ask::Quill { r, h } => self.write_reason(r, h),
+            Ask::Leave { r, h } => self.leave_reason(r, h),
+            Ask::Give { r, to, seats } => self.give_reason(r, to, seats),
+            Ask::Help { r } => self.help_reason(r),
+        }
+    }
+
+    fn read_reason(&self, r: u16, h: u64) -> Option<Refusal>
+        ensures { result ≡ first_reason (read_lines (core_view self.now) r h) }
+    {
+        if !self.has_record(r) {
+            return Some(Refusal::NoRecord);
+        }
+        if h > HOLDER_LIMIT {
+            return Some(Refusal::BadHolder);
+        }
+        if self.sessions.phase(r, h).is_some() {
+            return Some(Refusal::AlreadyHere);
+        }
+        if passes_limit(self.own(r, Cell::Taken), 1) {
+            return Some(Refusal::CounterFull);
+        }
+        if let Some(site) = self.writer_before_readers(r) {
+            return Some(Refusal::WriterAnnounced { site });
+        }
+        let rights = self.rights(r);
+        if rights == 0 {
+            return Some(Refusal::NoSeat { rights });
+        }
+        None
+    }
+
+    fn announce_reason(&self, r: u16, h: u64) -> Option<Refusal>
+        ensures { result ≡ first_reason (announce_lines (core_view self.now) r h) }
+    {
+        if !self.has_record(r) {
+            return Some(Refusal::NoRecord);
+        }
+        if h > HOLDER_LIMIT {
+            return Some(Refusal::BadHolder);
+        }
+        if self.sessions.phase(r, h).is_some() {
+            return Some(Refusal::AlreadyHere);
+        }
+        let announced = self.own(r, Cell::Ann);
+        if passes_limit(announced, 1) {
+            return Some(Refusal::CounterFull);
+        }
+        if announced.saturating_sub(self.own(r, Cell::Fin)) >= MOST_WRITERS {
+            return Some(Refusal::TooManyWriters);
+        }
+        None
+    }
+
+    fn write_reason(&self, r: u16, h: u64) -> Option<Refusal>
+        ensures { result ≡ first_reason (write_lines (core_view self.now) r h) }
+    {
+        if !self.has_record(r) {
+            return Some(Refusal::NoRecord);
+        }
+        if h > HOLDER_LIMIT {
+            return Some(Refusal::BadHolder);
+        }
+        match self.sessions.phase(r, h) {
+            None | Some(Phase::Reader) => return Some(Refusal::NotAnnounced),
+            Some(Phase::Writer) => return Some(Refusal::AlreadyInside),
+            Some(Phase::Waiting) => {}
+        }
+        let seats = self.seats(r);
+        if passes_limit(self.own(r, Cell::Taken), u64::from(seats)) {
+            return Some(Refusal::CounterFull);
+        }
+        let rights = self.rights(r);
+        if rights < u64::from(seats) {
+            return Some(Refusal::MissingSeats { rights, seats });
+        }
+        None
+    }
+
+    fn leave_reason(&self, r: u16, h: u64) -> Option<Refusal>
+        ensures { result ≡ first_reason (leave_lines (core_view self.now) r h) }
+    {
+        if !self.has_record(r) {
+            return Some(Refusal::NoRecord);
+        }
+        if h > HOLDER_LIMIT {
+            return Some(Refusal::BadHolder);
+        }
+        if self.sessions.phase(r, h).is_none() {
+            return Some(Refusal::NotHere);
+        }
+        None
+    }
+
+    fn give_reason(&self, r: u16, to: u16, seats: u64) -> Option<Refusal>
+        ensures { result ≡ first_reason (give_lines (core_view self.now) r to seats) }
+    {
+        if !self.has_record(r) {
+            return Some(Refusal::NoRecord);
+        }
+        if to >= self.layout.sites() {
+            return Some(Refusal::NoSite);
+        }
+        if to == self.site {
+            return Some(Refusal::ToSelf);
+        }
+        if seats == 0 {
+            return Some(Refusal::ZeroSeats);
+        }
+        if passes_limit(self.own(r, Cell::Out(to)), seats) {
+            return Some(Refusal::CounterFull);
+        }
+        let rights = self.rights(r);
+        if rights < seats {
+            return Some(Refusal::TooFewRights { rights });
+        }
+        None
+    }
+
+    fn help_reason(&self, r: u16) -> Option<Refusal>
+        ensures { result ≡ first_reason (help_lines (core_view self.now) r) }
+    {
+        if !self.has_record(r) {
+            return Some(Refusal::NoRecord);
+        }
+        let _ = &self.site; // tells the invariant: it is one of the layout's
+        let Some(plan) = self.plan_for(r) else {
+            return Some(Refusal::NoPlan);
+        };
+        if passes_limit(self.own(r, Cell::Out(plan.to)), plan.seats) {
+            return Some(Refusal::CounterFull);
+        }
+        None
+    }
+
+    ghost use Rattle.std.specs.Prelude.{◌<◌, length, MatchOption, false, Some};
+    ghost use Rattle.admission_model.specs.Replies.{must_wait};
+    ghost use Rattle.admission_model.specs.View.{first_unfinished};
+    ghost use Rattle.std.specs.Prelude.{true};
+
+    // The site whose writer goes before new readers.
+    fn writer_before_readers(&self, r: u16) -> Option<u16>
+        requires { r < length self.now.layout.records }
+        ensures { MatchOption result
+            (must_wait (core_view self.now) r ≡ false)
+            (λ s. (must_wait (core_view self.now) r ≡ true) × (first_unfinished (core_view self.now) r ≡ Some s)) }
+    {
+        if self.problem(r) != 2 {
+            return None;
+        }
+        self.first_unfinished(r)
+    }
+}
+
+ghost use Rattle.std.specs.Prelude.{◌≡◌, ◌+◌, nat_lt};
+ghost use Rattle.grow_counters.specs.Counts.{counter_limit};
+
+// Whether a counter that rises by so much would pass its limit.
+fn passes_limit(counter: u64, by: u64) -> bool
+    ensures { result ≡ nat_lt counter_limit (counter + by) }
+{
+    by > COUNTER_LIMIT || counter > COUNTER_LIMIT - by
+}

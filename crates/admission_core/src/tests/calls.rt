@@ -1,0 +1,406 @@
+use super::sites::{Answer, Line, TWO_SITES, delta, serve, site, sizes, told};
+use crate::*;
+use merge_core::{Delta, Row};
+use std::alloc::Global;
+
+// An ask, its answer, the slots and values that rise, and the session that comes, changes or goes.
+type Step = (Ask, Answer, [Option<(u16, u64)>; 2], Option<SessionChange>);
+
+// At a site with both seats: the slot of a counter is the site that the seats went to, 200 for seats taken, 201
+// for writers announced and 202 for those finished.
+const STEPS: [Step; 11] = [
+    (
+        Ask::Read { r: 0, h: 1 },
+        Answer::Admitted,
+        [Some((200, 1)), None],
+        Some(SessionChange::Put(Session {
+            r: 0,
+            h: 1,
+            phase: Phase::Reader,
+        })),
+    ),
+    (
+        Ask::Announce { r: 0, h: 2 },
+        Answer::Announced(1),
+        [Some((201, 1)), None],
+        Some(SessionChange::Put(Session {
+            r: 0,
+            h: 2,
+            phase: Phase::Waiting,
+        })),
+    ),
+    (
+        Ask::Quill { r: 0, h: 2 },
+        Answer::Refused(Refusal::MissingSeats {
+            rights: 1,
+            seats: 2,
+        }),
+        [None, None],
+        None,
+    ),
+    (
+        Ask::Leave { r: 0, h: 1 },
+        Answer::Left(Phase::Reader),
+        [Some((0, 3)), None],
+        Some(SessionChange::Removed(Session {
+            r: 0,
+            h: 1,
+            phase: Phase::Reader,
+        })),
+    ),
+    (
+        Ask::Quill { r: 0, h: 2 },
+        Answer::Admitted,
+        [Some((200, 3)), None],
+        Some(SessionChange::Put(Session {
+            r: 0,
+            h: 2,
+            phase: Phase::Writer,
+        })),
+    ),
+    (
+        Ask::Leave { r: 0, h: 2 },
+        Answer::Left(Phase::Writer),
+        [Some((0, 5)), Some((202, 1))],
+        Some(SessionChange::Removed(Session {
+            r: 0,
+            h: 2,
+            phase: Phase::Writer,
+        })),
+    ),
+    (
+        Ask::Announce { r: 0, h: 3 },
+        Answer::Announced(2),
+        [Some((201, 2)), None],
+        Some(SessionChange::Put(Session {
+            r: 0,
+            h: 3,
+            phase: Phase::Waiting,
+        })),
+    ),
+    (
+        Ask::Leave { r: 0, h: 3 },
+        Answer::Left(Phase::Waiting),
+        [Some((202, 2)), None],
+        Some(SessionChange::Removed(Session {
+            r: 0,
+            h: 3,
+            phase: Phase::Waiting,
+        })),
+    ),
+    (
+        Ask::Help { r: 0 },
+        Answer::Gave { to: 1, seats: 1 },
+        [Some((1, 1)), None],
+        None,
+    ),
+    (
+        Ask::Give {
+            r: 0,
+            to: 1,
+            seats: 1,
+        },
+        Answer::Given,
+        [Some((1, 2)), None],
+        None,
+    ),
+    (
+        Ask::Give {
+            r: 0,
+            to: 1,
+            seats: 1,
+        },
+        Answer::Refused(Refusal::TooFewRights { rights: 0 }),
+        [None, None],
+        None,
+    ),
+];
+
+// The slot and the value of a cell.
+fn slot_of(cell: Option<&DurableCell>) -> Option<(u16, u64)> {
+    cell.map(|cell| (cell.slot, cell.value))
+}
+
+// The slots and values of a change of two cells at most.
+fn slots(change: &Change) -> Option<[Option<(u16, u64)>; 2]> {
+    if change.cells().len() > 2 {
+        return None;
+    }
+    Some([
+        slot_of(change.cells().get(0)),
+        slot_of(change.cells().get(1)),
+    ])
+}
+
+// What a call leads to, prepared and carried out by hand, if both tell the same answer.
+fn carried_out(core: &mut SiteCore, ask: Ask) -> Option<Step> {
+    let call = Call::Ask(ask);
+    let prepared = core.prepare(&call);
+    let answer = told(prepared.reply());
+    let slots = slots(prepared.change())?;
+    let session = prepared.change().session();
+    if prepared.change().is_empty() != (slots == [None, None] && session.is_none()) {
+        return None;
+    }
+    if told(&core.apply(prepared)) != answer {
+        return None;
+    }
+    Some((ask, answer, slots, session))
+}
+
+// The first step that goes otherwise.
+fn first_other(alloc: Global) -> Option<Option<(usize, Step)>> {
+    let mut core = site(alloc, TWO_SITES, 0)?;
+    for (k, step) in STEPS.iter().enumerate() {
+        let other = carried_out(&mut core, step.0)?;
+        if other != *step {
+            return Some(Some((k, other)));
+        }
+    }
+    Some(None)
+}
+
+#[test]
+fn each_ask_has_its_change(rt: HostRuntime) {
+    assert_eq!(rt; first_other(rt.alloc()), Some(None));
+}
+
+// The site after all steps by its public calls, if they are answered so.
+fn served(alloc: Global) -> Option<SiteCore> {
+    let mut core = site(alloc, TWO_SITES, 0)?;
+    for (ask, want, _, _) in &STEPS {
+        if serve(&mut core, *ask) != *want {
+            return None;
+        }
+    }
+    Some(core)
+}
+
+// A row of two sites as numbers: record, site, rights, and what was taken, announced and finished.
+type Seen = (u16, u16, [u64; 2], [u64; 3]);
+
+fn seen(row: &Row) -> Option<Seen> {
+    let out = row.out.as_slice();
+    let rights = [*out.get(0)?, *out.get(1)?];
+    Some((row.r, row.s, rights, [row.taken, row.ann, row.fin]))
+}
+
+// The label and the only row of a delta.
+fn only_row(delta: &Delta) -> Option<(u16, Seen)> {
+    if delta.rows().len() != 1 {
+        return None;
+    }
+    Some((delta.from_site(), seen(delta.rows().get(0)?)?))
+}
+
+fn served_and_told(alloc: Global) -> Option<(u16, Seen)> {
+    only_row(&served(alloc)?.snapshot().ok()?)
+}
+
+// Two seats came back of the two of the grant and a reader's one, two went to site 1, and three were taken.
+#[test]
+fn a_site_tells_what_it_did(rt: HostRuntime) {
+    assert_eq!(rt;
+        served_and_told(rt.alloc()),
+        Some((0, (0, 0, [5, 2], [3, 2, 2])))
+    );
+}
+
+// What the site keeps after all steps, copied and taken apart.
+fn served_and_kept(alloc: Global) -> Option<(Vec<DurableCell>, Vec<Session>)> {
+    let kept = served(alloc)?.durable().ok()?;
+    let copy = kept.try_copy(alloc).ok()?;
+    if copy.cells() != kept.cells() || copy.sessions() != kept.sessions() {
+        return None;
+    }
+    Some(copy.into_parts())
+}
+
+const KEPT: [DurableCell; 5] = [
+    DurableCell {
+        r: 0,
+        slot: 0,
+        value: 5,
+    },
+    DurableCell {
+        r: 0,
+        slot: 1,
+        value: 2,
+    },
+    DurableCell {
+        r: 0,
+        slot: 200,
+        value: 3,
+    },
+    DurableCell {
+        r: 0,
+        slot: 201,
+        value: 2,
+    },
+    DurableCell {
+        r: 0,
+        slot: 202,
+        value: 2,
+    },
+];
+
+fn keeps_the_cells(alloc: Global) -> Option<(bool, usize)> {
+    let (cells, sessions) = served_and_kept(alloc)?;
+    Some((cells.as_slice() == KEPT.as_slice(), sessions.len()))
+}
+
+#[test]
+fn a_site_keeps_what_it_did(rt: HostRuntime) {
+    assert_eq!(rt; keeps_the_cells(rt.alloc()), Some((true, 0)));
+}
+
+// What the site tells and keeps before a call, when it is prepared, and when it is carried out.
+fn prepared_and_applied(alloc: Global) -> Option<[[usize; 3]; 3]> {
+    let mut core = site(alloc, TWO_SITES, 0)?;
+    let before = sizes(&core)?;
+    let call = Call::Ask(Ask::Read { r: 0, h: 1 });
+    let prepared = core.prepare(&call);
+    let between = sizes(&core)?;
+    let _ = core.apply(prepared);
+    Some([before, between, sizes(&core)?])
+}
+
+#[test]
+fn a_prepared_call_changes_nothing(rt: HostRuntime) {
+    assert_eq!(rt;
+        prepared_and_applied(rt.alloc()),
+        Some([[0, 0, 0], [0, 0, 0], [1, 1, 1]])
+    );
+}
+
+// Site 0 gave site 1 a seat, took one, and announced a writer.
+const TOLD: Line = (0, 0, &[2, 1], [1, 1, 0]);
+
+// What a fresh site 1 answers to that, prepared and carried out by hand, and the counters that it keeps of it.
+fn heard(alloc: Global) -> Option<(Answer, Vec<DurableCell>)> {
+    let mut core = site(alloc, TWO_SITES, 1)?;
+    let call = Call::Merge(delta(alloc, TOLD)?);
+    let prepared = core.prepare(&call);
+    let cells = Vec::from_slice(alloc, prepared.change().cells()).ok()?;
+    if prepared.change().session().is_some() {
+        return None;
+    }
+    Some((told(&core.apply(prepared)), cells))
+}
+
+fn hears_and_keeps(alloc: Global) -> Option<(Answer, bool)> {
+    let (answer, cells) = heard(alloc)?;
+    let want = [
+        DurableCell {
+            r: 0,
+            slot: 100,
+            value: 1,
+        },
+        DurableCell {
+            r: 0,
+            slot: 300,
+            value: 1,
+        },
+    ];
+    Some((answer, cells.as_slice() == want.as_slice()))
+}
+
+// Three counters rise, of which the site keeps the seat that was sent to it and the notice.
+#[test]
+fn a_merge_has_its_change(rt: HostRuntime) {
+    assert_eq!(rt;
+        hears_and_keeps(rt.alloc()),
+        Some((Answer::Merged(3), true))
+    );
+}
+
+// What a site that heard that and admitted a reader tells and keeps before and after a restart, and what it
+// answers to the same again.
+fn restarted(alloc: Global) -> Option<([usize; 3], [usize; 3], Answer)> {
+    let told_of = delta(alloc, TOLD)?;
+    let mut core = site(alloc, TWO_SITES, 1)?;
+    let _ = core.merge(&told_of);
+    if serve(&mut core, Ask::Read { r: 0, h: 7 }) != Answer::Admitted {
+        return None;
+    }
+    let before = sizes(&core)?;
+    core.restart();
+    let after = sizes(&core)?;
+    Some((before, after, told(&core.merge(&told_of))))
+}
+
+// It forgets the seat that site 0 took, and nothing that it keeps.
+#[test]
+fn a_restart_forgets_what_is_not_kept(rt: HostRuntime) {
+    assert_eq!(rt;
+        restarted(rt.alloc()),
+        Some(([2, 3, 1], [2, 3, 1], Answer::Merged(1)))
+    );
+}
+
+// The snapshot as a call, its change and the site's own numbers.
+fn looked_at(alloc: Global) -> Option<(Answer, bool, [u16; 3])> {
+    let mut core = site(alloc, TWO_SITES, 1)?;
+    let prepared = core.prepare(&Call::Snapshot);
+    let unchanged = prepared.change().is_empty();
+    let answer = told(&core.apply(prepared));
+    Some((
+        answer,
+        unchanged,
+        [core.site(), core.layout().sites(), core.book().sites()],
+    ))
+}
+
+#[test]
+fn a_fresh_site_tells_nothing(rt: HostRuntime) {
+    assert_eq!(rt;
+        looked_at(rt.alloc()),
+        Some((Answer::Rows(0), true, [1, 2, 2]))
+    );
+}
+
+// The plan for record 0.
+fn plan(core: &SiteCore) -> Option<Plan> {
+    if core.layout().records().is_empty() {
+        return None;
+    }
+    core.plan(0)
+}
+
+// The plan and the reasons of a reader and a hand-over, none of which changes anything.
+fn reasons(alloc: Global) -> Option<(Option<Plan>, [Option<Refusal>; 3])> {
+    let core = site(alloc, TWO_SITES, 0)?;
+    let reader = core.reason(&Call::Ask(Ask::Read { r: 0, h: 1 }));
+    let hand_over = core.reason(&Call::Ask(Ask::Give {
+        r: 1,
+        to: 1,
+        seats: 1,
+    }));
+    let snapshot = core.reason(&Call::Snapshot);
+    Some((plan(&core), [reader, hand_over, snapshot]))
+}
+
+// One seat is above the even share.
+#[test]
+fn a_site_tells_its_plan_and_reasons(rt: HostRuntime) {
+    let want = (
+        Some(Plan { to: 1, seats: 1 }),
+        [None, Some(Refusal::NoRecord), None],
+    );
+    assert_eq!(rt; reasons(rt.alloc()), Some(want));
+}
+
+// The notice of a writer at site 0 sends all seats of site 1 there.
+fn plan_to_a_writer(alloc: Global) -> Option<Option<Plan>> {
+    let mut core = site(alloc, TWO_SITES, 1)?;
+    let _ = core.merge(&delta(alloc, TOLD)?);
+    Some(plan(&core))
+}
+
+#[test]
+fn a_plan_goes_to_the_writer(rt: HostRuntime) {
+    assert_eq!(rt;
+        plan_to_a_writer(rt.alloc()),
+        Some(Some(Plan { to: 0, seats: 1 }))
+    );
+}

@@ -1,0 +1,121 @@
+use crate::*;
+use grow_counters::Counts;
+use merge_core::{Delta, Layout, RecordName, RecordSpec, Row};
+use std::alloc::Global;
+
+/// A layout of one record, whose seats start at site 0: its sites, the seats, and the problem.
+pub type Shape = (u16, u32, u16);
+
+/// Two sites, and two seats under problem 1.
+pub const TWO_SITES: Shape = (2, 2, 1);
+
+/// The record with this name and these seats, which start at site 0.
+pub fn spec(text: String, seats: u32, problem: u16) -> RecordSpec {
+    RecordSpec {
+        name: RecordName::from_string(text),
+        seats,
+        home: 0,
+        problem,
+    }
+}
+
+// The layout of one record.
+fn layout(alloc: Global, shape: Shape) -> Option<Layout> {
+    let name = String::from_str(alloc, "a").ok()?;
+    let mut records = Vec::new(alloc);
+    records.push(spec(name, shape.1, shape.2)).ok()?;
+    Layout::new(shape.0, records).ok()
+}
+
+/// A site of this layout before any operation.
+pub fn site_of(alloc: Global, layout: Layout, site: u16) -> Option<SiteCore> {
+    if site >= layout.sites() {
+        return None;
+    }
+    SiteCore::new(alloc, layout, site).ok()
+}
+
+/// A site of the layout of one record, before any operation.
+pub fn site(alloc: Global, shape: Shape, site: u16) -> Option<SiteCore> {
+    site_of(alloc, layout(alloc, shape)?, site)
+}
+
+/// A row: its record and site, its counters of rights, and what was taken, announced and finished.
+pub type Line = (u16, u16, &'static [u64], [u64; 3]);
+
+/// The delta of one row, from its own site.
+pub fn delta(alloc: Global, line: Line) -> Option<Delta> {
+    let [taken, ann, fin] = line.3;
+    let mut rows = Vec::new(alloc);
+    rows.push(Row {
+        r: line.0,
+        s: line.1,
+        out: Counts::from_vec(Vec::from_slice(alloc, line.2).ok()?),
+        taken,
+        ann,
+        fin,
+    })
+    .ok()?;
+    Delta::new(line.1, rows).ok()
+}
+
+/// A reply, of whose delta the number of rows is told.
+#[derive(Clone, Copy, Debug, PartialEq, Eq)]
+pub enum Answer {
+    Admitted,
+    Announced(u64),
+    Left(Phase),
+    Given,
+    Gave { to: u16, seats: u64 },
+    Merged(u64),
+    Rows(usize),
+    Refused(Refusal),
+}
+
+/// What a reply tells.
+pub fn told(reply: &Reply) -> Answer {
+    match reply {
+        Reply::Admitted => Answer::Admitted,
+        Reply::Announced(number) => Answer::Announced(*number),
+        Reply::Left(phase) => Answer::Left(*phase),
+        Reply::Given => Answer::Given,
+        Reply::Gave { to, seats } => Answer::Gave {
+            to: *to,
+            seats: *seats,
+        },
+        Reply::Merged(risen) => Answer::Merged(*risen),
+        Reply::Snapshot(delta) => Answer::Rows(delta.rows().len()),
+        Reply::Refused(refusal) => Answer::Refused(*refusal),
+    }
+}
+
+/// What the public call of this name answers.
+pub fn serve(core: &mut SiteCore, ask: Ask) -> Answer {
+    let reply = match ask {
+        Ask::Read { r, h } => core.enter_read(r, h),
+        Ask::Announce { r, h } => core.announce(r, h),
+        Ask::Quill { r, h } => core.enter_write(r, h),
+        Ask::Leave { r, h } => core.leave(r, h),
+        Ask::Give { r, to, seats } => core.transfer(r, to, seats),
+        Ask::Help { r } => core.help(r),
+    };
+    told(&reply)
+}
+
+/// The first of these asks that is answered otherwise, with that answer.
+pub fn first_wrong(core: &mut SiteCore, steps: &[(Ask, Answer)]) -> Option<(usize, Answer)> {
+    for (k, (ask, want)) in steps.iter().enumerate() {
+        let answer = serve(core, *ask);
+        if answer != *want {
+            return Some((k, answer));
+        }
+    }
+    None
+}
+
+/// How many rows the site tells, and how many counters and sessions it keeps.
+pub fn sizes(core: &SiteCore) -> Option<[usize; 3]> {
+    let told = core.snapshot().ok()?;
+    let kept = core.durable().ok()?;
+    Some([told.rows().len(), kept.cells().len(), kept.sessions().len()])
+}

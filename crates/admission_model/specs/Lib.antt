@@ -1,0 +1,15 @@
+pub mod Account
+pub mod Knowledge
+pub mod View
+pub mod Merging
+pub mod Replies
+pub mod Sound
+pub mod Serving
+pub mod Order
+pub mod Reached
+pub mod Laws
+pub mod Durable
+pub mod Restoring
+pub mod Asked
+pub mod Books
+pub mod Examples
