@@ -1,5 +1,5 @@
 -- The change that is prepared is the one that the durable parts differ in.
-use Rattle.std.proofs.Common.{◌≡◌, ℕ, ◌⊎◌, inl, inr, max, true, false, List, [], Option, Some, None, refl, sym, ap, ◌∙◌, arith}
+use Rattle.std.proofs.Common.{◌≡◌, ℕ, ◌⊎◌, inl, inr, max, true, false, List, [], Option, Some, None, refl, sym, ap, subst, ◌∙◌, arith}
 use Rattle.std.proofs.lemmas.Bool.{cases_Bool, cond-true, cond-false}
 use Rattle.merge_core.specs.declared.cell.Cell.{Cell}
 use Rattle.merge_core.specs.declared.delta.Row.{Row}
@@ -18,10 +18,11 @@ use Rattle.admission_model.specs.View.{View, view_of}
 use Rattle.admission_model.specs.Serving.{reason, reply_of, answer, advanced, unless_refused, operation_of, after}
 use Rattle.admission_model.specs.Reached.{IsReached}
 use Rattle.admission_model.specs.Asked.{operation_change}
-use Rattle.admission_model.specs.Durable.{Change, change_between, at_slot, places, risen_cells, slots_of}
+use Rattle.admission_model.specs.Durable.{Change, AreRising, change_between, at_slot, places, risen_cells, slots_of}
+use Rattle.admission_model.proofs.ChangeLemmas.{change_rises}
 use Rattle.admission_model.proofs.AskedLemmas.{changed_asked, changed_nothing, changed_merged}
 use Rattle.admission_model.proofs.RowLemmas.{shown_same}
-use Rattle.admission_core.specs.Core.{Core, core_view, Stands, SameContent, is_memory, served}
+use Rattle.admission_core.specs.Core.{Core, IsCore, core_view, Stands, SameContent, is_memory, served}
 use Rattle.admission_core.specs.Kept.{change_of, put_by, removed_by}
 use Rattle.admission_core.specs.Joining.{joined_counter}
 use Rattle.admission_core.specs.Prepared.{Prepared, refused_with, IsReadyFor, IsChangeFor}
@@ -110,3 +111,9 @@ change_along old new same call p it = λ a stands. it a (stands_along a old new 
 pub replies : (old mid : Core) (call : Call) (p : Prepared) → SameContent old mid → IsReadyFor mid call p → is_memory p.reply ≡ false → (a : Account) → Stands a old → p.reply ≡ reply_of (view_of a) call
 replies old mid call p same ready there a stands =
     ready.reply there ∙ ap (λ (v : View). reply_of v call) (view_along old mid same ∙ shows_account a old stands)
+
+-- the cells of a change rise
+pub change_rising : (c : Core) → IsCore c → (call : Call) (p : Prepared) → IsChangeFor c call p → AreRising p.change.cells
+change_rising c is call p it =
+    let a : Account = is.account in
+    subst AreRising (sym (ap (λ (x : Change). x.cells) (it a is.stands))) (change_rises a (served a call p.reply))

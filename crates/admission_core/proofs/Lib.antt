@@ -11,3 +11,6 @@ pub mod SlotLemmas
 pub mod RisenLemmas
 pub mod GroupLemmas
 pub mod KeptLemmas
+pub mod RestoringLists
+pub mod RestoringRows
+pub mod RestoringCores

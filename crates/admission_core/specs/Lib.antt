@@ -3,3 +3,4 @@ pub mod Kept
 pub mod Prepared
 pub mod Carrying
 pub mod Joining
+pub mod Restored

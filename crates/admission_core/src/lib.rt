@@ -3,16 +3,19 @@
 #![tactic(auto)]
 
 pub use admission_model::{
-    Ask, Call, DurableCell, Operation, Phase, Plan, Refusal, Reply, Session,
+    Ask, Call, DurableCell, HOLDER_LIMIT, Operation, Phase, Plan, Refusal, Reply, Session,
 };
 pub use change::{Change, SessionChange};
 pub use durable::Durable;
 pub use prepared::Prepared;
+pub use restoring::RestoreError;
 pub use site_core::SiteCore;
 
 mod change;
 mod durable;
 mod prepared;
+mod restoring;
 mod site_core;
+mod starts;
 #[cfg(test)]
 mod tests;

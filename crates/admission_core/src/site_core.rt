@@ -57,9 +57,10 @@ impl SiteCore {
     ghost use Rattle.admission_model.specs.Account.{Account, begin, start_origin};
     ghost use Rattle.admission_model.specs.Knowledge.{restarted};
     ghost use Rattle.admission_model.specs.View.{view_of, plan_of, problem_in};
+    ghost use Rattle.admission_model.specs.Durable.{AreRising};
     ghost use Rattle.admission_model.specs.Merging.{snapshot_of};
     ghost use Rattle.admission_model.specs.Serving.{reason, reply_of, after};
-    ghost use Rattle.admission_core.specs.Core.{core_view, Stands, SameContent, IsServed, is_memory, served};
+    ghost use Rattle.admission_core.specs.Core.{IsCore, core_view, Stands, SameContent, IsServed, is_memory, served};
     ghost use Rattle.admission_core.specs.Kept.{durable_of};
     ghost use Rattle.admission_core.specs.Prepared.{IsReady, IsReadyFor, IsOperationOf, IsAccepted, IsChangeFor, has_room};
 
@@ -76,6 +77,26 @@ impl SiteCore {
             book,
             sessions: Sessions::new(alloc),
         })
+    }
+
+    /// The core of these parts, which stands for some account.
+    pub(crate) fn from_parts(
+        alloc: Global,
+        layout: Layout,
+        site: u16,
+        book: Book,
+        sessions: Sessions,
+    ) -> SiteCore
+        requires { IsCore (record { layout = layout; site = site; book = book; sessions = sessions.sessions; room = sessions.room }) }
+        ensures { result ≡ record { layout = layout; site = site; book = book; sessions = sessions.sessions; room = sessions.room } }
+    {
+        SiteCore {
+            alloc,
+            layout,
+            site,
+            book,
+            sessions,
+        }
     }
 
     /// The site's number.
@@ -221,7 +242,9 @@ impl SiteCore {
         ensures ready { IsReadyFor self.new call.now result }
         ensures reply { is_memory result.reply ≡ false → (a : Account) → Stands a self.old → result.reply ≡ reply_of (view_of a) call.now }
         ensures change { IsChangeFor self.old call.now result }
+        ensures rising { AreRising result.change.cells }
     {
+        let _ = &self.site; // tells the invariant: the core stands for an account
         match call {
             Call::Ask(ask) => self.prepare_ask(*ask),
             Call::Merge(delta) => self.prepare_merge(delta),
@@ -275,12 +298,7 @@ impl SiteCore {
         ensures { (ask : Ask) → IsOperationOf self.old ask operation → (a : Account) → Stands a self.old → Stands (after a (AskCall ask)) self.new }
     {
         let seats = u64::from(self.seats(record_of(operation)));
-        carry_out(
-            &mut self.book,
-            &mut self.sessions,
-            self.site,
-            seats,
-            operation,
-        );
+        let site = self.site;
+        carry_out(&mut self.book, &mut self.sessions, site, seats, operation);
     }
 }

@@ -29,6 +29,9 @@ use Rattle.admission_model.proofs.CellLemmas.{cells_put, pick_rises, none_risen,
 pub durable_rises : (a : Account) → AreRising (durable_cells a)
 durable_rises a = pick_rises _ (slots_of a) (places a.origin.layout) (places_placed 0 (length a.origin.layout.records))
 
+pub change_rises : (a b : Account) → AreRising (change_between a b).cells
+change_rises a b = pick_rises _ (slots_of b) (places b.origin.layout) (places_placed 0 (length b.origin.layout.records))
+
 pub same_phase_true : (p : Phase) → is_same_phase p p ≡ true
 same_phase_true Reader = refl
 same_phase_true Waiting = refl

@@ -1,5 +1,5 @@
 -- What a stop leaves, and the account that begins from it.
-use Rattle.std.proofs.Common.{◌≡◌, ◌≢◌, ℕ, ◌+◌, ◌<◌, ◌≤◌, ◌⊎◌, inl, inr, true, false, cond, List, [], ◌∷◌, map, Option, Some, None, refl, sym, ap, subst, ◌∙◌, arith}
+use Rattle.std.proofs.Common.{◌≡◌, ◌≢◌, ℕ, ◌+◌, ◌<◌, ◌≤◌, ◌⊎◌, inl, inr, true, false, cond, List, [], ◌∷◌, length, map, Option, Some, None, refl, sym, ap, subst, ◌∙◌, arith}
 use Rattle.std.proofs.lemmas.Bool.{cases_eq, cases_Bool, cond-true, cond-false}
 use Rattle.merge_core.specs.declared.cell.Cell.{Cell}
 use Rattle.merge_core.specs.declared.cell.Cell.TheVariants.{Out, Taken, Ann, Fin}
@@ -192,10 +192,21 @@ sound_resumed a n more sound = record {
         omega (arith, resumed_told a n r s cell (λ e. absurd (omega (arith, sound.site_there))), next.no_others.none_told r s cell past);
     none_told_sent = λ r s j past. at r s j past (cases_eq s a.origin.site);
   };
+  no_other_records = record {
+    none_done = λ r cell past. resumed_own a n r cell ∙ sound.no_other_records.none_done r cell past;
+    none_heard = λ r s cell past. none_heard r s cell past (cases_eq s a.origin.site);
+  };
 }
   where
     next : IsSound (grown n a)
     next = sound_grown a n more sound
+
+    none_heard : (r s : ℕ) (cell : Cell) → length a.origin.layout.records ≤ r → (s ≡ a.origin.site) ⊎ (s ≡ a.origin.site → ⊥) → told (begin (resumed n a)) r s cell ≡ 0
+    none_heard r s cell past (inl e) =
+        subst (λ (x : ℕ). told (begin (resumed n a)) r x cell ≡ 0) (sym e)
+        (kept_yes (resumed n a) (durable_part a).counters r a.origin.site cell (kept_row a.origin.site cell)
+        ∙ (resumed_own a n r cell ∙ sound.no_other_records.none_done r cell past))
+    none_heard r s cell past (inr ne) = resumed_told a n r s cell ne ∙ next.no_other_records.none_heard r s cell past
 
     at : (r s j : ℕ) → n ≤ j → (s ≡ a.origin.site) ⊎ (s ≡ a.origin.site → ⊥) → told (begin (resumed n a)) r s (Out j) ≤ start_counter (shape_of a.origin.layout) r s (Out j)
     at r s j past (inl e) =

@@ -19,7 +19,7 @@ use Rattle.admission_model.specs.Sound.{FitsRow, IsSound}
 use Rattle.merge_core.proofs.SumLemmas.{total_le, total_others_same}
 use Rattle.admission_model.proofs.SumLemmas.{total_others_more}
 use Rattle.admission_model.proofs.CounterLemmas.{known_own, known_other, gained_own, spent_own}
-use Rattle.admission_model.proofs.RowLemmas.{AllPass, FitsRow-along, FitsRow-max, FitsRow-shown, start_below, start_diagonal, start_elsewhere, shown_past_records, shown_past_rows, shown_past_sites, shown_same, records_number, number_of_cells-zero}
+use Rattle.admission_model.proofs.RowLemmas.{AllPass, FitsRow-along, FitsRow-max, FitsRow-shown, start_below, start_diagonal, start_elsewhere, start_past, shown_past_records, shown_past_rows, shown_past_sites, shown_same, records_number, number_of_cells-zero}
 use Rattle.admission_model.proofs.LeastLemmas.{least_below-none}
 
 total_others_le : (n i : ℕ) (f g : ℕ → ℕ) → ((j : ℕ) → j ≢ i → f j ≤ g j) → total_others n i f ≤ total_others n i g
@@ -85,6 +85,17 @@ sound_hears a rows sound placed valid behind = record {
     none_sent = sound.no_others.none_sent;
     none_told = λ r s cell past. omega (arith, sound.no_others.none_told r s cell past, shown_here r s cell, shown_past_rows (shape_of (layout_of a)) rows placed r s cell past);
     none_told_sent = λ r s j past. omega (arith, sound.no_others.none_told_sent r s j past, shown_here r s (Out j), shown_past_sites (shape_of (layout_of a)) rows placed r s j past);
+  };
+  no_other_records = record {
+    none_done = sound.no_other_records.none_done;
+    none_heard = λ r s cell past.
+        omega (
+          arith,
+          sound.no_other_records.none_heard r s cell past,
+          shown_here r s cell,
+          shown_past_records (shape_of (layout_of a)) rows placed r s cell (omega (arith, records_number a.origin.layout)),
+          start_past a.origin.layout r s cell past,
+        );
   };
 }
   where
@@ -187,6 +198,15 @@ sound_grown a n more sound = record {
     none_sent = λ r j past. sound.no_others.none_sent r j (omega arith);
     none_told = λ r s cell past. kept_most a.origin (told a) r s cell (sound.no_others.none_told r s cell (omega arith));
     none_told_sent = λ r s j past. kept_most a.origin (told a) r s (Out j) (sound.no_others.none_told_sent r s j (omega arith));
+  };
+  no_other_records = record {
+    none_done = sound.no_other_records.none_done;
+    none_heard = λ r s cell past.
+        omega (
+          arith,
+          kept_most a.origin (told a) r s cell (omega (arith, sound.no_other_records.none_heard r s cell past)),
+          start_past a.origin.layout r s cell past,
+        );
   };
 }
 

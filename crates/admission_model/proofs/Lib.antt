@@ -22,6 +22,10 @@ pub mod HelpLemmas
 pub mod LawLemmas
 pub mod BookLemmas
 pub mod CellLemmas
+pub mod StoredLemmas
+pub mod SlotLemmas
+pub mod OriginLemmas
+pub mod RestoringLemmas
 pub mod ChangeLemmas
 pub mod ReasonLemmas
 pub mod RaisedLemmas

@@ -167,7 +167,7 @@ all_occur ss = each ss ss (λ r h. omega arith)
       each xs ys (λ r h. omega (arith, less r h)),
     )
 
-move_all : {X : Type 0} (P Q : X → Type 0) → ((x : X) → P x → Q x) → (xs : List X) → AllByRecursion P xs → AllByRecursion Q xs
+pub move_all : {X : Type 0} (P Q : X → Type 0) → ((x : X) → P x → Q x) → (xs : List X) → AllByRecursion P xs → AllByRecursion Q xs
 move_all P Q f [] all = tt
 move_all P Q f (x ∷ xs) all = (f x all.0, move_all P Q f xs all.1)
 
@@ -192,7 +192,7 @@ all_stored (s ∷ ss) once = (
             absurd (omega (arith, first, is.1, cond-true {A = ℕ} (is_key x.r x.h s.r s.h) 1 0 t))
         at (inr f) = cond-false (is_key x.r x.h s.r s.h) (Some s.phase) (phase_in ss x.r x.h) f ∙ is.0
 
-present_stored : (phase : ℕ → ℕ → Option Phase) (ss : List Session) → AllByRecursion (IsStored phase) ss → present phase (map key_of ss) ≡ ss
+pub present_stored : (phase : ℕ → ℕ → Option Phase) (ss : List Session) → AllByRecursion (IsStored phase) ss → present phase (map key_of ss) ≡ ss
 present_stored phase [] all = refl
 present_stored phase (s ∷ ss) all =
     ap (λ o. session_if (key_of s) o (present phase (map key_of ss))) all.0 ∙ ap (λ xs. s ∷ xs) (present_stored phase ss all.1)

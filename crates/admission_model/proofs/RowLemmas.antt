@@ -3,13 +3,13 @@ use Rattle.std.proofs.Common.{◌≡◌, ◌≢◌, ℕ, suc, ◌-◌, ◌<◌, 
 use Rattle.std.specs.Prelude.{option_map}
 use Rattle.std.specs.List.{AllByRecursion}
 use Rattle.std.proofs.lemmas.List.{get_or_past, length-map}
-use Rattle.std.proofs.lemmas.Bool.{cases_eq, cases_lt, cases_Bool, eq-eqb, ne_eqb, eqb-true, ltb-true, ltb-false, leb-true, and_parts, cond-true, cond-false}
+use Rattle.std.proofs.lemmas.Bool.{cases_eq, cases_lt, cases_Bool, eq-eqb, ne_eqb, eqb-true, ltb-true, ltb-false, leb-true, and_parts, cond_both, cond-true, cond-false}
 use Rattle.merge_core.specs.declared.cell.Cell.{Cell}
 use Rattle.merge_core.specs.declared.cell.Cell.TheVariants.{Out, Taken, Ann, Fin}
 use Rattle.merge_core.specs.declared.delta.Row.{Row}
-use Rattle.merge_core.specs.Layout.{LayoutState, Shape, shape_of, record_shape}
+use Rattle.merge_core.specs.Layout.{LayoutState, Shape, RecordShape, shape_of, record_shape}
 use Rattle.grow_counters.specs.Counts.{counter_limit}
-use Rattle.merge_core.specs.Rows.{grant, start_counter, counter_in, counters_of}
+use Rattle.merge_core.specs.Rows.{grant, start_counter, no_record, counter_in, counters_of}
 use Rattle.merge_core.specs.Naming.{shown_by}
 use Rattle.merge_core.specs.Sums.{one_if, number_of_cells}
 use Rattle.merge_core.specs.Tests.{is_placed, is_valid, overfull, first_failing}
@@ -42,6 +42,21 @@ start_diagonal shape r s = cond-true {A = ℕ} (eqb s s) (grant shape r s) 0 (eq
 
 pub start_elsewhere : (shape : Shape) (r s j : ℕ) → j ≢ s → start_counter shape r s (Out j) ≡ 0
 start_elsewhere shape r s j apart = cond-false {A = ℕ} (eqb j s) (grant shape r s) 0 (ne_eqb j s apart)
+
+-- a record that is not there has no seats, so that all its counters start at 0
+pub start_past : (layout : LayoutState) (r s : ℕ) (cell : Cell) → length layout.records ≤ r → start_counter (shape_of layout) r s cell ≡ 0
+start_past layout r s cell past = at cell
+  where
+    none : grant (shape_of layout) r s ≡ 0
+    none =
+        ap (λ (x : RecordShape). cond (eqb s x.home) x.seats 0) (get_or_past (shape_of layout).records r no_record (omega (arith, length-map layout.records record_shape)))
+        ∙ cond_both (eqb s 0) 0 0 (λ x. x ≡ 0) (λ e. refl) (λ e. refl)
+
+    at : (c : Cell) → start_counter (shape_of layout) r s c ≡ 0
+    at (Out j) = cond_both (eqb j s) (grant (shape_of layout) r s) 0 (λ x. x ≡ 0) (λ e. none) (λ e. refl)
+    at Taken = refl
+    at Ann = refl
+    at Fin = refl
 
 pub FitsRow-start : (shape : Shape) (r s : ℕ) → FitsRow (grant shape r s) s (start_counter shape r s)
 FitsRow-start shape r s = record {

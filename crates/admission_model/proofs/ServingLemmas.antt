@@ -74,7 +74,7 @@ clear_read a r h sound clear =
 
 clear_give : (a : Account) (r to seats : ℕ) → IsSound a → Clear (give_lines (view_of a) r to seats) → IsSound (does (GaveSeats r to seats) a)
 clear_give a r to seats sound clear =
-    sound_give a r to seats sound (leb-false (a.sites) to clear.1.0) (eqb-false to a.origin.site clear.1.1.0)
+    sound_give a r to seats sound (leb-false (length a.origin.layout.records) r clear.0) (leb-false (a.sites) to clear.1.0) (eqb-false to a.origin.site clear.1.1.0)
     (omega (arith, known_own a r (Out to), ltb-false counter_limit (known a r a.origin.site (Out to) + seats) clear.1.1.1.1.0))
     (ltb-false (rights_of (view_of a) r) seats clear.1.1.1.1.1.0)
 
@@ -88,6 +88,7 @@ clear_help a r sound clear =
     let to : (planned (plan_of (view_of a) r)).to ≡ p.to = ap (λ (q : Plan). q.to) is in
     let seats : (planned (plan_of (view_of a) r)).seats ≡ p.seats = ap (λ (q : Plan). q.seats) is in
     sound_give a r (planned (plan_of (view_of a) r)).to (planned (plan_of (view_of a) r)).seats sound
+    (leb-false (length a.origin.layout.records) r clear.0)
     (subst (λ (x : ℕ). x < a.sites) (sym to) feasible.there)
     (λ here. feasible.elsewhere (sym to ∙ here))
     (omega (arith, room, known_own a r (Out (planned (plan_of (view_of a) r)).to)))

@@ -13,7 +13,7 @@ use Rattle.admission_model.specs.Account.{start_origin, begin, seats_in}
 use Rattle.admission_model.specs.Sound.{IsSound}
 use Rattle.merge_core.proofs.SumLemmas.{total_only, total_others_same, total_others_zero}
 use Rattle.admission_model.proofs.CounterLemmas.{spent_own}
-use Rattle.admission_model.proofs.RowLemmas.{FitsRow-start, start_diagonal, start_elsewhere}
+use Rattle.admission_model.proofs.RowLemmas.{FitsRow-start, start_diagonal, start_elsewhere, start_past}
 use Rattle.admission_model.proofs.HeardLemmas.{FitsRow-kept, kept_yes, kept_row, kept_most}
 
 pub sound_start : (layout : LayoutState) (i : ℕ) → i < layout.sites → IsSound (begin (start_origin layout i))
@@ -40,6 +40,10 @@ sound_start layout i below = record {
     none_sent = λ r j past. start_elsewhere (shape_of layout) r i j (λ e. absurd (omega arith));
     none_told = λ r s cell past. none r s cell;
     none_told_sent = λ r s j past. none r s (Out j);
+  };
+  no_other_records = record {
+    none_done = λ r cell past. start_past layout r i cell past;
+    none_heard = λ r s cell past. omega (arith, none r s cell, start_past layout r s cell past);
   };
 }
   where

@@ -15,7 +15,7 @@ use Rattle.admission_model.specs.View.{view_of, rights_of}
 use Rattle.admission_model.specs.Sound.{IsBalanced, IsSound}
 use Rattle.merge_core.proofs.SumLemmas.{total_others_zero, total_others_only, total_others_same}
 use Rattle.admission_model.proofs.SessionLemmas.{session_arrives, session_changes, IsListed, IsListed-arrives, IsListed-changes, IsAmong, IsAmong-changes, AreHolders, AreHolders-changes}
-use Rattle.admission_model.proofs.CounterLemmas.{does, Raises, Raises-elsewhere, own_here, balance_step}
+use Rattle.admission_model.proofs.CounterLemmas.{does, Raises, Raises-elsewhere, own_here, own_elsewhere, balance_step}
 
 pub cond_zero : (b : Bool) → ◌≡◌ {A = ℕ} (cond b 0 0) 0
 cond_zero true = refl
@@ -58,6 +58,7 @@ pub record IsPaid (a : Account) (operation : Operation) (before after : Option P
   pub few_announced : own a (record_of operation) Ann + ann ≤ counter_limit
   pub few_writers : own a (record_of operation) Ann + ann ≤ own a (record_of operation) Fin + fin + most_writers
   pub sites_there : (j : ℕ) → a.sites ≤ j → out j ≡ 0
+  pub record_there : record_of operation < length a.origin.layout.records
 
 balanced_here : (a : Account) (operation : Operation) (before after : Option Phase) (out : ℕ → ℕ) (taken ann fin : ℕ) → IsSound a → Takes a operation before after → IsPaid a operation before after out taken ann fin → IsBalanced (does operation a) (record_of operation)
 balanced_here a operation before after out taken ann fin sound takes paid =
@@ -99,6 +100,11 @@ sound_step a operation before after out taken ann fin sound takes paid = record 
     none_sent = λ r j past. none_sent r j past (cases_eq (record_of operation) r);
     none_told = sound.no_others.none_told;
     none_told_sent = sound.no_others.none_told_sent;
+  };
+  no_other_records = record {
+    none_done = λ r cell past.
+        own_elsewhere a operation r cell (ne_eqb (record_of operation) r (λ e. absurd (omega (arith, paid.record_there)))) ∙ omega (arith, sound.no_other_records.none_done r cell past);
+    none_heard = sound.no_other_records.none_heard;
   };
 }
   where
@@ -170,6 +176,7 @@ sound_read a r h sound below holder none room seats =
       few_announced = omega (arith, (sound.balanced r).fits.few_announced);
       few_writers = omega (arith, (sound.balanced r).writers, (sound.balanced r).few_writers);
       sites_there = λ j past. refl;
+      record_there = below;
     })
 
 pub sound_announce : (a : Account) (r h : ℕ) → IsSound a → r < length a.origin.layout.records → h ≤ holder_limit → phase_of a r h ≡ None → own a r Ann + 1 ≤ counter_limit → own a r Ann + 1 ≤ own a r Fin + most_writers → IsSound (does (AnnouncedWriter r h) a)
@@ -185,6 +192,7 @@ sound_announce a r h sound below holder none room few =
       few_announced = room;
       few_writers = omega (arith, few);
       sites_there = λ j past. refl;
+      record_there = below;
     })
 
 pub sound_write : (a : Account) (r h : ℕ) → IsSound a → phase_of a r h ≡ Some Waiting → own a r Taken + seats_in a.origin.layout r ≤ counter_limit → seats_in a.origin.layout r ≤ rights_of (view_of a) r → IsSound (does (EnteredWrite r h) a)
@@ -201,6 +209,7 @@ sound_write a r h sound waits room enough =
       few_announced = omega (arith, (sound.balanced r).fits.few_announced);
       few_writers = omega (arith, (sound.balanced r).writers, (sound.balanced r).few_writers);
       sites_there = λ j past. refl;
+      record_there = sound.record_there r h Waiting waits;
     })
 
 pub sound_leave : (a : Account) (r h : ℕ) (p : Phase) → IsSound a → phase_of a r h ≡ Some p → IsSound (does (LeftRecord r h) a)
@@ -225,6 +234,7 @@ sound_leave a r h p sound there =
       few_announced = omega (arith, (sound.balanced r).fits.few_announced);
       few_writers = omega (arith, (sound.balanced r).writers, (sound.balanced r).few_writers);
       sites_there = λ j past. cond-false {A = ℕ} (eqb j a.origin.site) w 0 (ne_eqb j a.origin.site (λ e. absurd (omega (arith, sound.site_there))));
+      record_there = sound.record_there r h p there;
     })
   where
     nothing : total_others (a.sites) a.origin.site (λ j. cond (eqb j a.origin.site) (weight (seats_in a.origin.layout r) p) 0) ≡ 0
@@ -234,8 +244,8 @@ sound_leave a r h p sound there =
         total_others_same (a.sites) i (λ j. cond (eqb j i) w 0) (λ j. 0) (λ j below apart. cond-false {A = ℕ} (eqb j i) w 0 (ne_eqb j i apart))
         ∙ total_others_zero (a.sites) i (λ j. 0) (λ j. refl)
 
-pub sound_give : (a : Account) (r to seats : ℕ) → IsSound a → to < a.sites → to ≢ a.origin.site → own a r (Out to) + seats ≤ counter_limit → seats ≤ rights_of (view_of a) r → IsSound (does (GaveSeats r to seats) a)
-sound_give a r to seats sound there apart_to room enough =
+pub sound_give : (a : Account) (r to seats : ℕ) → IsSound a → r < length a.origin.layout.records → to < a.sites → to ≢ a.origin.site → own a r (Out to) + seats ≤ counter_limit → seats ≤ rights_of (view_of a) r → IsSound (does (GaveSeats r to seats) a)
+sound_give a r to seats sound below there apart_to room enough =
     let sent = λ (j : ℕ). cond (eqb j to) seats 0 in
     sound_step a (GaveSeats r to seats) None None sent 0 0 0 sound (gives_takes a r to seats sound)
     (record {
@@ -248,6 +258,7 @@ sound_give a r to seats sound there apart_to room enough =
       few_announced = omega (arith, (sound.balanced r).fits.few_announced);
       few_writers = omega (arith, (sound.balanced r).writers, (sound.balanced r).few_writers);
       sites_there = λ j past. cond-false {A = ℕ} (eqb j to) seats 0 (ne_eqb j to (λ e. absurd (omega (arith, there))));
+      record_there = below;
     })
   where
     moved : (j : ℕ) → j ≢ a.origin.site → (j ≡ to) ⊎ (j ≡ to → ⊥) → own a r (Out j) + cond (eqb j to) seats 0 ≤ counter_limit

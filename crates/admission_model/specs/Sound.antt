@@ -36,8 +36,14 @@ pub record KnowsNothingBeyond (a : Account) : Type 0 where
   pub none_told : (r s : ℕ) (cell : Cell) → a.sites ≤ s → told a r s cell ≤ start_counter (shape_of a.origin.layout) r s cell
   pub none_told_sent : (r s j : ℕ) → a.sites ≤ j → told a r s (Out j) ≤ start_counter (shape_of a.origin.layout) r s (Out j)
 
+-- no counter was moved of records past those of the layout, and nothing was told of them
+pub record KnowsNoOtherRecords (a : Account) : Type 0 where
+  pub none_done : (r : ℕ) (cell : Cell) → length a.origin.layout.records ≤ r → own a r cell ≡ 0
+  pub none_heard : (r s : ℕ) (cell : Cell) → length a.origin.layout.records ≤ r → told a r s cell ≡ 0
+
 -- every session is listed once, at a record that there is and of a holder within its limit; each record is
--- balanced; what was told of any row fits, and nothing was told of the site's own row that it has not done
+-- balanced; what was told of any row fits, nothing was told of the site's own row that it has not done, and
+-- nothing is known of sites and records that are not there
 pub record IsSound (a : Account) : Type 0 where
   pub site_there : a.origin.site < a.sites
   pub listed_once : (r h : ℕ) (p : Phase) → phase_of a r h ≡ Some p → occurs r h (arrivals a.origin a.done) ≡ 1
@@ -47,6 +53,7 @@ pub record IsSound (a : Account) : Type 0 where
   pub told_fits : (r s : ℕ) → FitsRow (grant (shape_of a.origin.layout) r s) s (told a r s)
   pub told_after_done : (r : ℕ) (cell : Cell) → told a r a.origin.site cell ≤ own a r cell
   pub no_others : KnowsNothingBeyond a
+  pub no_other_records : KnowsNoOtherRecords a
 
 -- an account may begin here: at the start, and wherever a stop leaves a site
 abbrev pub IsOrigin : Origin → Type 0

@@ -3,6 +3,9 @@ ghost use Rattle.std.specs.Prelude.{◌≡◌, IfOk};
 use merge_core::Delta;
 use std::alloc::{AllocError, Global};
 
+/// The greatest number of a holder.
+pub const HOLDER_LIMIT: u64 = 1_000_000_000_000;
+
 /// What a caller asks of a site: `r` is a record, `h` a holder.
 #[derive(Clone, Copy, Debug, PartialEq, Eq)]
 pub enum Ask {

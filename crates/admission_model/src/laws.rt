@@ -3,7 +3,7 @@ ghost use Rattle.std.specs.Prelude.{◌≡◌, ◌≢◌, ◌↔◌, ℕ, ◌+�
 ghost use Rattle.merge_core.specs.declared.cell.Cell.{Cell};
 ghost use Rattle.merge_core.specs.declared.cell.Cell.TheVariants.{Out, Ann, Fin};
 ghost use Rattle.merge_core.specs.declared.delta.Row.{Row};
-ghost use Rattle.merge_core.specs.Layout.{LayoutState, shape_of};
+ghost use Rattle.merge_core.specs.Layout.{LayoutState, shape_of, at_sites};
 ghost use Rattle.merge_core.specs.Rows.{start_counter};
 ghost use Rattle.merge_core.specs.Naming.{shown_by};
 ghost use Rattle.admission_model.specs.declared.ask.Ask.{Ask};
@@ -30,6 +30,8 @@ ghost use Rattle.writer_notices.specs.Notices.{open_count, IsOpen, IsLeastOpen};
 ghost use Rattle.admission_model.specs.Laws.{SameCounters, KnowsUnfinished, raised_to, CountsUnits, CountsSessions, SourcesAgree, DeltasAgree, IsFirstUnfinished, MayAsk, DifferInNotices, IsFeasible, ShowTheSame, KeepTheSame, StandsFor};
 ghost use Rattle.admission_model.specs.Durable.{durable_cells, AreRising, put_cells, change_between, IsEmpty, KeepsSessions};
 ghost use Rattle.admission_model.specs.Asked.{operation_change};
+ghost use Rattle.admission_model.specs.declared.durable.DurableCell.{DurableCell};
+ghost use Rattle.admission_model.specs.Restoring.{origin_from, AreCells, AreSessions};
 ghost use Rattle.admission_model.specs.Order.{sessions_next};
 ghost use Rattle.admission_model.specs.Examples.{answers, wanted, read_cases, announce_cases, write_cases, leave_cases, give_cases, help_cases, merge_cases, snapshot_cases, slots_asked, slots_wanted, begun, asks, comings, comings_order};
 
@@ -98,6 +100,16 @@ pub fn durable_law()
     ensures resumed_grown { (a : Account) → IsReached a → (n : ℕ) → a.sites ≤ n → ShowTheSame (begin (resumed n a)) (grown n a) }
 {}
 
+/// Cells and sessions that agree are where an account may begin. A reached account's are such cells and
+/// sessions, under its layout or a later one, of at most 16 sites; and the account that begins from them shows
+/// what the account shows that was started again.
+pub fn restoring_law()
+    ensures origin { (layout : LayoutState) → (i : ℕ) → (cells : List DurableCell) → (sessions : List Session) → i < layout.sites → AreCells layout i cells → AreSessions layout i cells sessions → IsOrigin (origin_from layout i cells sessions) }
+    ensures cells { (a : Account) → IsReached a → (n : ℕ) → a.sites ≤ n → n ≤ 16 → AreCells (at_sites n a.origin.layout) a.origin.site (durable_cells a) }
+    ensures sessions { (a : Account) → IsReached a → (n : ℕ) → a.sites ≤ n → n ≤ 16 → AreSessions (at_sites n a.origin.layout) a.origin.site (durable_cells a) (sessions_of a) }
+    ensures restored { (a : Account) → IsReached a → (n : ℕ) → a.sites ≤ n → n ≤ 16 → ShowTheSame (begin (origin_from (at_sites n a.origin.layout) a.origin.site (durable_cells a) (sessions_of a))) (grown n a) }
+{}
+
 /// A refusal is answered only where it is the reason.
 pub fn reason_law()
     ensures { (v : View) → (call : Call) → (refusal : Refusal) → reply_of v call ≡ Refused refusal → reason v call ≡ Some refusal }
@@ -119,10 +131,11 @@ pub fn asked_law()
         → known (after a (AskCall ask)) r s cell ≡ known a r s cell + raised_to a (operation_of (view_of a) ask) r s cell }
 {}
 
-/// The cells of a durable part rise; those of a call's change, put at their places, make the old cells the new
-/// ones; and a change is empty where the durable part stays the same.
+/// The cells of a durable part rise, and so do those of a change; those of a call's change, put at their places,
+/// make the old cells the new ones; and a change is empty where the durable part stays the same.
 pub fn change_law()
     ensures rising { (a : Account) → AreRising (durable_cells a) }
+    ensures change_rising { (a b : Account) → AreRising (change_between a b).cells }
     ensures put { (a : Account) → IsReached a → (call : Call) → put_cells (change_between a (after a call)).cells (durable_cells a) ≡ durable_cells (after a call) }
     ensures empty { (a : Account) → IsReached a → (call : Call) → KeepTheSame (durable_part (after a call)) (durable_part a) → IsEmpty (change_between a (after a call)) }
 {}

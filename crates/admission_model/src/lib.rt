@@ -2,7 +2,7 @@
 //! definitions.
 #![tactic(auto)]
 
-pub use ask::{Ask, Call};
+pub use ask::{Ask, Call, HOLDER_LIMIT};
 pub use durable::DurableCell;
 pub use operation::Operation;
 pub use reply::{Plan, Refusal, Reply};

@@ -4,6 +4,7 @@ ghost use Rattle.merge_core.specs.Book.{HasCell};
 ghost use Rattle.admission_model.specs.Durable.{named, of_other};
 
 use super::SiteCore;
+use crate::starts::start_counter;
 use admission_model::DurableCell;
 use merge_core::Cell;
 use std::alloc::AllocError;
@@ -87,35 +88,11 @@ impl SiteCore {
         let _ = &self.alloc; // tells the invariant: the site is one of the layout's
         if let Some((s, cell)) = named(self.layout.sites(), self.site, slot) {
             let value = self.book.counter(r, s, cell);
-            if value != self.start(r, s, cell) {
+            if value != start_counter(&self.layout, r, s, cell) {
                 cells.push(DurableCell { r, slot, value })?;
             }
         }
         Ok(())
-    }
-
-    // A counter before any operation.
-    fn start(&self, r: u16, s: u16, cell: Cell) -> u64
-        requires { r < length self.now.layout.records }
-        ensures { result ≡ start_counter (shape_of self.now.layout) r s cell }
-    {
-        match cell {
-            Cell::Out(j) if j == s => self.granted(r, s),
-            _ => 0,
-        }
-    }
-
-    // The seats that a site is granted at the start.
-    fn granted(&self, r: u16, s: u16) -> u64
-        requires { r < length self.now.layout.records }
-        ensures { result ≡ grant (shape_of self.now.layout) r s }
-    {
-        let record = &self.layout.records()[usize::from(r)];
-        if s == record.home {
-            u64::from(record.seats)
-        } else {
-            0
-        }
     }
 }
 

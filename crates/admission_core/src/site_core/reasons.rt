@@ -1,13 +1,9 @@
 //! Why a site refuses: for each call its refusals, of which the first that applies is answered.
 use super::SiteCore;
-use admission_model::{Ask, Phase, Refusal};
+use admission_model::{Ask, HOLDER_LIMIT, Phase, Refusal};
 use grow_counters::COUNTER_LIMIT;
 use merge_core::Cell;
-
-/// The greatest number of a holder.
-const HOLDER_LIMIT: u64 = 1_000_000_000_000;
-/// The greatest number of unfinished writers of a record at a site.
-const MOST_WRITERS: u64 = 64;
+use writer_notices::MOST_WRITERS;
 
 impl SiteCore {
     ghost use Rattle.std.specs.Prelude.{◌≡◌};

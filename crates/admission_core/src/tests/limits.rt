@@ -55,8 +55,6 @@ fn a_full_site_tells_and_keeps(rt: HostRuntime) {
     assert_eq!(rt; full_sizes(rt.alloc()), Some([243, 243, 2_000]));
 }
 
-const HOLDER_LIMIT: u64 = 1_000_000_000_000;
-
 const AT_THE_LIMITS: [(Ask, Answer); 15] = [
     (
         Ask::Announce { r: 255, h: 65 },
@@ -239,4 +237,19 @@ fn a_full_site_restarts(rt: HostRuntime) {
         Answer::Merged(3_840 * 16),
     );
     assert_eq!(rt; restarted(rt.alloc()), Some(want));
+}
+
+// Whether a full site that heard all is restored from what it keeps.
+fn is_restored(alloc: Global) -> Option<bool> {
+    let (core, _) = heard(alloc)?;
+    let left = core.durable().ok()?;
+    let kept = left.try_copy(alloc).ok()?;
+    let again = SiteCore::restore(alloc, greatest_layout(alloc)?, 0, left).ok()?;
+    let keeps = again.durable().ok()?;
+    Some(keeps.cells() == kept.cells() && keeps.sessions() == kept.sessions())
+}
+
+#[test]
+fn a_full_site_is_restored(rt: HostRuntime) {
+    assert_eq!(rt; is_restored(rt.alloc()), Some(true));
 }

@@ -19,8 +19,8 @@ pub fn spec(text: String, seats: u32, problem: u16) -> RecordSpec {
     }
 }
 
-// The layout of one record.
-fn layout(alloc: Global, shape: Shape) -> Option<Layout> {
+/// The layout of one record.
+pub fn layout(alloc: Global, shape: Shape) -> Option<Layout> {
     let name = String::from_str(alloc, "a").ok()?;
     let mut records = Vec::new(alloc);
     records.push(spec(name, shape.1, shape.2)).ok()?;

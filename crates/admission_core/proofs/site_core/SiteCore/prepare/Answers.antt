@@ -5,9 +5,9 @@ use Rattle.admission_model.specs.declared.ask.Call.TheVariants.{Ask as AskCall, 
 use Rattle.admission_model.specs.Account.{Account}
 use Rattle.admission_model.specs.View.{view_of}
 use Rattle.admission_model.specs.Serving.{reply_of}
-use Rattle.admission_core.specs.Core.{Core, Stands, is_memory}
+use Rattle.admission_core.specs.Core.{Core, IsCore, Stands, is_memory}
 use Rattle.admission_core.specs.Prepared.{Prepared, IsChangeFor}
-use Rattle.admission_core.proofs.ChangeLemmas.{replies}
+use Rattle.admission_core.proofs.ChangeLemmas.{replies, change_rising}
 use Rattle.admission_core.proofs.site_core.SiteCore.prepare.Goals as goal
 
 -- the answer to a call is the model's, want of memory aside
@@ -43,3 +43,15 @@ returns-in-Snapshot-clause-reply c =
 pub returns-in-Snapshot-clause-change : goal.returns-in-Snapshot-clause-change
 returns-in-Snapshot-clause-change c =
     subst (λ (call : Call). IsChangeFor c.args.self.now call c.prepare_snapshot.result) (sym c.in-Snapshot.is) c.prepare_snapshot.ensures.change
+
+pub returns-in-Ask-clause-rising : goal.returns-in-Ask-clause-rising
+returns-in-Ask-clause-rising c =
+    change_rising c.args.self.now (subst IsCore c.self.view_is c.self.invariant) (AskCall c.in-Ask.ask) c.prepare_ask.result c.prepare_ask.ensures.change
+
+pub returns-in-Merge-clause-rising : goal.returns-in-Merge-clause-rising
+returns-in-Merge-clause-rising c =
+    change_rising c.args.self.now (subst IsCore c.self.view_is c.self.invariant) (Merge c.in-Merge.delta) c.prepare_merge.result c.prepare_merge.ensures.change
+
+pub returns-in-Snapshot-clause-rising : goal.returns-in-Snapshot-clause-rising
+returns-in-Snapshot-clause-rising c =
+    change_rising c.args.self.now (subst IsCore c.self.view_is c.self.invariant) Snapshot c.prepare_snapshot.result c.prepare_snapshot.ensures.change

@@ -1,0 +1,9 @@
+use Rattle.std.proofs.Common.{◌≡◌, ◌*◌, ◌^◌, ◌≤◌}
+use Rattle.merge_core.specs.declared.cell.Cell.TheVariants.{Out}
+use Rattle.merge_core.specs.Sums.{total}
+use Rattle.admission_core.specs.Restored.{counters_in}
+use Rattle.admission_core.proofs.restoring.counters.gained.Given as goal
+
+abbrev pub invariant-loop-j : goal.invariant-loop-j
+invariant-loop-j l =
+    (l.sum ≡ total l.j (λ j. counters_in l.layout l.site l.table l.r j (Out l.site))) × (l.sum ≤ l.j * 2 ^ 64)

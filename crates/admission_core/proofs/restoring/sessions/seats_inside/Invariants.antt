@@ -1,0 +1,10 @@
+use Rattle.std.proofs.Common.{◌≡◌, ℕ, ◌*◌, ◌<◌, ◌≤◌, length, get_or, take}
+use Rattle.admission_model.specs.Account.{session_total, weight, seats_in}
+use Rattle.admission_core.proofs.restoring.sessions.seats_inside.Given as goal
+
+abbrev pub invariant-loop-session : goal.invariant-loop-session
+invariant-loop-session l = record {
+  size : length l.sums.items ≡ length l.layout.records;
+  few : (r : ℕ) → get_or l.sums.items r 0 ≤ 65535 * l.session-index;
+  sums : (r : ℕ) → r < length l.layout.records → get_or l.sums.items r 0 ≡ session_total (weight (seats_in l.layout r)) r (take l.session-index l.sessions);
+}
