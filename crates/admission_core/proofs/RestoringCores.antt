@@ -39,7 +39,7 @@ use Rattle.admission_model.proofs.OriginLemmas.{begins_from, rows_fit}
 use Rattle.admission_model.proofs.RestoringLemmas.{stored_cells, stored_sessions, begun_again}
 use Rattle.admission_core.specs.declared.restoring.RestoreError.{RestoreError}
 use Rattle.admission_core.specs.declared.restoring.RestoreError.TheVariants.{BadSite, WrongCounters, WrongSessions, Memory}
-use Rattle.admission_core.specs.Core.{Core, Stands, IsCore}
+use Rattle.admission_core.specs.Core.{Core, Stands}
 use Rattle.admission_core.specs.Kept.{DurableState, durable_of}
 use Rattle.admission_core.specs.Restored.{IsCoreFrom, IsRestored, IsHeldOf, IsOwn, IsListed, value_if, TellsCells, counters_in, gained_by, spent_by, KeepsLimits, IsBookFrom, AddsUp, AgreeWith}
 use Rattle.admission_core.proofs.RestoringLists.{total_none}

@@ -60,7 +60,8 @@ impl SiteCore {
         durable: Durable,
     ) -> Result<SiteCore, RestoreError>
         ensures answer { IsRestored layout site durable result }
-        ensures own { (a : Account) → IsReached a → layout ≡ at_sites layout.sites a.origin.layout → a.sites ≤ layout.sites → site ≡ a.origin.site → durable ≡ durable_of a → IsOwn (grown layout.sites a) result }
+        ensures own { (a : Account) → IsReached a → layout ≡ at_sites layout.sites a.origin.layout → a.sites ≤ layout.sites
+            → site ≡ a.origin.site → durable ≡ durable_of a → IsOwn (grown layout.sites a) result }
     {
         restored(alloc, layout, site, durable)
     }

@@ -104,10 +104,13 @@ pub fn durable_law()
 /// sessions, under its layout or a later one, of at most 16 sites; and the account that begins from them shows
 /// what the account shows that was started again.
 pub fn restoring_law()
-    ensures origin { (layout : LayoutState) → (i : ℕ) → (cells : List DurableCell) → (sessions : List Session) → i < layout.sites → AreCells layout i cells → AreSessions layout i cells sessions → IsOrigin (origin_from layout i cells sessions) }
+    ensures origin { (layout : LayoutState) → (i : ℕ) → (cells : List DurableCell) → (sessions : List Session) → i < layout.sites
+        → AreCells layout i cells → AreSessions layout i cells sessions → IsOrigin (origin_from layout i cells sessions) }
     ensures cells { (a : Account) → IsReached a → (n : ℕ) → a.sites ≤ n → n ≤ 16 → AreCells (at_sites n a.origin.layout) a.origin.site (durable_cells a) }
-    ensures sessions { (a : Account) → IsReached a → (n : ℕ) → a.sites ≤ n → n ≤ 16 → AreSessions (at_sites n a.origin.layout) a.origin.site (durable_cells a) (sessions_of a) }
-    ensures restored { (a : Account) → IsReached a → (n : ℕ) → a.sites ≤ n → n ≤ 16 → ShowTheSame (begin (origin_from (at_sites n a.origin.layout) a.origin.site (durable_cells a) (sessions_of a))) (grown n a) }
+    ensures sessions { (a : Account) → IsReached a → (n : ℕ) → a.sites ≤ n → n ≤ 16
+        → AreSessions (at_sites n a.origin.layout) a.origin.site (durable_cells a) (sessions_of a) }
+    ensures restored { (a : Account) → IsReached a → (n : ℕ) → a.sites ≤ n → n ≤ 16
+        → ShowTheSame (begin (origin_from (at_sites n a.origin.layout) a.origin.site (durable_cells a) (sessions_of a))) (grown n a) }
 {}
 
 /// A refusal is answered only where it is the reason.

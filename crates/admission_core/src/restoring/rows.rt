@@ -69,7 +69,8 @@ fn push_if_moved(
     requires record { r < length layout.now.records }
     requires row { s < layout.now.sites }
     requires table { length table.now ≡ length layout.now.records * 416 }
-    ensures { OnOk result (rows.new.items ≡ rows.old.items ++ row_if (has_moved (shape_of layout.now) (counters_in layout.now site table.now) r s) (told_row layout.now.sites (counters_in layout.now site table.now) r s)) }
+    ensures { let counter = counters_in layout.now site table.now in OnOk result (rows.new.items
+        ≡ rows.old.items ++ row_if (has_moved (shape_of layout.now) counter r s) (told_row layout.now.sites counter r s)) }
 {
     if has_moved(layout, site, table, r, s) {
         rows.push(told_row(alloc, layout, site, table, r, s)?)?;

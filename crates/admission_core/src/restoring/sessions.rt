@@ -153,7 +153,8 @@ fn adds_up(layout: &Layout, site: u16, book: &Book, r: u16, inside: u128, unfini
     requires shape { book_shape book.now ≡ shape_of layout.now }
     requires few_inside { inside < 2 ^ 100 }
     requires few_unfinished { unfinished < 2 ^ 100 }
-    ensures { IsTrue result ↔ ((counter_of book.now r site Taken + grant (shape_of layout.now) r site ≡ counter_of book.now r site (Out site) + inside) × (counter_of book.now r site Ann ≡ counter_of book.now r site Fin + unfinished)) }
+    ensures { let counter = counter_of book.now r site in IsTrue result
+        ↔ ((counter Taken + grant (shape_of layout.now) r site ≡ counter (Out site) + inside) × (counter Ann ≡ counter Fin + unfinished)) }
 {
     let taken = u128::from(book.counter(r, site, Cell::Taken));
     let made = u128::from(book.counter(r, site, Cell::Out(site)));
