@@ -38,40 +38,43 @@ static int refused(void) {
     return 1;
 }
 
-#define REAL(name, type) static type real; if (!real) real = (type) dlsym(RTLD_NEXT, name)
-
 void *malloc(size_t size) {
-    REAL("malloc", void *(*)(size_t));
+    static void *(*real)(size_t);
+    if (!real) real = dlsym(RTLD_NEXT, "malloc");
     return refused() ? 0 : real(size);
 }
 
 void *realloc(void *old, size_t size) {
-    REAL("realloc", void *(*)(void *, size_t));
+    static void *(*real)(void *, size_t);
+    if (!real) real = dlsym(RTLD_NEXT, "realloc");
     return refused() ? 0 : real(old, size);
 }
 
 void *aligned_alloc(size_t align, size_t size) {
-    REAL("aligned_alloc", void *(*)(size_t, size_t));
+    static void *(*real)(size_t, size_t);
+    if (!real) real = dlsym(RTLD_NEXT, "aligned_alloc");
     return refused() ? 0 : real(align, size);
 }
 
 int posix_memalign(void **out, size_t align, size_t size) {
-    REAL("posix_memalign", int (*)(void **, size_t, size_t));
+    static int (*real)(void **, size_t, size_t);
+    if (!real) real = dlsym(RTLD_NEXT, "posix_memalign");
     return refused() ? ENOMEM : real(out, align, size);
 }
 END
 gcc -O1 -shared -fPIC -o "$work/refuse.so" "$work/refuse.c" -ldl
 
-n=0
-while :; do
-    n=$((n + 1))
-    rm -f "$work/mark"
-    if ! REFUSE_NTH=$n REFUSE_MARK=$work/mark LD_PRELOAD=$work/refuse.so "$tests" "$word" > "$work/out" 2>&1; then
-        cat "$work/out"
-        echo "a test fails where allocation $n is refused"
-        exit 1
-    fi
-    [ -e "$work/mark" ] || break
+for name in $("$tests" --list | sed -n "s/: test$//p" | grep "$word"); do
+    n=0
+    while :; do
+        n=$((n + 1))
+        rm -f "$work/mark"
+        if ! REFUSE_NTH=$n REFUSE_MARK=$work/mark LD_PRELOAD=$work/refuse.so "$tests" "$name" > "$work/out" 2>&1; then
+            cat "$work/out"
+            echo "$name fails where allocation $n is refused"
+            exit 1
+        fi
+        [ -e "$work/mark" ] || break
+    done
+    echo "$name: each of $((n - 1)) allocations was refused in turn"
 done
-grep 'test result' "$work/out"
-echo "each of $((n - 1)) allocations was refused in turn"
