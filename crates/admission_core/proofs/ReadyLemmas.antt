@@ -158,6 +158,9 @@ served_by old mid new call p reply same ready is account unchanged = record {
       is
       ∙ (ready.reply (ap is_memory (sym is) ∙ no_memory)
       ∙ ap (λ (v : View). reply_of v call) (view_along old mid same ∙ shows_account a old stands));
+  refused = λ refusal a stands told.
+      is
+      ∙ ready.refused refusal (ap (λ (v : View). reason v call) (view_along old mid same ∙ shows_account a old stands) ∙ told);
   account = λ a stands.
       subst (λ (x : Reply). Stands (served a call x) new) (sym is) (account call ready a (stands_along a old mid same stands));
   unchanged = λ refusal refused.
@@ -186,6 +189,7 @@ answered_from_memory v SnapshotCall = refl
 pub ready_refused : (c : Core) (call : Call) (refusal : Refusal) → reason (core_view c) call ≡ Some refusal → IsReadyFor c call (refused_with refusal)
 ready_refused c call refusal is = record {
   reply = λ no_memory. sym (ap (λ (o : Option Refusal). replied o (answer (core_view c) call)) is);
+  refused = λ other told. ap (λ (o : Option Refusal). replied o (Refused refusal)) (sym is ∙ told);
   operation = none (Refused refusal) (unless_some (reason (core_view c) call) (operation_in (core_view c) call)) (ap (λ (o : Option Refusal). unless_some o (operation_in (core_view c) call)) is);
   heard = none (Refused refusal) (unless_some (reason (core_view c) call) (rows_in call)) (ap (λ (o : Option Refusal). unless_some o (rows_in call)) is);
   room = tt;
@@ -199,13 +203,14 @@ ready_refused c call refusal is = record {
     none reply o e = left (is_memory reply) o e
 
 -- want of memory was prepared
-pub ready_memory : (c : Core) (call : Call) → IsReadyFor c call (refused_with Memory)
-ready_memory c call = record { reply = λ no_memory. absurd (cc); operation = refl; heard = refl; room = tt }
+pub ready_memory : (c : Core) (call : Call) → reason (core_view c) call ≡ None → IsReadyFor c call (refused_with Memory)
+ready_memory c call free = record { reply = λ no_memory. absurd (cc); refused = λ other told. let none : None ≡ Some other = sym free ∙ told in absurd (cc); operation = refl; heard = refl; room = tt }
 
 -- an answer was prepared
 pub ready_answer : (c : Core) (call : Call) (p : Prepared) → reason (core_view c) call ≡ None → p.reply ≡ answer (core_view c) call → p.operation ≡ operation_in (core_view c) call → p.heard ≡ rows_in call → has_room p.operation c.room → IsReadyFor c call p
 ready_answer c call p free reply operation heard room = record {
   reply = λ _. reply ∙ sym (ap (λ (o : Option Refusal). replied o (answer v call)) free);
+  refused = λ other told. let none : None ≡ Some other = sym free ∙ told in absurd (cc);
   operation =
       operation
       ∙ (sym (ap (λ (o : Option Refusal). unless_some o (operation_in v call)) free)

@@ -1,5 +1,5 @@
 -- The core of a site as contracts see it, and for which accounts of the model it stands.
-use Rattle.std.specs.Prelude.{◌≡◌, ℕ, ◌<◌, length, Bool, true, false, List, if◌then◌else◌}
+use Rattle.std.specs.Prelude.{◌≡◌, ℕ, ◌<◌, length, Bool, true, false, List, if◌then◌else◌, Option, Some}
 use Rattle.merge_core.specs.Layout.{LayoutState, IsLayout, shape_of}
 use Rattle.merge_core.specs.Book.{BookState, IsBook, book_shape, counter_of, seats_at}
 use Rattle.seat_rows.specs.Seats.{HasSeatRights}
@@ -12,7 +12,7 @@ use Rattle.admission_model.specs.declared.reply.Reply.{Reply}
 use Rattle.admission_model.specs.declared.reply.Reply.TheVariants.{Refused}
 use Rattle.admission_model.specs.Account.{Account}
 use Rattle.admission_model.specs.View.{View, view_of}
-use Rattle.admission_model.specs.Serving.{after, reply_of}
+use Rattle.admission_model.specs.Serving.{after, reason, reply_of}
 use Rattle.admission_model.specs.Reached.{IsReached}
 use Rattle.admission_model.specs.Laws.{StandsFor}
 
@@ -60,9 +60,11 @@ is_memory _ = false
 abbrev pub served : Account → Call → Reply → Account
 served a call reply = if is_memory reply then a else after a call
 
--- The call is answered as the model answers it, want of memory aside, and leaves a core that stands for the
--- account that the model leaves; after a refusal the core is as it was, its room aside.
+-- The call is answered as the model answers it, and leaves a core that stands for the account that the model
+-- leaves. Want of memory may stand in place of an answer, and never of a refusal. After a refusal the core is as
+-- it was, its room aside.
 pub record IsServed (old new : Core) (call : Call) (reply : Reply) : Type 0 where
   pub answered : is_memory reply ≡ false → (a : Account) → Stands a old → reply ≡ reply_of (view_of a) call
+  pub refused : (refusal : Refusal) → (a : Account) → Stands a old → reason (view_of a) call ≡ Some refusal → reply ≡ Refused refusal
   pub account : (a : Account) → Stands a old → Stands (served a call reply) new
   pub unchanged : (refusal : Refusal) → reply ≡ Refused refusal → SameContent old new

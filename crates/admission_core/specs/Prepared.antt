@@ -64,6 +64,7 @@ has_room (Some operation) room = IsTrue (arrives operation) → 0 < room
 -- what was prepared for a call at a core
 pub record IsReadyFor (c : Core) (call : Call) (p : Prepared) : Type 0 where
   pub reply : is_memory p.reply ≡ false → p.reply ≡ reply_of (core_view c) call
+  pub refused : (refusal : Refusal) → reason (core_view c) call ≡ Some refusal → p.reply ≡ Refused refusal
   pub operation : p.operation ≡ unless_memory p.reply (unless_some (reason (core_view c) call) (operation_in (core_view c) call))
   pub heard : p.heard ≡ unless_memory p.reply (unless_some (reason (core_view c) call) (rows_in call))
   pub room : has_room p.operation c.room

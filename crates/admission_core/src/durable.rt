@@ -5,8 +5,8 @@ use std::marker::Model;
 /// What a stop leaves of a site: the counters that have left their start, rising by record and slot, and the
 /// sessions in order of arrival.
 ///
-/// At site `i` of `n`, slot `j` below `n` is the counter of seats that `i` moved to `j`, slot `i` its seats
-/// given back, 100 + `j` the seats that another site `j` moved to `i`, 200 the seats taken, 201 and 202 the
+/// At site `i` of `n`, slot `j` below `n` is the counter of seats that `i` moved to `j`, slot `i` its grant and
+/// the seats given back, 100 + `j` the seats that another site `j` moved to `i`, 200 the seats taken, 201 and 202 the
 /// writers announced and finished, and 300 + `j` and 400 + `j` those of another site `j`.
 #[derive(Debug, Drop)]
 pub struct Durable {

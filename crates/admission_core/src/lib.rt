@@ -1,5 +1,5 @@
-//! One site's admission: each call is answered at once, from the site's own book, as the model of a site
-//! answers it.
+//! One site's admission: each call is answered at once, from the site's own book and sessions, as the model of a
+//! site answers it.
 #![tactic(auto)]
 
 pub use admission_model::{

@@ -19,9 +19,10 @@ use carrying::{carry_out, record_of};
 
 /// One site: its layout, its number, its book of all records, and its sessions.
 ///
-/// A call is answered at once, from the book alone. Readers and writers of a record are admitted by problem 1
-/// or 2 of Courtois, Heymans and Parnas (1971), with a refusal in place of waiting; seats follow the rights of
-/// the bounded counter of Balegas et al. (2015): a reader takes one, a writer all.
+/// A call is answered at once, from the site's own book and sessions. Readers and writers of a record are admitted
+/// by problem 1 or 2 of Courtois, Heymans and Parnas (1971), with a refusal in place of waiting; seats follow the
+/// rights of the bounded counter of Balegas et al. (2015): a reader takes one, a writer all. Of a call's refusals the
+/// first that applies is answered; `Memory` is answered only where none does, and a call so answered may be made again.
 #[derive(Debug, Drop)]
 pub struct SiteCore {
     alloc: Global,
@@ -121,7 +122,7 @@ impl SiteCore {
     }
 
     /// The session of a reader begins: `Admitted`. Refused, in this order: `NoRecord`; `BadHolder`, above
-    /// 10^12; `AlreadyHere`, with any session at the record; `CounterFull`, where the seats taken would pass
+    /// 10^12; `AlreadyHere`, where the holder has any session at the record; `CounterFull`, where the seats taken would pass
     /// 10^12; under problem 2 `WriterAnnounced`, with the least site whose writer the book shows unfinished;
     /// `NoSeat`. Linear in the sites.
     pub fn enter_read(&mut self, r: u16, h: u64) -> Reply
@@ -219,8 +220,8 @@ impl SiteCore {
     }
 
     /// Where seats of record `r` would help, if anywhere: all rights go to the least site whose writer the
-    /// book shows unfinished; where none is shown, those above an even share go to the next site. Linear in
-    /// the sites.
+    /// book shows unfinished, if that is another one; where none is shown, those above an even share, which is
+    /// rounded up, go to the next site. Linear in the sites.
     pub fn plan(&self, r: u16) -> Option<Plan>
         requires { r < length self.now.layout.records }
         ensures { (a : Account) → Stands a self.now → result ≡ plan_of (view_of a) r }

@@ -11,7 +11,7 @@ use Rattle.admission_core.specs.Core.{Core, IsCore, core_view}
 use Rattle.admission_core.specs.Carrying.{IsAllowed}
 use Rattle.admission_core.specs.Prepared.{Prepared, IsReadyFor, IsChangeFor}
 use Rattle.admission_core.proofs.AllowedLemmas.{allowed}
-use Rattle.admission_core.proofs.ReadyLemmas.{ready_answer, view_along}
+use Rattle.admission_core.proofs.ReadyLemmas.{ready_answer, ready_memory, view_along}
 use Rattle.admission_core.proofs.ChangeLemmas.{refused_change, memory_change, asked_change}
 use Rattle.admission_core.proofs.site_core.SiteCore.prepare_ask.Goals as goal
 
@@ -34,6 +34,15 @@ returns-in_default-make_room-clause-change c =
     let now : Core = c.args.self.now in
     subst (IsChangeFor now (AskCall c.args.ask)) (sym c.refused-in_default-make_room.ensures)
     (memory_change now (AskCall c.args.ask))
+
+pub returns-in_default-make_room-clause-ready : goal.returns-in_default-make_room-clause-ready
+returns-in_default-make_room-clause-ready c =
+    let now : Core = c.args.self.now in
+    let new : Core = c.make_room.new.self in
+    let call : Call = AskCall c.args.ask in
+    let views : core_view now ≡ core_view new = sym (view_along now new c.make_room.ensures.content) in
+    let free : reason (core_view new) call ≡ None = ap (λ (v : View). reason v call) (sym views) ∙ (sym c.ask_reason.ensures ∙ c.in_default.is) in
+    subst (IsReadyFor new call) (sym c.refused-in_default-make_room.ensures) (ready_memory new call free)
 
 pub returns-clause-ready : goal.returns-clause-ready
 returns-clause-ready c =

@@ -5,7 +5,8 @@ use Rattle.admission_model.specs.declared.reply.Reply.TheVariants.{Merged}
 use Rattle.admission_model.specs.Serving.{reason}
 use Rattle.admission_core.specs.Core.{Core, core_view}
 use Rattle.admission_core.specs.Kept.{ChangeState}
-use Rattle.admission_core.specs.Prepared.{Prepared, IsChangeFor}
+use Rattle.admission_core.specs.Prepared.{Prepared, IsReadyFor, IsChangeFor}
+use Rattle.admission_core.proofs.ReadyLemmas.{ready_memory}
 use Rattle.admission_core.proofs.ChangeLemmas.{refused_change, memory_change, merged_change}
 use Rattle.admission_core.proofs.site_core.SiteCore.prepare_merge.Goals as goal
 
@@ -14,6 +15,12 @@ returns-in-Some-clause-change c =
     let now : Core = c.args.self.now in
     subst (IsChangeFor now (Merge c.args.delta.now)) (sym c.refused.ensures)
     (refused_change now (Merge c.args.delta.now) c.in-Some.refusal (sym c.merge_reason.ensures ∙ c.in-Some.is))
+
+pub returns-in_default-risen_cells-clause-ready : goal.returns-in_default-risen_cells-clause-ready
+returns-in_default-risen_cells-clause-ready c =
+    let now : Core = c.args.self.now in
+    let free : reason (core_view now) (Merge c.args.delta.now) ≡ None = sym c.merge_reason.ensures ∙ c.in_default.is in
+    subst (IsReadyFor now (Merge c.args.delta.now)) (sym c.refused-in_default-risen_cells.ensures) (ready_memory now (Merge c.args.delta.now) free)
 
 pub returns-in_default-risen_cells-clause-change : goal.returns-in_default-risen_cells-clause-change
 returns-in_default-risen_cells-clause-change c =

@@ -6,9 +6,13 @@ use Rattle.admission_model.specs.Merging.{snapshot_of}
 use Rattle.admission_core.specs.Core.{Core, IsCore}
 use Rattle.admission_core.specs.Prepared.{Prepared, IsReadyFor, IsChangeFor}
 use Rattle.admission_core.proofs.CoreLemmas.{shows_account}
-use Rattle.admission_core.proofs.ReadyLemmas.{ready_answer}
+use Rattle.admission_core.proofs.ReadyLemmas.{ready_answer, ready_memory}
 use Rattle.admission_core.proofs.ChangeLemmas.{memory_change, snapshot_change}
 use Rattle.admission_core.proofs.site_core.SiteCore.prepare_snapshot.Goals as goal
+
+pub returns-in_default-clause-ready : goal.returns-in_default-clause-ready
+returns-in_default-clause-ready c =
+    subst (IsReadyFor c.args.self.now Snapshot) (sym c.refused.ensures) (ready_memory c.args.self.now Snapshot refl)
 
 pub returns-in_default-clause-change : goal.returns-in_default-clause-change
 returns-in_default-clause-change c =
