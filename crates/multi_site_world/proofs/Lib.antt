@@ -8,3 +8,5 @@ pub mod GatherSteps
 pub mod GatherLaw
 pub mod InstanceLemmas
 pub mod ReachedLemmas
+pub mod WorldCode
+pub mod WorldRun

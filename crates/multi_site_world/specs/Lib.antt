@@ -2,3 +2,4 @@ pub mod World
 pub mod Laws
 pub mod Examples
 pub mod Instances
+pub mod Worlds

@@ -1,7 +1,14 @@
-//! Several sites that tell each other what they did: the events of a world, and the laws of its definitions.
+//! Several sites that tell each other what they did: the events of a world, the world that runs them, and the
+//! laws of its definitions.
 #![tactic(auto)]
 
 pub use event::{Event, WorldReply};
+pub use growth::GrowthError;
+pub use world::{World, run_grown, run_world};
 
 mod event;
+mod growth;
 pub mod laws;
+#[cfg(test)]
+mod tests;
+mod world;

@@ -1,0 +1,64 @@
+//! What an event does at one site.
+ghost use Rattle.std.specs.Prelude.{◌≡◌, ◌≤◌};
+ghost use Rattle.admission_model.specs.declared.ask.Call.TheVariants.{Ask as AskCall};
+ghost use Rattle.admission_model.specs.Account.{Account};
+ghost use Rattle.admission_model.specs.Knowledge.{grown};
+ghost use Rattle.admission_core.specs.Core.{Stands, IsServed};
+ghost use Rattle.admission_core.specs.Restored.{IsOwn};
+ghost use Rattle.multi_site_world.specs.World.{place_of};
+ghost use Rattle.multi_site_world.specs.Worlds.{reply_of_core};
+
+use crate::{Event, WorldReply};
+use admission_core::{RestoreError, SiteCore};
+use admission_model::{Ask, Refusal, Reply};
+use merge_core::Layout;
+use std::alloc::Global;
+
+/// The site of an event.
+pub fn place_of(event: Event) -> u16
+    ensures { result ≡ place_of event }
+{
+    match event {
+        Event::Call(i, _) => i,
+        Event::Send(i) => i,
+        Event::Take(i, _) => i,
+        Event::Thin(i, _, _) => i,
+        Event::Restart(i) => i,
+        Event::Grow(i) => i,
+    }
+}
+
+/// The reply of a core as the world's.
+pub fn told(reply: Reply) -> WorldReply
+    ensures { result ≡ reply_of_core reply }
+{
+    match reply {
+        Reply::Refused(Refusal::Memory) => WorldReply::Memory,
+        reply => WorldReply::Core(reply),
+    }
+}
+
+/// The core answers what a caller asks.
+pub fn asked(core: &mut SiteCore, ask: Ask) -> Reply
+    ensures { IsServed core.old core.new (AskCall ask) result }
+{
+    match ask {
+        Ask::Read { r, h } => core.enter_read(r, h),
+        Ask::Announce { r, h } => core.announce(r, h),
+        Ask::Quill { r, h } => core.enter_write(r, h),
+        Ask::Leave { r, h } => core.leave(r, h),
+        Ask::Give { r, to, seats } => core.transfer(r, to, seats),
+        Ask::Help { r } => core.help(r),
+    }
+}
+
+/// The core that goes on under a layout with more sites, from what a stop leaves of it.
+pub fn grown_core(alloc: Global, core: &SiteCore, layout: &Layout) -> Result<SiteCore, RestoreError>
+    requires records { layout.now.records ≡ core.now.layout.records }
+    requires sites { core.now.layout.sites ≤ layout.now.sites }
+    ensures { (a : Account) → Stands a core.now → IsOwn (grown layout.now.sites a) result }
+{
+    let durable = core.durable()?;
+    let whole = layout.try_copy(alloc)?;
+    SiteCore::restore(alloc, whole, core.site(), durable)
+}
