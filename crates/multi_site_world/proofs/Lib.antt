@@ -9,4 +9,5 @@ pub mod GatherLaw
 pub mod InstanceLemmas
 pub mod ReachedLemmas
 pub mod WorldCode
+pub mod SafeLemmas
 pub mod WorldRun

@@ -14,13 +14,14 @@ use Rattle.admission_model.specs.declared.ask.Ask.{Ask}
 use Rattle.admission_model.specs.declared.ask.Call.{Call}
 use Rattle.admission_model.specs.declared.ask.Call.TheVariants.{Ask as AskCall, Merge}
 use Rattle.admission_model.specs.declared.reply.Reply.{Reply}
+use Rattle.admission_model.specs.declared.reply.Refusal.{Refusal}
 use Rattle.admission_model.specs.declared.reply.Refusal.TheVariants.{Memory as NoMemory}
 use Rattle.admission_model.specs.declared.reply.Reply.TheVariants.{Refused}
 use Rattle.admission_model.specs.Account.{Account, begin, start_origin}
 use Rattle.admission_model.specs.Knowledge.{restarted, grown}
 use Rattle.admission_model.specs.View.{view_of}
 use Rattle.admission_model.specs.Merging.{snapshot_of}
-use Rattle.admission_model.specs.Serving.{reply_of, after}
+use Rattle.admission_model.specs.Serving.{reply_of, after, reason}
 use Rattle.admission_core.specs.Core.{Core as SiteState, Stands, IsServed, is_memory}
 use Rattle.multi_site_world.specs.declared.event.Event.{Event}
 use Rattle.multi_site_world.specs.declared.event.Event.TheVariants.{Call as CallEvent, Send, Take, Thin, Restart, Grow}
@@ -28,7 +29,7 @@ use Rattle.multi_site_world.specs.declared.event.WorldReply.{WorldReply}
 use Rattle.multi_site_world.specs.declared.event.WorldReply.TheVariants.{Core, Sent, Restarted, Grown, NoSite, NoGrowth, Memory}
 use Rattle.multi_site_world.specs.World.{World, account_at, with_account, start_world, first_account, thin, thin_message, world_taken, reply_taken, world_here, reply_here, place_of, happens, run}
 use Rattle.multi_site_world.specs.Laws.{IsReachedWorld}
-use Rattle.multi_site_world.specs.Worlds.{WorldState, HasCores, StandsForWorld, IsWorldState, IsStep, IsStepHere, is_wanting, reply_of_core}
+use Rattle.multi_site_world.specs.Worlds.{WorldState, HasCores, StandsForWorld, IsWorldState, IsStep, IsStepHere, is_wanting, reply_of_core, refused_by, refusal_taken, refusal_thin, certain_here}
 use Rattle.multi_site_world.proofs.WorldLemmas.{same_account, other_account}
 use Rattle.multi_site_world.proofs.EventLemmas.{account_in, sound_start_world, sound_reached}
 
@@ -93,11 +94,18 @@ changed m w i a new below stands reached here = record {
     there : i < length m.sites
     there = omega (arith, below, stands.cores.number)
 
+none_some : (x : WorldReply) → ◌≡◌ {A = Option WorldReply} None (Some x) → ⊥
+none_some x e = cc
+
+same_some : (x y : WorldReply) → ◌≡◌ {A = Option WorldReply} (Some x) (Some y) → x ≡ y
+same_some x y e = cc
+
 -- an event that is a call of one core
 pub record IsCoreEvent (w : WorldState) (event : Event) (i : ℕ) (call : Call) : Type 0 where
   pub place : place_of event ≡ i
   pub leaves : (m : World) → StandsForWorld m w → world_here m event ≡ with_account m i (after (account_at m i) call)
   pub answer : (m : World) → StandsForWorld m w → reply_here m event ≡ Core (reply_of (view_of (account_at m i)) call)
+  pub sure : (m : World) → StandsForWorld m w → (certain_here m event ≡ refused_by (reason (view_of (account_at m i)) call)) ⊎ (certain_here m event ≡ None)
 
 -- a core's reply as the world's, by whether it is want of memory
 told_as : (reply : Reply) → reply_of_core reply ≡ cond (is_memory reply) Memory (Core reply)
@@ -109,9 +117,26 @@ pub core_step : (w : WorldState) (event : Event) (i : ℕ) (call : Call) (old ne
 core_step w event i call old new none reply is below serves it =
     subst (IsStepHere w (record w { cores = set w.cores i new }) event) (sym (told_as reply)) (at (is_memory reply) refl)
   where
+    -- a refusal of the model's is the core's
+    refuses : (sure : WorldReply) (m : World) → StandsForWorld m w → certain_here m event ≡ Some sure → reply_of_core reply ≡ sure
+    refuses sure m stands certain = from (it.sure m stands)
+      where
+        a : Account
+        a = account_at m i
+
+        is_refused : (o : Option Refusal) → reason (view_of a) call ≡ o → refused_by o ≡ Some sure → reply_of_core reply ≡ sure
+        is_refused None told is_sure = absurd (none_some sure is_sure)
+        is_refused (Some refusal) told is_sure =
+            ap reply_of_core (serves.refused refusal a (stands_at m w i old none is below stands) told) ∙ same_some _ _ is_sure
+
+        from : (certain_here m event ≡ refused_by (reason (view_of a) call)) ⊎ (certain_here m event ≡ None) → reply_of_core reply ≡ sure
+        from (inl known) = is_refused (reason (view_of a) call) refl (sym known ∙ certain)
+        from (inr unknown) = absurd (none_some sure (sym unknown ∙ certain))
+
     at : (b : Bool) → is_memory reply ≡ b → IsStepHere w (record w { cores = set w.cores i new }) event (cond b Memory (Core reply))
     at true e = record {
       answered = λ wanting m stands. cc;
+      certain = λ sure m stands certain. sym (told_as reply ∙ cond-true (is_memory reply) Memory (Core reply) e) ∙ refuses sure m stands certain;
       world = λ m stands.
           kept m w i new below stands
           (subst (λ (a : Account). Stands a new) (cond-true (is_memory reply) (account_at m i) (after (account_at m i) call) e)
@@ -120,6 +145,7 @@ core_step w event i call old new none reply is below serves it =
     at false e = record {
       answered = λ wanting m stands.
           ap Core (serves.answered e (account_at m i) (stands_at m w i old none is below stands)) ∙ sym (it.answer m stands);
+      certain = λ sure m stands certain. sym (told_as reply ∙ cond-false (is_memory reply) Memory (Core reply) e) ∙ refuses sure m stands certain;
       world = λ m stands.
           subst (λ (n : World). StandsForWorld n (record w { cores = set w.cores i new })) (sym (it.leaves m stands))
           (changed m w i (after (account_at m i) call) new below stands
@@ -130,13 +156,14 @@ core_step w event i call old new none reply is below serves it =
 
 -- a call, and a message that is there, whole or thin
 pub is_asked : (w : WorldState) (i : ℕ) (ask : Ask) → IsCoreEvent w (CallEvent i ask) i (AskCall ask)
-is_asked w i ask = record { place = refl; leaves = λ m stands. refl; answer = λ m stands. refl }
+is_asked w i ask = record { place = refl; leaves = λ m stands. refl; answer = λ m stands. refl; sure = λ m stands. inl refl }
 
 pub is_taken : (w : WorldState) (i k : ℕ) (message : DeltaState) → slice_get w.sent k ≡ Some message → IsCoreEvent w (Take i k) i (Merge message)
 is_taken w i k message there = record {
   place = refl;
   leaves = λ m stands. ap (world_taken m i) (found m stands);
   answer = λ m stands. ap (reply_taken m i) (found m stands);
+  sure = λ m stands. inl (ap (refusal_taken m i) (found m stands));
 }
   where
     found : (m : World) → StandsForWorld m w → slice_get m.sent k ≡ Some message
@@ -147,6 +174,7 @@ is_thin w i k l message earlier rest there before is = record {
   place = refl;
   leaves = λ m stands. ap (world_taken m i) (found m stands);
   answer = λ m stands. ap (reply_taken m i) (found m stands);
+  sure = λ m stands. inr (ap refusal_thin (found m stands));
 }
   where
     found : (m : World) → StandsForWorld m w → thin_message (slice_get m.sent k) (slice_get m.sent l) ≡ Some rest
@@ -163,6 +191,7 @@ found_at xs ys k d same below is =
 pub restart_step : (w : WorldState) (i : ℕ) (old new none : SiteState) → old ≡ get_or w.cores i none → i < length w.cores → ((a : Account) → Stands a old → Stands (restarted a) new) → IsStepHere w (record w { cores = set w.cores i new }) (Restart i) Restarted
 restart_step w i old new none is below again = record {
   answered = λ wanting m stands. refl;
+  certain = λ sure m stands certain. same_some Restarted sure certain;
   world = λ m stands.
       changed m w i (restarted (account_at m i)) new below stands
       (happened_here m (Restart i) (omega (arith, below, stands.cores.number)) stands.reached)
@@ -173,6 +202,7 @@ restart_step w i old new none is below again = record {
 pub send_step : (w : WorldState) (i : ℕ) (old none : SiteState) (message : DeltaState) → old ≡ get_or w.cores i none → i < length w.cores → ((a : Account) → Stands a old → message ≡ snapshot_of (view_of a)) → IsStepHere w (record w { sent = w.sent ++ message ∷ [] }) (Send i) (Sent (length w.sent))
 send_step w i old none message is below tells = record {
   answered = λ wanting m stands. ap (λ (sent : List DeltaState). Sent (length sent)) stands.sent;
+  certain = λ sure m stands certain. absurd (none_some sure certain);
   world = λ m stands. record {
     reached = happened_here m (Send i) (omega (arith, below, stands.cores.number)) stands.reached;
     layout = stands.layout;
@@ -199,6 +229,7 @@ knows_sites m w i old none is below stands = ap (λ (l : LayoutState). l.sites) 
 pub grow_step : (w : WorldState) (i : ℕ) (old new none : SiteState) → old ≡ get_or w.cores i none → i < length w.cores → old.layout.sites < w.layout.sites → ((a : Account) → Stands a old → Stands (grown w.layout.sites a) new) → IsStepHere w (record w { cores = set w.cores i new }) (Grow i) Grown
 grow_step w i old new none is below few grows = record {
   answered = λ wanting m stands. sym (cond-true (ltb (account_at m i).sites m.layout.sites) Grown NoGrowth (fewer m stands));
+  certain = λ sure m stands certain. absurd (none_some sure (sym (cond-true (ltb (account_at m i).sites m.layout.sites) None (Some NoGrowth) (fewer m stands)) ∙ certain));
   world = λ m stands.
       let more : world_here m (Grow i) ≡ with_account m i (grown m.layout.sites (account_at m i)) = cond-true (ltb (account_at m i).sites m.layout.sites) (with_account m i (grown m.layout.sites (account_at m i))) m (fewer m stands) in
       subst (λ (n : World). StandsForWorld n (record w { cores = set w.cores i new })) (sym more)
@@ -216,6 +247,7 @@ grow_step w i old new none is below few grows = record {
 pub no_growth : (w : WorldState) (i : ℕ) (old none : SiteState) → old ≡ get_or w.cores i none → i < length w.cores → w.layout.sites ≤ old.layout.sites → IsStepHere w w (Grow i) NoGrowth
 no_growth w i old none is below all = record {
   answered = λ wanting m stands. sym (cond-false (ltb (account_at m i).sites m.layout.sites) Grown NoGrowth (enough m stands));
+  certain = λ sure m stands certain. same_some NoGrowth sure (sym (cond-false (ltb (account_at m i).sites m.layout.sites) None (Some NoGrowth) (enough m stands)) ∙ certain);
   world = λ m stands.
       subst (λ (n : World). StandsForWorld n w)
       (sym (cond-false (ltb (account_at m i).sites m.layout.sites) (with_account m i (grown m.layout.sites (account_at m i))) m (enough m stands)))
@@ -240,6 +272,7 @@ is_world w new event reply is step layout number = record {
 pub step_here : (old new : WorldState) (event : Event) (reply : WorldReply) → place_of event < length old.cores → IsStepHere old new event reply → IsStep old new event reply
 step_here old new event reply below step = record {
   answered = λ wanting m stands. step.answered wanting m stands ∙ sym (cond-true (ltb (place_of event) (length m.sites)) (reply_here m event) NoSite (there m stands));
+  certain = λ sure m stands certain. step.certain sure m stands (sym (cond-true (ltb (place_of event) (length m.sites)) (certain_here m event) (Some NoSite) (there m stands)) ∙ certain);
   world = λ m stands.
       subst (λ (n : World). StandsForWorld (cond (is_wanting reply) m n) new)
       (sym (cond-true (ltb (place_of event) (length m.sites)) (world_here m event) m (there m stands))) (step.world m stands);
@@ -252,6 +285,7 @@ step_here old new event reply below step = record {
 pub step_nowhere : (w : WorldState) (event : Event) → length w.cores ≤ place_of event → IsStep w w event NoSite
 step_nowhere w event past = record {
   answered = λ wanting m stands. sym (cond-false (ltb (place_of event) (length m.sites)) (reply_here m event) NoSite (gone m stands));
+  certain = λ sure m stands certain. same_some NoSite sure (sym (cond-false (ltb (place_of event) (length m.sites)) (certain_here m event) (Some NoSite) (gone m stands)) ∙ certain);
   world = λ m stands.
       subst (λ (n : World). StandsForWorld n w)
       (sym (cond-false (ltb (place_of event) (length m.sites)) (world_here m event) m (gone m stands))) stands;

@@ -3,3 +3,4 @@ pub mod Laws
 pub mod Examples
 pub mod Instances
 pub mod Worlds
+pub mod Safe

@@ -1,17 +1,22 @@
 -- The world of running sites as contracts see it, and for which worlds of the model it stands.
-use Rattle.std.specs.Prelude.{◌≡◌, ℕ, ◌<◌, ◌⊎◌, Bool, true, false, List, [], ◌∷◌, length, slice_index_or, if◌then◌else◌, None, Result, Ok, Err}
+use Rattle.std.specs.Prelude.{◌≡◌, ℕ, ◌<◌, ◌⊎◌, Bool, true, false, List, [], ◌∷◌, length, nat_lt, slice_get, slice_index_or, if◌then◌else◌, Option, Some, None, Result, Ok, Err}
 use Rattle.merge_core.specs.Delta.{DeltaState}
 use Rattle.merge_core.specs.Layout.{LayoutState, IsLayout, layout_fault, at_sites}
+use Rattle.admission_model.specs.declared.ask.Call.TheVariants.{Ask as AskCall, Merge}
+use Rattle.admission_model.specs.declared.reply.Refusal.{Refusal}
 use Rattle.admission_model.specs.declared.reply.Refusal.TheVariants.{Memory as NoMemory}
 use Rattle.admission_model.specs.declared.reply.Reply.{Reply}
 use Rattle.admission_model.specs.declared.reply.Reply.TheVariants.{Refused}
+use Rattle.admission_model.specs.View.{view_of}
+use Rattle.admission_model.specs.Serving.{reason}
 use Rattle.admission_core.specs.Core.{Core as SiteState, Stands}
 use Rattle.multi_site_world.specs.declared.event.Event.{Event}
+use Rattle.multi_site_world.specs.declared.event.Event.TheVariants.{Call, Send, Take, Thin, Restart, Grow}
 use Rattle.multi_site_world.specs.declared.event.WorldReply.{WorldReply}
-use Rattle.multi_site_world.specs.declared.event.WorldReply.TheVariants.{Core, Memory}
+use Rattle.multi_site_world.specs.declared.event.WorldReply.TheVariants.{Core, Restarted, NoSite, NoMessage, NoGrowth, Memory}
 use Rattle.multi_site_world.specs.declared.growth.GrowthError.{GrowthError}
 use Rattle.multi_site_world.specs.declared.growth.GrowthError.TheVariants.{BadGrowth, Memory as NoRoom}
-use Rattle.multi_site_world.specs.World.{World, account_at, start_world, happens, world_here, run, reply_here, world_reply, replies}
+use Rattle.multi_site_world.specs.World.{World, account_at, start_world, thin_message, place_of, happens, world_here, run, reply_here, world_reply, replies}
 use Rattle.multi_site_world.specs.Laws.{IsReachedWorld}
 
 -- a world's whole layout, the cores of its sites, and its messages
@@ -54,15 +59,45 @@ reply_of_core reply = Core reply
 abbrev pub stepped : World → Event → WorldReply → World
 stepped m event reply = if is_wanting reply then m else happens m event
 
--- The event is answered as the model answers it, want of memory aside, and leaves a world that stands for the
--- one that the model leaves.
+-- a refusal that a site gives, as the world's reply
+abbrev pub refused_by : Option Refusal → Option WorldReply
+refused_by (Some refusal) = Some (reply_of_core (Refused refusal))
+refused_by None = None
+
+-- the refusal of a message that a site takes, if it is refused
+abbrev pub refusal_taken : World → ℕ → Option DeltaState → Option WorldReply
+refusal_taken m i None = Some NoMessage
+refusal_taken m i (Some delta) = refused_by (reason (view_of (account_at m i)) (Merge delta))
+
+-- the refusal of a thin message, which is judged only once it is made: that one of the two is missing
+abbrev pub refusal_thin : Option DeltaState → Option WorldReply
+refusal_thin None = Some NoMessage
+refusal_thin (Some delta) = None
+
+-- What an event is answered whatever memory there is, if that is known: its refusal; and a restart, which takes
+-- no memory.
+abbrev pub certain_here : World → Event → Option WorldReply
+certain_here m (Call i ask) = refused_by (reason (view_of (account_at m i)) (AskCall ask))
+certain_here m (Send i) = None
+certain_here m (Take i k) = refusal_taken m i (slice_get m.sent k)
+certain_here m (Thin i k l) = refusal_thin (thin_message (slice_get m.sent k) (slice_get m.sent l))
+certain_here m (Restart i) = Some Restarted
+certain_here m (Grow i) = if nat_lt (account_at m i).sites m.layout.sites then None else Some NoGrowth
+
+abbrev pub certain_reply : World → Event → Option WorldReply
+certain_reply m event = if nat_lt (place_of event) (length m.sites) then certain_here m event else Some NoSite
+
+-- The event is answered as the model answers it, want of memory aside, which never stands in place of a refusal;
+-- and it leaves a world that stands for the one that the model leaves.
 pub record IsStep (old new : WorldState) (event : Event) (reply : WorldReply) : Type 0 where
   pub answered : is_wanting reply ≡ false → (m : World) → StandsForWorld m old → reply ≡ world_reply m event
+  pub certain : (sure : WorldReply) (m : World) → StandsForWorld m old → certain_reply m event ≡ Some sure → reply ≡ sure
   pub world : (m : World) → StandsForWorld m old → StandsForWorld (stepped m event reply) new
 
 -- the same of an event at a site that there is
 pub record IsStepHere (old new : WorldState) (event : Event) (reply : WorldReply) : Type 0 where
   pub answered : is_wanting reply ≡ false → (m : World) → StandsForWorld m old → reply ≡ reply_here m event
+  pub certain : (sure : WorldReply) (m : World) → StandsForWorld m old → certain_here m event ≡ Some sure → reply ≡ sure
   pub world : (m : World) → StandsForWorld m old → StandsForWorld (if is_wanting reply then m else world_here m event) new
 
 -- the first sites are all of the layout's, or fewer under which the same records are a layout

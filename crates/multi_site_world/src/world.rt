@@ -39,10 +39,12 @@ impl World {
     ghost use Rattle.multi_site_world.specs.declared.event.Event.TheVariants.{Call, Send, Take, Thin, Restart, Grow};
     ghost use Rattle.multi_site_world.specs.World.{place_of, start_world};
     ghost use Rattle.multi_site_world.specs.Worlds.{StandsForWorld, IsWorldState, IsBegun, IsStep, IsStepHere};
+    ghost use Rattle.multi_site_world.specs.Safe.{IsSafeWorld, IsLawfulStep};
 
     /// The world before any event; all sites know one another.
     pub fn new(alloc: Global, layout: Layout) -> Result<World, AllocError>
-        ensures { IfOk result (λ w. StandsForWorld (start_world layout.sites layout) w) }
+        ensures begun { IfOk result (λ w. StandsForWorld (start_world layout.sites layout) w) }
+        ensures safe { IfOk result (λ w. IsSafeWorld w) }
     {
         let whole = layout.try_copy(alloc)?;
         World::begun(alloc, &whole, layout)
@@ -52,7 +54,8 @@ impl World {
     /// know no other site until they grow. Refused with `BadGrowth` unless `first` is the layout's number of
     /// sites, or fewer under which the same records are a layout.
     pub fn grown(alloc: Global, layout: Layout, first: u16) -> Result<World, GrowthError>
-        ensures { IsBegun first layout result }
+        ensures begun { IsBegun first layout result }
+        ensures safe { IfOk result (λ w. IsSafeWorld w) }
     {
         let earlier = first_layout(alloc, &layout, first)?;
         let world = World::begun(alloc, &earlier, layout)?;
@@ -63,7 +66,8 @@ impl World {
     fn begun(alloc: Global, earlier: &Layout, layout: Layout) -> Result<World, AllocError>
         requires earlier { earlier.now ≡ at_sites earlier.now.sites layout }
         requires few { earlier.now.sites ≤ layout.sites }
-        ensures { IfOk result (λ w. StandsForWorld (start_world earlier.now.sites layout) w) }
+        ensures begun { IfOk result (λ w. StandsForWorld (start_world earlier.now.sites layout) w) }
+        ensures safe { IfOk result (λ w. IsSafeWorld w) }
     {
         let sites = first_cores(alloc, earlier, &layout)?;
         Ok(World {
@@ -90,10 +94,10 @@ impl World {
     }
 
     /// How many messages there are, which are numbered from 0.
-    pub fn messages(&self) -> usize
+    pub fn messages(&self) -> u64
         ensures { result ≡ length self.now.sent }
     {
-        self.sent.len()
+        self.sent.len() as u64
     }
 
     /// The core of a site.
@@ -105,16 +109,26 @@ impl World {
     }
 
     /// A message.
-    pub fn message(&self, k: usize) -> &Delta
+    pub fn message(&self, k: u64) -> &Delta
         requires { k < length self.now.sent }
         ensures { result.now ≡ slice_index_or self.now.sent k result.now }
     {
-        &self.sent[k]
+        &self.sent[k as usize]
     }
 
-    /// One event happens. `NoSite` comes before `NoMessage`; a reply of `Memory` changed nothing.
+    /// One event happens, and is answered as the model of several sites answers it. Refused with `NoSite`; then
+    /// with `NoMessage`, where a message is missing, or with `NoGrowth`, where the site knows all sites; and with
+    /// the refusals of `SiteCore`, of which `OwnRowAhead` and `BadRow` never come. A reply of `Memory` changed
+    /// nothing, and never stands in place of a refusal, but where a thin message could not be made.
+    ///
+    /// A call costs what it costs at the site (`SiteCore`); a message that is sent is linear in the site's book,
+    /// one that is taken in its rows, a thin one in the rows of both messages. A growth is linear in the book and
+    /// `n log n` in the sessions.
     pub fn step(&mut self, event: &Event) -> WorldReply
-        ensures { IsStep self.old self.new event.now result }
+        ensures step { IsStep self.old self.new event.now result }
+        ensures layout { self.new.layout ≡ self.old.layout }
+        ensures safe { IsSafeWorld self.new }
+        ensures lawful { IsLawfulStep self.old self.new event.now result }
     {
         if usize::from(place_of(*event)) >= self.sites.len() {
             return WorldReply::NoSite;
@@ -179,13 +193,13 @@ impl World {
         requires { i < length self.old.cores }
         ensures { IsStepHere self.old self.new (Thin i k l) result }
     {
-        let Some(message) = self.sent.get(k as usize) else {
+        let Some(whole) = self.sent.get(k as usize) else {
             return WorldReply::NoMessage;
         };
         let Some(earlier) = self.sent.get(l as usize) else {
             return WorldReply::NoMessage;
         };
-        let Ok(thin) = message.thin(self.alloc, earlier) else {
+        let Ok(thin) = whole.thin(self.alloc, earlier) else {
             return WorldReply::Memory;
         };
         let core = &mut self.sites[usize::from(i)];
@@ -219,21 +233,24 @@ impl World {
     }
 }
 
-ghost use Rattle.std.specs.Prelude.{◌≡◌, ◌≢◌, MatchResult};
+ghost use Rattle.std.specs.Prelude.{◌≡◌, IfOk, MatchResult};
 ghost use Rattle.multi_site_world.specs.declared.growth.GrowthError.TheVariants.{BadGrowth};
-ghost use Rattle.multi_site_world.specs.World.{start_world};
-ghost use Rattle.multi_site_world.specs.Worlds.{MayBeFirst, IsRun};
+ghost use Rattle.multi_site_world.specs.World.{World as ModelWorld, start_world};
+ghost use Rattle.multi_site_world.specs.Worlds.{MayBeFirst, StandsForWorld, IsRun};
+ghost use Rattle.multi_site_world.specs.Safe.{IsSafeWorld};
 
 /// What all events lead to, from sites that all know one another: the world, and a reply for each event.
 pub fn run_world(
     alloc: Global,
     layout: Layout,
     events: &[Event],
-) -> Result<(World, Vec<WorldReply>), GrowthError>
-    ensures { MatchResult result (λ p. IsRun (start_world layout.sites layout) events.now p.0 p.1.items) (λ e. e ≢ BadGrowth) }
+) -> Result<(World, Vec<WorldReply>), AllocError>
+    ensures run { IfOk result (λ p. IsRun (start_world layout.sites layout) events.now p.0 p.1.items) }
+    ensures safe { IfOk result (λ p. IsSafeWorld p.0) }
 {
-    let first = layout.sites();
-    run_grown(alloc, layout, first, events)
+    let mut world = World::new(alloc, layout)?;
+    let replies = run(alloc, &mut world, events)?;
+    Ok((world, replies))
 }
 
 /// The same, where the first sites begin under an earlier layout with as many sites.
@@ -243,15 +260,26 @@ pub fn run_grown(
     first: u16,
     events: &[Event],
 ) -> Result<(World, Vec<WorldReply>), GrowthError>
-    ensures { MatchResult result
+    ensures run { MatchResult result
         (λ p. MayBeFirst first layout × IsRun (start_world first layout) events.now p.0 p.1.items)
         (λ e. e ≡ BadGrowth → ¬ MayBeFirst first layout) }
+    ensures safe { IfOk result (λ p. IsSafeWorld p.0) }
 {
     let mut world = World::grown(alloc, layout, first)?;
+    let replies = run(alloc, &mut world, events)?;
+    Ok((world, replies))
+}
+
+// The events happen one after the other, each with its reply.
+fn run(alloc: Global, world: &mut World, events: &[Event]) -> Result<Vec<WorldReply>, AllocError>
+    requires { IsSafeWorld world.old }
+    ensures run { IfOk result (λ replies. (m : ModelWorld) → StandsForWorld m world.old → IsRun m events.now world.new replies.items) }
+    ensures safe { IsSafeWorld world.new }
+{
     let mut replies = Vec::new(alloc);
     for event in events {
         let reply = world.step(event);
         replies.push(reply)?;
     }
-    Ok((world, replies))
+    Ok(replies)
 }

@@ -15,8 +15,8 @@ step c =
     subst (λ (n : ℕ). IsStepHere w new (Thin n c.args.k c.args.l) c.told.result) c.from.ensures
     (subst (IsStepHere w new (Thin c.from.result c.args.k c.args.l)) (sym c.told.ensures)
     (core_step w (Thin c.from.result c.args.k c.args.l) c.from.result (Merge c.in-Ok.thin) _ c.merge.new.self _ c.merge.result c.index_mut-core.ensures.value below c.merge.ensures
-    (is_thin w c.from.result c.args.k c.args.l c.in-Some.message.now c.in-Some-get.earlier.now c.in-Ok.thin
-    (found_at k.sent.items c.deref.result.now c.args.k c.in-Some.message.now c.deref.ensures.value c.in-Some.ensures.lookup.0 c.in-Some.ensures.lookup.1)
+    (is_thin w c.from.result c.args.k c.args.l c.in-Some.whole.now c.in-Some-get.earlier.now c.in-Ok.thin
+    (found_at k.sent.items c.deref.result.now c.args.k c.in-Some.whole.now c.deref.ensures.value c.in-Some.ensures.lookup.0 c.in-Some.ensures.lookup.1)
     (found_at k.sent.items c.deref-2.result.now c.args.l c.in-Some-get.earlier.now c.deref-2.ensures.value c.in-Some-get.ensures.lookup.0 c.in-Some-get.ensures.lookup.1)
     c.in-Ok.ensures)))
 
