@@ -38,11 +38,17 @@ joins() { # whether these lines, under the example's layout, join to what the ex
     ./seat_cli join --layout examples/three_sites.toml 2>"$work/errors" | cmp -s - examples/joined.txt
 }
 
+plays() { # whether the script of the examples is answered as they say
+    ./seat_cli play --tables --layout examples/three_sites.toml <examples/maintenance.script 2>"$work/errors" | cmp -s - examples/maintenance.txt
+}
+
 echo "building the program in $work/clone"
-cat examples/site_1.deltas examples/site_0.deltas | joins
-tell $? "the README's first command builds the program and prints examples/joined.txt"
-[ "$(builds)" = 1 ] && [ "$(wc -l <"$work/errors")" = 1 ] && grep -q "2.2 GB" "$work/errors"
+plays
+tell $? "the README's first command builds the program and prints examples/maintenance.txt"
+[ "$(builds)" = 1 ] && [ "$(wc -l <"$work/errors")" = 1 ] && grep -q "2.5 GB" "$work/errors"
 tell $? "the build is told in one line"
+cat examples/site_1.deltas examples/site_0.deltas | joins && [ ! -s "$work/errors" ] && [ "$(builds)" = 0 ]
+tell $? "the deltas of the examples join to examples/joined.txt, without a build"
 cat examples/site_0.deltas examples/site_1.deltas examples/site_0.deltas | joins && [ ! -s "$work/errors" ] && [ "$(builds)" = 0 ]
 tell $? "another order with repeats prints the same, without a build"
 
@@ -62,7 +68,7 @@ tell $? "it runs where nothing can be written"
 chmod -R u+w "$work/clone"
 
 sleep 1
-touch README.md crates/seat_cli/must-fail/*.edit crates/multi_site_world/src/*.rt crates/multi_site_world/specs/*.antt
+touch README.md docs/*.md crates/*/must-fail/*.edit
 ./seat_cli --version >/dev/null 2>&1 && [ "$(builds)" = 0 ]
 tell $? "a change of what the program does not stand on builds nothing"
 for source in crates/grow_counters/specs/Counts.antt crates/seat_cli/src/main.rt crates.txt; do
@@ -90,7 +96,7 @@ ends 0 "seat_cli 0.1.0" "" --version </dev/null
 tell $? "0 and the version on standard output"
 ends 0 '{"from":0,"rows":[],"v":1}' "" </dev/null
 tell $? "0 and the book of no input"
-ends 2 "" "error: unrecognized subcommand 'play'" play </dev/null
+ends 2 "" "error: unrecognized subcommand 'judge'" judge </dev/null
 tell $? "2 and clap's words on standard error"
 ends 2 "" "error: an argument is not UTF-8" "$(printf '\377')" </dev/null
 tell $? "2 for an argument that is not UTF-8"
@@ -98,6 +104,10 @@ ends 3 "" "layout refused NotRead" join --layout examples </dev/null
 tell $? "3 for a folder in place of a layout file"
 ends 3 "" "layout refused TooLong" join --layout /dev/zero </dev/null
 tell $? "3 for a device that never ends, in place of a layout file"
+ends 3 "" "layout refused BadGrowth" play --from 3 </dev/null
+tell $? "3 for first sites that have no layout"
+echo "0 reed a 7" | ends 4 "line 1 refused BadWord" "" play
+tell $? "4 and the line that says no event"
 echo | ends 4 "line 1 refused NotJson" ""
 tell $? "4 and the refusal on standard output"
 ends 7 "" "io" <examples

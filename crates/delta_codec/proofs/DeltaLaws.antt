@@ -6,16 +6,16 @@ use Rattle.std.proofs.lemmas.List.{nil_from_length}
 use Rattle.std.proofs.lemmas.Option.{none-some, cond_some, some_pair_parts, same_Some}
 use Rattle.merge_core.specs.Delta.{DeltaState, IsDelta, IsRow, IsRising}
 use Rattle.merge_core.specs.declared.delta.Row.{Row}
-use Rattle.delta_codec.specs.Lists.{joined}
-use Rattle.delta_codec.specs.Readers.{◌>>=◌, Fails, after, number_at, short_at, joined_at}
+use Rattle.text_parts.specs.Lists.{joined}
+use Rattle.text_parts.specs.Readers.{◌>>=◌, Fails, NoDigit, after, number_at, short_at, joined_at}
 use Rattle.delta_codec.specs.Decodes.{HasNoDelta}
 use Rattle.delta_codec.specs.DeltaText.{row_text, delta_text}
 use Rattle.delta_codec.specs.DeltaReaders.{number_behind, short_behind, numbers_behind, row_at, rows_at, delta_at}
-use Rattle.delta_codec.specs.declared.unread.Unread.{Unread}
-use Rattle.delta_codec.specs.declared.unread.Unread.TheVariants.{Refused, Memory}
-use Rattle.delta_codec.proofs.LiteralLaws.{bind_some, after_takes, after_again}
-use Rattle.delta_codec.proofs.NumberLaws.{NoDigit, number_takes, number_again, short_takes, short_again}
-use Rattle.delta_codec.proofs.ElementLaws.{TakesTexts, TakesAgain, joined_takes, joined_again}
+use Rattle.text_parts.specs.declared.unread.Unread.{Unread}
+use Rattle.text_parts.specs.declared.unread.Unread.TheVariants.{Refused, Memory}
+use Rattle.text_parts.proofs.LiteralLaws.{bind_some, after_takes, after_again}
+use Rattle.text_parts.proofs.NumberLaws.{number_takes, number_again, short_takes, short_again}
+use Rattle.text_parts.proofs.ElementLaws.{TakesTexts, TakesAgain, joined_takes, joined_again}
 
 -- ---- what is taken is its text
 

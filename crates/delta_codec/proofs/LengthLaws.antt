@@ -6,7 +6,7 @@ use Rattle.std.proofs.Math.Nat.{suc-mul}
 use Rattle.std.proofs.lemmas.Fmt.{length-decimal-le}
 use Rattle.merge_core.specs.Delta.{DeltaState, IsDelta, IsRow, IsRising}
 use Rattle.merge_core.specs.declared.delta.Row.{Row}
-use Rattle.delta_codec.specs.Lists.{later, joined}
+use Rattle.text_parts.specs.Lists.{later, joined}
 use Rattle.delta_codec.specs.Decodes.{HasNoDelta, text_limit}
 use Rattle.delta_codec.specs.DeltaText.{row_text, delta_text}
 use Rattle.delta_codec.proofs.DeltaLaws.{few_rows}

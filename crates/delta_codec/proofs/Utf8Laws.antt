@@ -8,7 +8,7 @@ use Rattle.std.proofs.lemmas.Str.Ascii.{IsAscii-nil, IsAscii-cons}
 use Rattle.std.proofs.lemmas.Fmt.{IsAscii-decimal}
 use Rattle.merge_core.specs.Delta.{DeltaState, IsDelta, IsRow}
 use Rattle.merge_core.specs.declared.delta.Row.{Row}
-use Rattle.delta_codec.specs.Lists.{later, joined}
+use Rattle.text_parts.specs.Lists.{later, joined}
 use Rattle.delta_codec.specs.Decodes.{HasNoDelta}
 use Rattle.delta_codec.specs.DeltaText.{row_text, delta_text}
 

@@ -3,7 +3,7 @@
 use Rattle.std.specs.Prelude.{ℕ, List, [], ◌∷◌, length, codes, ◌==◌, if◌then◌else◌, Option, Some, None}
 use Rattle.merge_core.specs.Delta.{DeltaState}
 use Rattle.merge_core.specs.declared.delta.Row.{Row}
-use Rattle.delta_codec.specs.Readers.{◌>>=◌, after, number_at, short_at, joined_at}
+use Rattle.text_parts.specs.Readers.{◌>>=◌, after, number_at, short_at, joined_at}
 
 -- a number behind a literal
 unfoldable pub number_behind : List ℕ → List ℕ → Option (ℕ × List ℕ)

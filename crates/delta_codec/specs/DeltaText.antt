@@ -3,7 +3,7 @@
 use Rattle.std.specs.Prelude.{ℕ, List, ◌++◌, codes, decimal}
 use Rattle.merge_core.specs.Delta.{DeltaState}
 use Rattle.merge_core.specs.declared.delta.Row.{Row}
-use Rattle.delta_codec.specs.Lists.{joined}
+use Rattle.text_parts.specs.Lists.{joined}
 
 -- one row: an object of its counters and of the record and site that they belong to
 unfoldable pub row_text : Row → List ℕ

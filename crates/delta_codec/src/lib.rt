@@ -4,21 +4,15 @@
 
 pub use fault::DecodeError;
 pub use reading::decode;
-pub use unread::Unread;
-pub use writing::encode;
+pub use writing::{encode, push_delta};
 
 /// The most bytes of a text that is read. Every delta's text has fewer.
 pub const TEXT_LIMIT: usize = 2_097_152;
 
 mod fault;
 pub mod laws;
-mod lists;
-mod literals;
-mod numbers;
 mod reading;
 mod rows;
 #[cfg(test)]
 mod tests;
-mod unread;
 mod writing;
-mod written;

@@ -3,16 +3,15 @@ ghost use Rattle.merge_core.specs.Delta.{DeltaState, IsDelta};
 ghost use Rattle.delta_codec.specs.Decodes.{Decodes, HasNoDelta, text_limit};
 ghost use Rattle.delta_codec.specs.DeltaReaders.{delta_at};
 ghost use Rattle.delta_codec.specs.DeltaText.{delta_text};
-ghost use Rattle.delta_codec.specs.Readers.{Gives};
+ghost use Rattle.text_parts.specs.Readers.{Gives};
 
 use crate::TEXT_LIMIT;
 use crate::fault::DecodeError;
-use crate::literals::after;
 use crate::rows::{rows_at, short_behind};
-use crate::unread::Unread;
 use merge_core::{Delta, Row};
 use serde_json::Value;
 use std::alloc::Global;
+use text_parts::{Unread, after};
 
 // The parts of a delta, all of the bytes. Whether the rows rise is not judged here.
 #[tactic(auto, unfolding(crate::specs::DeltaReaders::delta_at))]

@@ -1,15 +1,12 @@
 // Rows of a delta's text.
 ghost use Rattle.std.specs.Prelude.{◌≡◌};
-ghost use Rattle.delta_codec.specs.Readers.{Gives, joined_at};
+ghost use Rattle.text_parts.specs.Readers.{Gives, joined_at};
 ghost use Rattle.delta_codec.specs.DeltaReaders.{number_behind, short_behind, numbers_behind, row_at, rows_at};
 
-use crate::lists::{Element, joined_at};
-use crate::literals::after;
-use crate::numbers::{number_at, short_at};
-use crate::unread::Unread;
 use grow_counters::Counts;
 use merge_core::{MOST_RECORDS, MOST_SITES, Row};
 use std::alloc::Global;
+use text_parts::{Element, Number, Unread, after, joined_at, number_at, short_at};
 
 // Behind the first counter of a row there are at most so many, and behind the first row of a delta.
 const MORE_COUNTERS: u16 = MOST_SITES - 1;
@@ -38,7 +35,7 @@ fn numbers_behind<'a>(
 ) -> Result<(Vec<u64>, &'a [u8]), Unread>
     ensures { Gives (λ x. (x.0.items, x.1.now)) result (numbers_behind literal.now bytes.now) }
 {
-    joined_at(alloc, MORE_COUNTERS, after(literal, bytes)?)
+    joined_at::<Number, u64>(alloc, MORE_COUNTERS, after(literal, bytes)?)
 }
 
 #[tactic(auto, unfolding(crate::specs::DeltaReaders::row_at))]
@@ -64,7 +61,10 @@ fn row_at(alloc: Global, bytes: &[u8]) -> Result<(Row, &[u8]), Unread>
     Ok((row, rest))
 }
 
-impl Element for Row {
+/// The text of a row, as a way to read and write one.
+pub enum RowText {}
+
+impl Element<Row> for RowText {
     ghost use Rattle.delta_codec.specs.DeltaReaders.{row_at};
 
     ghost at = { row_at };
@@ -82,6 +82,6 @@ pub fn rows_at(alloc: Global, bytes: &[u8]) -> Result<(Vec<Row>, &[u8]), Unread>
     match bytes {
         [] => Err(Unread::Refused),
         [b']', ..] => Ok((Vec::new(alloc), bytes)),
-        [_, ..] => joined_at(alloc, MORE_ROWS, bytes),
+        [_, ..] => joined_at::<RowText, Row>(alloc, MORE_ROWS, bytes),
     }
 }

@@ -24,7 +24,7 @@ told_more : (answers : List WorldReply) (reply : WorldReply) → served_replies 
 told_more [] reply = refl
 told_more (r ∷ rs) reply = more_after (is_wanting r) r _ (served_replies rs) _ (told_more rs reply)
 
-replies_more : (events : List Event) (event : Event) (w : World) → replies (events ++ event ∷ []) w ≡ replies events w ++ world_reply (run events w) event ∷ []
+pub replies_more : (events : List Event) (event : Event) (w : World) → replies (events ++ event ∷ []) w ≡ replies events w ++ world_reply (run events w) event ∷ []
 replies_more [] event w = refl
 replies_more (e ∷ events) event w = ap (λ (l : List WorldReply). world_reply w e ∷ l) (replies_more events event (happens w e))
 

@@ -46,7 +46,7 @@ pub record SharesSeats (layout : LayoutState) (at : ℕ → SiteState) (r : ℕ)
   pub seats : seats_in layout r ≡ rights_together at layout.sites r + (seats_together at layout.sites r + seats_between at layout.sites r)
   pub never_below : (i : ℕ) → i < layout.sites → spent (core_view (at i)) r ≤ gained (core_view (at i)) r
 
--- Seats are conserved; a writer inside a record at any site is the only session inside it at all sites; and
+-- Seats are conserved; while some site has a writer inside a record, no other session is inside it anywhere; and
 -- sites that know the same units show the same counters.
 pub record IsSafe (w : WorldState) (at : ℕ → SiteState) : Type 0 where
   pub conserved : (r : ℕ) → SharesSeats w.layout at r

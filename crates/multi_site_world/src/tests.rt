@@ -1,8 +1,8 @@
 //! Small worlds, run.
 use crate::*;
-use admission_core::{Ask, Reply};
+use admission_model::{Ask, Refusal, Reply};
 use merge_core::{Layout, RecordName, RecordSpec};
-use std::alloc::Global;
+use std::alloc::{AllocError, Global};
 
 // The layout of one record with two seats, which start at site 0.
 fn small_layout(alloc: Global, sites: u16) -> Option<Layout> {
@@ -141,4 +141,88 @@ fn first_sites_are_all_or_an_earlier_layout(rt: HostRuntime) {
     assert_eq!(&rt; refused_growth(alloc, 1), None);
     assert_eq!(&rt; refused_growth(alloc, 2), None);
     assert_eq!(&rt; refused_growth(alloc, 3), Some(GrowthError::BadGrowth));
+}
+
+// A reply as numbers, by which replies are compared.
+fn numbers(reply: &WorldReply) -> (u8, u64, u64) {
+    match reply {
+        WorldReply::Core(Reply::Admitted) => (1, 0, 0),
+        WorldReply::Core(Reply::Announced(n)) => (2, *n, 0),
+        WorldReply::Core(Reply::Left(_)) => (3, 0, 0),
+        WorldReply::Core(Reply::Gave { to, seats }) => (4, u64::from(*to), *seats),
+        WorldReply::Core(Reply::Merged(n)) => (5, *n, 0),
+        WorldReply::Core(Reply::Refused(Refusal::NoSeat { rights })) => (6, *rights, 0),
+        WorldReply::Core(Reply::Refused(Refusal::MissingSeats { rights, seats })) => {
+            (7, *rights, u64::from(*seats))
+        }
+        WorldReply::Core(_) => (8, 0, 0),
+        WorldReply::Sent(k) => (9, *k, 0),
+        WorldReply::Restarted => (10, 0, 0),
+        WorldReply::Grown => (11, 0, 0),
+        WorldReply::NoSite => (12, 0, 0),
+        WorldReply::NoMessage => (13, 0, 0),
+        WorldReply::NoGrowth => (14, 0, 0),
+        WorldReply::Memory => (15, 0, 0),
+    }
+}
+
+// A writer at site 1 is heard of at site 0, gets its seats, enters and leaves; site 1 begins again; site 0 takes a
+// message thin.
+const STORY: [Event; 16] = [
+    Event::Call(1, Ask::Announce { r: 0, h: 5 }),
+    Event::Call(0, Ask::Read { r: 0, h: 1 }),
+    Event::Send(1),
+    Event::Take(0, 0),
+    Event::Call(0, Ask::Help { r: 0 }),
+    Event::Send(0),
+    Event::Take(1, 1),
+    Event::Call(1, Ask::Quill { r: 0, h: 5 }),
+    Event::Call(0, Ask::Leave { r: 0, h: 1 }),
+    Event::Call(0, Ask::Help { r: 0 }),
+    Event::Send(0),
+    Event::Thin(1, 2, 1),
+    Event::Call(1, Ask::Quill { r: 0, h: 5 }),
+    Event::Restart(1),
+    Event::Call(1, Ask::Leave { r: 0, h: 5 }),
+    Event::Grow(0),
+];
+
+// The events that were not answered want of memory, and the other replies as numbers.
+fn served(
+    alloc: Global,
+    replies: &[WorldReply],
+) -> Result<(Vec<Event>, Vec<(u8, u64, u64)>), AllocError> {
+    let mut events = Vec::new(alloc);
+    let mut told = Vec::new(alloc);
+    for (event, reply) in STORY.iter().zip(replies) {
+        if !matches!(reply, WorldReply::Memory) {
+            events.push(*event)?;
+            told.push(numbers(reply))?;
+        }
+    }
+    Ok((events, told))
+}
+
+// Where a run that may find no memory once is not, without the events that did not find any, the run of the others:
+// the number of a reply, and what both runs answer.
+fn strayed(alloc: Global) -> Option<(usize, (u8, u64, u64), (u8, u64, u64))> {
+    let layout = small_layout(alloc, 2)?;
+    let copy = layout.try_copy(alloc).ok()?;
+    let (_, replies) = run_grown(alloc, layout, 1, &STORY).ok()?;
+    let (events, told) = served(alloc, replies.as_slice()).ok()?;
+    let (_, again) = run_grown(alloc, copy, 1, events.as_slice()).ok()?;
+    for (number, (reply, wanted)) in again.iter().zip(told.as_slice()).enumerate() {
+        if matches!(reply, WorldReply::Memory) {
+            return None; // it was this run that found none
+        }
+        if numbers(reply) != *wanted {
+            return Some((number, numbers(reply), *wanted));
+        }
+    }
+    None
+}
+
+#[test]
+fn refused_growths_leave_the_run_of_the_other_events(rt: HostRuntime) {
+    assert_eq!(rt; strayed(rt.alloc()), None);
 }

@@ -4,3 +4,4 @@ mod ExampleLemmas
 mod JoinLaws
 mod LayoutLemmas
 mod LineLemmas
+mod ScriptLemmas

@@ -3,7 +3,7 @@
 use Rattle.std.specs.Prelude.{◌≡◌, ℕ, ◌+◌, min, ◌==◌, nat_le, pos, List, [], ◌∷◌, codes, if◌then◌else◌, Option, Some, None, IsUtf8, Result, Ok, Err}
 use Rattle.toml.specs.Data.{Data, integer, array, table, Items, no_items, item, Members, no_members, member, get, as_str}
 use Rattle.toml.specs.Parse.{parse_document}
-use Rattle.delta_codec.specs.Readers.{◌>>=◌}
+use Rattle.text_parts.specs.Readers.{◌>>=◌}
 use Rattle.merge_core.specs.declared.layout.RecordSpec.{RecordSpec}
 use Rattle.merge_core.specs.declared.layout.LayoutError.{LayoutError}
 use Rattle.merge_core.specs.declared.layout.LayoutError.TheVariants as layout_error
@@ -12,7 +12,7 @@ use Rattle.text_input.specs.declared.input.InputError.TheVariants as input
 use Rattle.text_input.specs.Input.{LosesSome, ReadsUpTo}
 use Rattle.text_input.specs.Source.{SourceState}
 use Rattle.seat_cli.specs.declared.layout_file.LayoutFault.{LayoutFault}
-use Rattle.seat_cli.specs.declared.layout_file.LayoutFault.TheVariants.{NotRead, TooLong, NotToml, WrongKeys, Refused, Memory}
+use Rattle.seat_cli.specs.declared.layout_file.LayoutFault.TheVariants.{NotRead, TooLong, NotToml, WrongKeys, Refused, Memory, BadGrowth}
 
 abbrev pub count_members : Members → ℕ
 count_members no_members = 0
@@ -77,6 +77,7 @@ TellsLayout read (Err WrongKeys) = read ≡ None
 TellsLayout read (Err (Refused e)) =
     (layout : LayoutState) × (read ≡ Some layout) × (layout_fault layout.sites layout.records ≡ Some e)
 TellsLayout read (Err Memory) = Unit {0}
+TellsLayout read (Err BadGrowth) = ⊥
 
 -- What reading a layout from a file's bytes answers. They are no TOML document; or they are one, and the answer
 -- is told by its keys. Memory may run out at any time.
@@ -105,6 +106,7 @@ layout_fault_name NotToml = codes "NotToml"
 layout_fault_name WrongKeys = codes "WrongKeys"
 layout_fault_name (Refused e) = layout_error_name e
 layout_fault_name Memory = codes "Memory"
+layout_fault_name BadGrowth = codes "BadGrowth"
 
 -- the layout without a file: two sites, and one record `a` of two seats at site 0, under problem 1
 abbrev pub built_in_layout : LayoutState

@@ -4,6 +4,7 @@ pub mod Engine
 pub mod Examples
 pub mod Joins
 pub mod LayoutFile
+pub mod Plays
 pub mod Shell
 pub mod Stops
 pub mod Texts

@@ -6,13 +6,16 @@ use Rattle.text_input.specs.Sink.{Prints, SinkState}
 use Rattle.clap.specs.Words.{Text, IsAmong}
 use Rattle.clap.specs.declared.error.ErrorKind.{ErrorKind}
 use Rattle.clap.specs.declared.error.ErrorKind.TheVariants.{OutOfMemory, DisplayHelp, DisplayVersion}
+use Rattle.seat_cli.specs.declared.arguments.Command.{Command}
+use Rattle.seat_cli.specs.declared.arguments.Command.TheVariants.{Join, Play}
 use Rattle.seat_cli.specs.declared.layout_file.LayoutFault.{LayoutFault}
 use Rattle.seat_cli.specs.declared.status.Status.{Status}
 use Rattle.seat_cli.specs.declared.status.Status.TheVariants.{Done, Memory, Io}
-use Rattle.seat_cli.specs.Arguments.{asked_layout, usage_errors}
+use Rattle.seat_cli.specs.Arguments.{asked_command, asked_layout, usage_errors}
 use Rattle.seat_cli.specs.Endings.{EndsWith, without_layout}
 use Rattle.seat_cli.specs.Engine.{EndsJoin}
 use Rattle.seat_cli.specs.LayoutFile.{FindsBuiltIn, FindsFile}
+use Rattle.seat_cli.specs.Plays.{EndsPlay}
 
 -- help or the version: it was printed, or the sink met a fault
 abbrev pub EndsPrinted : SinkState → SinkState → SinkState → SinkState → ℕ → Type 0
@@ -39,18 +42,23 @@ abbrev pub FindsLayout : Option Text → Result LayoutState LayoutFault → Type
 FindsLayout None answer = FindsBuiltIn answer
 FindsLayout (Some path) answer = FindsFile answer
 
--- the command `join` under a layout: what its engine did; without a layout nothing is read or written
-abbrev pub JoinsUnder : Result LayoutState LayoutFault → SourceState → SourceState → SinkState → SinkState → Status → Type 0
-JoinsUnder (Ok layout) source source_after sink sink_after ended = EndsJoin (shape_of layout) source source_after sink sink_after ended
-JoinsUnder (Err fault) source source_after sink sink_after ended = (source_after ≡ source) × (sink_after ≡ sink) × (ended ≡ without_layout fault)
+-- a command under a layout: what its engine did
+abbrev pub EndsCommand : Command → LayoutState → SourceState → SourceState → SinkState → SinkState → Status → Type 0
+EndsCommand Join layout source source_after sink sink_after ended = EndsJoin (shape_of layout) source source_after sink sink_after ended
+EndsCommand (Play tables first) layout source source_after sink sink_after ended = EndsPlay layout first tables source source_after sink sink_after ended
 
--- a command is asked for, and was carried out under the layout that the arguments name
+-- a command under what was found for a layout: without a layout nothing is read or written
+abbrev pub EndsUnder : Command → Result LayoutState LayoutFault → SourceState → SourceState → SinkState → SinkState → Status → Type 0
+EndsUnder command (Ok layout) source source_after sink sink_after ended = EndsCommand command layout source source_after sink sink_after ended
+EndsUnder command (Err fault) source source_after sink sink_after ended = (source_after ≡ source) × (sink_after ≡ sink) × (ended ≡ without_layout fault)
+
+-- a command is asked for, and that one was carried out under the layout that the arguments name
 pub record RunsCommand (arguments : List Text) (source source_after : SourceState) (sink sink_after errors errors_after : SinkState) (code : ℕ) : Type 0 where
   pub asked : usage_errors arguments ≡ []
   pub layout : Result LayoutState LayoutFault
   pub found : FindsLayout (asked_layout arguments) layout
   pub ended : Status
-  pub joined : JoinsUnder layout source source_after sink sink_after ended
+  pub carried_out : EndsUnder (asked_command arguments) layout source source_after sink sink_after ended
   pub told : EndsWith ended errors errors_after code
 
 -- no command is asked for, or memory ran out: nothing is read, and what clap says is told

@@ -1,45 +1,24 @@
-ghost use Rattle.std.specs.Prelude.{◌≡◌, false, map, IfOk, option_map, string_bytes};
-ghost use Rattle.clap.specs.Words.{FailsBy, app_of};
+ghost use Rattle.std.specs.Prelude.{◌≡◌, ◌≤◌, false, length, map, IfOk, IsOk, option_map, string_bytes};
+ghost use Rattle.clap.specs.Words.{FailsBy, app_of, found_of, rows_of, rule_of, subcommand_rows_of};
 ghost use Rattle.clap.specs.declared.builder.command.Command.TheViews.{out-Command as fields_of};
-ghost use Rattle.seat_cli.specs.Arguments.{asked_layout, join_command, program, usage_errors};
+ghost use Rattle.seat_cli.specs.Arguments.{asked_command, asked_layout, command_in, command_of, first_option, join_command, layout_in, layout_option, play_command, program, tables_flag, usage_errors};
 
-use clap::{Arg, ArgAction, Command as Parser, Error};
+use crate::help;
+use clap::{Arg, ArgAction, ArgMatches, Command as Parser, Error, value_parser};
 use std::alloc::{AllocError, Global};
-
-const PROGRAM_HELP: &str =
-    "Joins what sites tell each other of the seats of shared records into one book";
-
-const PROGRAM_NOTES: &str = "\
-Without a command it is `join`. The input is standard input, the answer goes to standard output.
-
-Exit status:
-  0  all lines were carried out; help or the version was printed
-  2  the arguments are wrong
-  3  there is no layout: `layout refused NAME` on standard error
-  4  the input or a line of it was refused, which is the answer
-  6  memory ran out: `memory` on standard error
-  7  a read or a write failed: `io` on standard error
-
-Example:
-  cat site_0.deltas site_1.deltas | seat_cli join --layout three_sites.toml";
-
-const JOIN_HELP: &str =
-    "Joins the delta texts of the input, one a line, and writes the text of the joined book";
-
-const JOIN_NOTES: &str = "\
-A line of the input is the text of a delta, and so is the answer:
-  {\"from\":0,\"rows\":[{\"ann\":0,\"fin\":0,\"out\":[2,1],\"r\":0,\"s\":0,\"taken\":0}],\"v\":1}
-Row (r, s) is what site s did at record r: `out` are the rights that it made and gave to each site, `taken` the
-seats that it took, `ann` and `fin` the writers that it announced and finished. The first line that is refused is
-the only answer: `line K refused NAME`.";
-
-const LAYOUT_HELP: &str =
-    "A TOML file with the sites and records [default: two sites, record a of two seats at site 0]";
 
 /// What the program is asked for.
 #[derive(Clone, Copy)]
 pub enum Command {
+    /// The lines of the input are deltas, which are joined.
     Join,
+    /// The lines of the input are events at several sites, which are played.
+    Play {
+        /// Whether the tables of seats and sessions follow.
+        tables: bool,
+        /// How many sites the first sites begin with, if not with all.
+        first: Option<u16>,
+    },
 }
 
 /// A command and the path of the layout file, if one is named.
@@ -49,11 +28,14 @@ pub struct Request<'a> {
     pub layout: Option<&'a str>,
 }
 
-/// What the arguments ask for. The first is the program's own name; without a further one it is `join`.
+/// What the arguments ask for. The first is the program's own name; without a further one it is `join`, for which no
+/// memory is taken.
 pub fn requested<'a>(alloc: Global, arguments: &'a [String]) -> Result<Request<'a>, Error>
-    ensures named { IfOk result (λ asked. option_map (λ path. path.now) asked.layout ≡ asked_layout (map string_bytes arguments.now)) }
+    ensures command { IfOk result (λ asked. asked.command ≡ asked_command (map string_bytes arguments.now)) }
+    ensures layout { IfOk result (λ asked. option_map (λ path. path.now) asked.layout ≡ asked_layout (map string_bytes arguments.now)) }
     // An error comes just where clap's rules find one, and is of a kind that they give, or memory ran out.
     ensures refused { FailsBy (usage_errors (map string_bytes arguments.now)) result }
+    ensures bare { length arguments.now ≤ 1 → IsOk result }
 {
     if arguments.len() <= 1 {
         return Ok(Request {
@@ -62,16 +44,37 @@ pub fn requested<'a>(alloc: Global, arguments: &'a [String]) -> Result<Request<'
         });
     }
     let matches = parser(alloc)?.try_get_matches_from(arguments)?;
-    match matches.subcommand_matches("join") {
-        Some(found) => Ok(Request {
-            command: Command::Join,
-            layout: found.get_str("layout"),
-        }),
-        None => Ok(Request {
+    Ok(request_in(&matches))
+}
+
+// What the arguments' matches ask for.
+fn request_in<'a>(matches: &ArgMatches<'a>) -> Request<'a>
+    ensures command { result.command ≡ command_in (subcommand_rows_of matches.now) }
+    ensures layout { option_map (λ path. path.now) result.layout ≡ layout_in (subcommand_rows_of matches.now) }
+{
+    let Some((name, found)) = matches.subcommand() else {
+        return Request {
             command: Command::Join,
             layout: None,
-        }),
+        };
+    };
+    Request {
+        command: command_of(name, found),
+        layout: found.get_str("layout"),
     }
+}
+
+// The command of this name, with the values of its options.
+fn command_of(name: &str, found: &ArgMatches) -> Command
+    ensures { result ≡ command_of name.now (rows_of (found_of found.now)) }
+{
+    if name == "play" {
+        return Command::Play {
+            tables: found.get_one::<bool>("tables").unwrap_or(false),
+            first: found.get_one::<u16>("from"),
+        };
+    }
+    Command::Join
 }
 
 // The program as clap is told of it.
@@ -79,28 +82,78 @@ fn parser<'a>(alloc: Global) -> Result<Parser<'a>, AllocError>
     ensures { IfOk result (λ built. app_of built ≡ program) }
 {
     let join = join_parser(alloc)?;
+    let play = play_parser(alloc)?;
     Parser::new(alloc, "seat_cli")
         .version("0.1.0")
         .override_usage("seat_cli [COMMAND]")
-        .about(PROGRAM_HELP)
-        .after_help(PROGRAM_NOTES)
+        .about(help::PROGRAM)
+        .after_help(help::PROGRAM_NOTES)
         .subcommand_required(true)
         .disable_help_subcommand(true)
-        .subcommand(join)
+        .subcommand(join)?
+        .subcommand(play)
 }
 
 // The command `join`.
 fn join_parser<'a>(alloc: Global) -> Result<Parser<'a>, AllocError>
     ensures { IfOk result (λ built. (app_of built ≡ join_command) × ((fields_of built).has_globals ≡ false)) }
 {
-    let layout = Arg::new(alloc, "layout")
-        .long("layout")
-        .value_name("FILE")
-        .help(LAYOUT_HELP)
-        .action(ArgAction::Set);
+    let layout = layout_option(alloc);
     Parser::new(alloc, "join")
         .override_usage("seat_cli join [--layout FILE]")
-        .about(JOIN_HELP)
-        .after_help(JOIN_NOTES)
+        .about(help::JOIN)
+        .after_help(help::JOIN_NOTES)
         .arg(layout)
+}
+
+// The command `play`.
+fn play_parser<'a>(alloc: Global) -> Result<Parser<'a>, AllocError>
+    ensures { IfOk result (λ built. (app_of built ≡ play_command) × ((fields_of built).has_globals ≡ false)) }
+{
+    let tables = tables_flag(alloc);
+    let first = first_option(alloc);
+    let layout = layout_option(alloc);
+    Parser::new(alloc, "play")
+        .override_usage("seat_cli play [--tables] [--from M] [--layout FILE]")
+        .about(help::PLAY)
+        .after_help(help::PLAY_NOTES)
+        .arg(tables)?
+        .arg(first)?
+        .arg(layout)
+}
+
+// The option `--layout FILE`.
+fn layout_option<'a>(alloc: Global) -> Arg<'a>
+    ensures rule { rule_of result ≡ layout_option }
+    ensures local { result.global ≡ false }
+{
+    Arg::new(alloc, "layout")
+        .long("layout")
+        .value_name("FILE")
+        .help(help::LAYOUT)
+        .action(ArgAction::Set)
+}
+
+// The flag `--tables`.
+fn tables_flag<'a>(alloc: Global) -> Arg<'a>
+    ensures rule { rule_of result ≡ tables_flag }
+    ensures local { result.global ≡ false }
+{
+    Arg::new(alloc, "tables")
+        .long("tables")
+        .help(help::TABLES)
+        .action(ArgAction::SetTrue)
+}
+
+// The option `--from M`.
+fn first_option<'a>(alloc: Global) -> Arg<'a>
+    ensures rule { rule_of result ≡ first_option }
+    ensures local { result.global ≡ false }
+{
+    let option = Arg::new(alloc, "from")
+        .long("from")
+        .value_name("M")
+        .help(help::FIRST)
+        .action(ArgAction::Set);
+    option.value_parser(value_parser!(u16))
 }

@@ -1,5 +1,5 @@
 //! Laws of the definitions in specs/: functions that do nothing, whose contracts are the laws.
-ghost use Rattle.std.specs.Prelude.{◌≡◌, ◌++◌, ◌∷◌, [], List, None, Some, codes};
+ghost use Rattle.std.specs.Prelude.{◌≡◌, ◌++◌, ◌∷◌, [], List, None, Some, codes, false, true};
 ghost use Rattle.merge_core.specs.Layout.{Shape};
 ghost use Rattle.merge_core.specs.Delta.{DeltaState};
 ghost use Rattle.merge_core.specs.Book.{BookState, book_shape, counter_of};
@@ -11,12 +11,13 @@ ghost use Rattle.merge_core.specs.Tests.{is_placed, first_failing};
 ghost use Rattle.delta_codec.specs.DeltaText.{delta_text};
 ghost use Rattle.text_input.specs.Lines.{lines_of};
 ghost use Rattle.clap.specs.Words.{fault_of};
-ghost use Rattle.clap.specs.declared.error.ErrorKind.TheVariants.{ArgumentConflict, InvalidSubcommand, InvalidValue, UnknownArgument};
+ghost use Rattle.clap.specs.declared.error.ErrorKind.TheVariants.{ArgumentConflict, InvalidSubcommand, InvalidValue, TooManyValues, UnknownArgument, ValueValidation};
 ghost use Rattle.seat_cli.specs.declared.fault.LineFault.TheVariants.{Unfit};
 ghost use Rattle.seat_cli.specs.Engine.{book_line};
 ghost use Rattle.seat_cli.specs.Joins.{IsJoinOf, SameDeltas};
 ghost use Rattle.seat_cli.specs.Texts.{refusal_text};
-ghost use Rattle.seat_cli.specs.Arguments.{called_with, named_layout, program};
+ghost use Rattle.seat_cli.specs.Arguments.{called_with, named_command, named_layout, program};
+ghost use Rattle.seat_cli.specs.declared.arguments.Command.TheVariants.{Join, Play};
 ghost use Rattle.seat_cli.specs.Examples.{joined_rows, two_sites, seat_given, seat_given_text, writer_waits, given_and_waiting, three_sites, announced, two_sent, three_sent, three_sent_text, three_sent_book, told_alone, told_by_both, lacks_its_own, told_of_three};
 
 /// The same deltas join to one book, in whatever order and however often they come: so a text that is
@@ -54,5 +55,24 @@ pub fn arguments_read()
     ensures two_files { fault_of program (called_with (codes "join" ∷ codes "--layout=a" ∷ codes "--layout=b" ∷ [])) ≡ ArgumentConflict ∷ [] }
     ensures stray_argument { fault_of program (called_with (codes "join" ∷ codes "x" ∷ [])) ≡ UnknownArgument ∷ [] }
     ensures option_before_command { fault_of program (called_with (codes "--layout" ∷ codes "a" ∷ [])) ≡ UnknownArgument ∷ [] }
-    ensures other_command { fault_of program (called_with (codes "play" ∷ [])) ≡ UnknownArgument ∷ InvalidSubcommand ∷ [] }
+    ensures other_command { fault_of program (called_with (codes "judge" ∷ [])) ≡ UnknownArgument ∷ InvalidSubcommand ∷ [] }
+    ensures joins { named_command (called_with (codes "join" ∷ [])) ≡ Join }
+    ensures flag_of_play { fault_of program (called_with (codes "join" ∷ codes "--tables" ∷ [])) ≡ UnknownArgument ∷ [] }
+{}
+
+/// The same of the command `play`: whether tables are asked for, how many sites the first sites begin with, and the
+/// layout file.
+#[tactic(auto, unfolding(clap::proofs::OnLiterals::clap_on_literals))]
+pub fn play_arguments_read()
+    ensures plain { named_command (called_with (codes "play" ∷ [])) ≡ Play false None }
+    ensures tables { named_command (called_with (codes "play" ∷ codes "--tables" ∷ [])) ≡ Play true None }
+    ensures first { named_command (called_with (codes "play" ∷ codes "--from" ∷ codes "1" ∷ [])) ≡ Play false (Some 1) }
+    ensures greatest { named_command (called_with (codes "play" ∷ codes "--from=65535" ∷ codes "--tables" ∷ [])) ≡ Play true (Some 65535) }
+    ensures file { named_layout (called_with (codes "play" ∷ codes "--layout" ∷ codes "a" ∷ [])) ≡ Some (codes "a") }
+    ensures no_error { fault_of program (called_with (codes "play" ∷ codes "--tables" ∷ codes "--from" ∷ codes "0" ∷ [])) ≡ [] }
+    ensures no_number { fault_of program (called_with (codes "play" ∷ codes "--from" ∷ codes "x" ∷ [])) ≡ ValueValidation ∷ [] }
+    ensures too_great { fault_of program (called_with (codes "play" ∷ codes "--from" ∷ codes "65536" ∷ [])) ≡ ValueValidation ∷ [] }
+    ensures missing_number { fault_of program (called_with (codes "play" ∷ codes "--from" ∷ [])) ≡ InvalidValue ∷ [] }
+    ensures two_numbers { fault_of program (called_with (codes "play" ∷ codes "--from=1" ∷ codes "--from=2" ∷ [])) ≡ ArgumentConflict ∷ [] }
+    ensures flag_with_value { fault_of program (called_with (codes "play" ∷ codes "--tables=1" ∷ [])) ≡ TooManyValues ∷ [] }
 {}

@@ -1,14 +1,14 @@
 ghost use Rattle.std.specs.Prelude.{◌≡◌, string_bytes, IfOk};
 ghost use Rattle.toml.specs.Data.{get};
 ghost use Rattle.toml.specs.View.{view, items_view};
-ghost use Rattle.delta_codec.specs.Readers.{Gives};
+ghost use Rattle.text_parts.specs.Readers.{Gives};
 ghost use Rattle.seat_cli.specs.LayoutFile.{ReadsLayout, ReadsLayoutFile, TellsLayout, layout_error_name, key_count, number_in, number_at_key, short_at_key, text_at_key, record_in, records_in, records_of, records_at_key, parts_in, built_in_layout};
 
-use delta_codec::Unread;
 use merge_core::{Layout, LayoutError, RecordName, RecordSpec};
 use std::alloc::{AllocError, Global};
 use std::io::Read;
 use text_input::{InputError, Source, read_up_to};
+use text_parts::Unread;
 use thiserror::Error;
 use toml::Value;
 
@@ -34,6 +34,10 @@ pub enum LayoutFault {
     /// Memory ran out, which may come before the text is judged.
     #[error("out of memory")]
     Memory,
+    /// The first sites of a script are to begin with a layout that is no earlier one: there are fewer sites, or a home
+    /// is not among them. No layout file is refused so.
+    #[error("the first sites are no earlier layout")]
+    BadGrowth,
 }
 
 impl LayoutFault {
@@ -51,6 +55,7 @@ impl LayoutFault {
             LayoutFault::WrongKeys => "WrongKeys",
             LayoutFault::Refused(error) => error_name(error),
             LayoutFault::Memory => "Memory",
+            LayoutFault::BadGrowth => "BadGrowth",
         }
     }
 }

@@ -1,15 +1,17 @@
 ghost use Rattle.std.specs.Prelude.{map, MatchOption, string_bytes};
 ghost use Rattle.clap.specs.Words.{kind_of};
 ghost use Rattle.seat_cli.specs.LayoutFile.{FindsBuiltIn, FindsFile};
-ghost use Rattle.seat_cli.specs.Shell.{EndsUnasked, RunsProgram};
+ghost use Rattle.seat_cli.specs.Shell.{EndsCommand, EndsUnasked, RunsProgram};
 
 use crate::arguments::{Command, requested};
 use crate::engine::join_engine;
 use crate::layout_file::{LayoutFault, built_in, read_layout_file};
+use crate::scripts::play_engine;
 use crate::standard_error::StandardError;
 use crate::status::Status;
 use clap::error::ErrorKind as UsageKind;
 use merge_core::Layout;
+use std::alloc::Global;
 use std::io::{ErrorKind, Read, Write};
 use std::rt::{Env, Files};
 use std::{env, fs, io};
@@ -60,10 +62,24 @@ pub fn run_with<R: Files + AllocGlobal, I: Read, O: Write, E: Write>(
         Ok(layout) => layout,
         Err(fault) => return fault.status().end(errors),
     };
-    let ended = match asked.command {
-        Command::Join => join_engine(rt.alloc(), &layout, source, sink),
-    };
+    let ended = carry_out(rt.alloc(), asked.command, layout, source, sink);
     ended.end(errors)
+}
+
+// Carries out a command under a layout.
+fn carry_out<I: Read, O: Write>(
+    alloc: Global,
+    command: Command,
+    layout: Layout,
+    source: &mut Source<I>,
+    sink: &mut Sink<O>,
+) -> Status
+    ensures { EndsCommand command layout source.old source.new sink.old sink.new result }
+{
+    match command {
+        Command::Join => join_engine(alloc, &layout, source, sink),
+        Command::Play { tables, first } => play_engine(alloc, layout, first, tables, source, sink),
+    }
 }
 
 // Prints what clap says where it gives no command: help, the version, or what is wrong with the arguments.

@@ -14,7 +14,7 @@ pub enum Status {
     Done,
     /// The arguments are wrong, which was told.
     Usage,
-    /// There is no layout.
+    /// There is no layout, or none for the first sites of a script.
     NoLayout(LayoutFault),
     /// The input, or a line of it, was refused.
     Refused,

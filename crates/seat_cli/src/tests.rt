@@ -3,8 +3,10 @@
 mod fakes;
 mod hostile_bytes;
 mod layout_files;
+mod limits;
 mod programs;
 mod runtime;
+mod scripts;
 
 use crate::layout_file::{built_in, read_layout};
 use crate::status::Status;

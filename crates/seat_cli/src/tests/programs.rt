@@ -117,12 +117,13 @@ fn answers(
 }
 
 const HELP: &str = "\
-Joins what sites tell each other of the seats of shared records into one book
+Joins deltas of the seats of shared records into one book, and plays scripts of several sites
 
 Usage: seat_cli [COMMAND]
 
 Commands:
   join  Joins the delta texts of the input, one a line, and writes the text of the joined book
+  play  Plays a script of several sites, one event a line, and writes one line of reply to each
 
 Options:
   -h, --help     Print help
@@ -138,8 +139,9 @@ Exit status:
   6  memory ran out: `memory` on standard error
   7  a read or a write failed: `io` on standard error
 
-Example:
+Examples:
   cat site_0.deltas site_1.deltas | seat_cli join --layout three_sites.toml
+  printf '0 give a 1 1\\n0 send\\n1 take 0\\n1 read a 8\\n' | seat_cli play --tables
 ";
 
 const JOIN_HELP: &str = "\
@@ -158,12 +160,47 @@ seats that it took, `ann` and `fin` the writers that it announced and finished. 
 the only answer: `line K refused NAME`.
 ";
 
+const PLAY_HELP: &str = "\
+Plays a script of several sites, one event a line, and writes one line of reply to each
+
+Usage: seat_cli play [--tables] [--from M] [--layout FILE]
+
+Options:
+      --tables         After a script that was read to its end, writes a table of seats and one of sessions
+      --from <M>       The first M sites begin with the layout of M sites, the others with all [default: all sites]
+      --layout <FILE>  A TOML file with the sites and records [default: two sites, record a of two seats at site 0]
+  -h, --help           Print help
+
+A line of the input is one of these, with one space between words:
+  I read NAME H      at site I, holder H enters record NAME as a reader
+  I announce NAME H  H announces that it will write
+  I write NAME H     H, who announced it, enters as the writer, who needs all seats
+  I leave NAME H     H leaves, or withdraws what it announced
+  I give NAME J N    site I gives N of its seats to site J
+  I help NAME        site I gives seats to the site of an announced writer, or its excess to the next site
+  I send             site I writes what it knows into a message; messages are numbered from 0
+  I take K           site I joins message K, as often as it is told to
+  I restart          site I stops, and begins again from what it keeps
+  I grow             site I, which began with the first M sites, begins again with all
+I and J are sites, from 0; H is any number that stands for a holder. Numbers are decimal, without a leading zero.
+Each line gets one line of reply, as `admitted`, `sent 0` or `refused NoSeat 0`; a refused event changes nothing, and
+the script goes on. The first line that can't be read ends it, with `line K refused BadWord` and status 4.
+
+M is the number of sites, or a smaller one with every record's home among them; else `layout refused BadGrowth` and
+status 3.
+
+Example:
+  printf '0 give a 1 1\\n0 send\\n1 take 0\\n1 read a 8\\n' | seat_cli play --tables
+";
+
 // Arguments, and what goes to standard output.
-const TOLD: [(&[&[u8]], &str); 6] = [
+const TOLD: [(&[&[u8]], &str); 8] = [
     (&[b"seat_cli", b"--help"], HELP),
     (&[b"seat_cli", b"-h"], HELP),
     (&[b"seat_cli", b"join", b"--help"], JOIN_HELP),
     (&[b"seat_cli", b"join", b"-h"], JOIN_HELP),
+    (&[b"seat_cli", b"play", b"--help"], PLAY_HELP),
+    (&[b"seat_cli", b"play", b"-h"], PLAY_HELP),
     (&[b"seat_cli", b"--version"], "seat_cli 0.1.0\n"),
     (&[b"seat_cli", b"-V"], "seat_cli 0.1.0\n"),
 ];
@@ -180,7 +217,7 @@ fn help_and_the_version_are_printed(rt: HostRuntime) {
 }
 
 // Arguments that are wrong, and what goes to standard error.
-const WRONG: [(&[&[u8]], &str); 9] = [
+const WRONG: [(&[&[u8]], &str); 14] = [
     (
         &[b"seat_cli", b"--layout", b"three.toml"],
         "error: unexpected argument '--layout' found\n\nUsage: seat_cli [COMMAND]\n\nFor more information, try '--help'.\n",
@@ -202,8 +239,8 @@ const WRONG: [(&[&[u8]], &str); 9] = [
         "error: unexpected argument '--sites' found\n\nUsage: seat_cli join [--layout FILE]\n\nFor more information, try '--help'.\n",
     ),
     (
-        &[b"seat_cli", b"play"],
-        "error: unrecognized subcommand 'play'\n\nUsage: seat_cli [COMMAND]\n\nFor more information, try '--help'.\n",
+        &[b"seat_cli", b"judge"],
+        "error: unrecognized subcommand 'judge'\n\nUsage: seat_cli [COMMAND]\n\nFor more information, try '--help'.\n",
     ),
     (
         &[b"seat_cli", b"help"],
@@ -211,7 +248,27 @@ const WRONG: [(&[&[u8]], &str); 9] = [
     ),
     (
         &[b"seat_cli", b"--"],
-        "error: 'seat_cli' requires a subcommand but one was not provided\n  [subcommands: join]\n\nUsage: seat_cli [COMMAND]\n\nFor more information, try '--help'.\n",
+        "error: 'seat_cli' requires a subcommand but one was not provided\n  [subcommands: join, play]\n\nUsage: seat_cli [COMMAND]\n\nFor more information, try '--help'.\n",
+    ),
+    (
+        &[b"seat_cli", b"play", b"--from", b"x"],
+        "error: invalid value 'x' for '--from <M>': invalid digit found in string\n\nFor more information, try '--help'.\n",
+    ),
+    (
+        &[b"seat_cli", b"play", b"--from", b"65536"],
+        "error: invalid value '65536' for '--from <M>': 65536 is not in 0..=65535\n\nFor more information, try '--help'.\n",
+    ),
+    (
+        &[b"seat_cli", b"play", b"--from"],
+        "error: a value is required for '--from <M>' but none was supplied\n\nFor more information, try '--help'.\n",
+    ),
+    (
+        &[b"seat_cli", b"play", b"--tables=1"],
+        "error: unexpected value '1' for '--tables' found; no more were expected\n\nUsage: seat_cli play [--tables] [--from M] [--layout FILE]\n\nFor more information, try '--help'.\n",
+    ),
+    (
+        &[b"seat_cli", b"play", b"--from", b"1", b"--from", b"2"],
+        "error: the argument '--from <M>' cannot be used multiple times\n\nUsage: seat_cli play [--tables] [--from M] [--layout FILE]\n\nFor more information, try '--help'.\n",
     ),
     (
         &[b"seat_cli", b"join", b"--layout", b"\xff"],
@@ -231,7 +288,7 @@ fn wrong_arguments_are_told_and_nothing_is_read(rt: HostRuntime) {
 }
 
 // Arguments and input, and what the program does.
-const RUNS: [(&[&[u8]], &str, Run); 12] = [
+const RUNS: [(&[&[u8]], &str, Run); 13] = [
     (&[], GAVE, (0, GAVE, "", "")),
     (&[b"seat_cli"], GAVE, (0, GAVE, "", "")),
     (&[b"seat_cli", b"join"], GAVE, (0, GAVE, "", "")),
@@ -279,6 +336,11 @@ const RUNS: [(&[&[u8]], &str, Run); 12] = [
         &[b"seat_cli", b"join", b"--layout="],
         GAVE,
         (3, "", "layout refused NotRead\n", "\n"),
+    ),
+    (
+        &[b"seat_cli", b"play", b"--layout=no.toml"],
+        GAVE,
+        (3, "", "layout refused NotRead\n", "no.toml\n"),
     ),
 ];
 
@@ -347,7 +409,7 @@ const FAULTS: [(usize, usize, usize, ErrorKind, &[&[u8]], Run); 14] = [
         NEVER,
         1,
         ErrorKind::Other,
-        &[b"seat_cli", b"play"],
+        &[b"seat_cli", b"judge"],
         (2, "", "error: ", ""),
     ),
     // a file can't be opened or read, for want of memory; or it is not there, which can't be written

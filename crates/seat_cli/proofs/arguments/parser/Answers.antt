@@ -10,5 +10,7 @@ returns c =
     let named_is : app_of c.disable_help_subcommand.result ≡ on_top with_settings (new_app (codes "seat_cli")) =
     rw (c.disable_help_subcommand.ensures, c.subcommand_required.ensures, c.after_help.ensures, c.about.ensures, c.override_usage.ensures, c.version.ensures)
     (ap (on_top with_settings) c.new.ensures.app) in
-    IfOk-weaker c.subcommand.result _ _ (λ built added. added.shape c.in_ok-join.ensures.1
-    ∙ ap₂ with_subcommand named_is (ap (λ (a : App). a.top) c.in_ok-join.ensures.0)) c.subcommand.ensures
+    let with_join = c.in_ok-subcommand.ensures.shape c.in_ok-join.ensures.1
+    ∙ ap₂ with_subcommand named_is (ap (λ (a : App). a.top) c.in_ok-join.ensures.0) in
+    IfOk-weaker c.subcommand-2.result _ _ (λ built added. added.shape c.in_ok-play.ensures.1
+    ∙ ap₂ with_subcommand with_join (ap (λ (a : App). a.top) c.in_ok-play.ensures.0)) c.subcommand-2.ensures

@@ -1,6 +1,0 @@
-use Rattle.std.proofs.Common.{◌≡◌, ◌++◌, take, string_bytes}
-use Rattle.delta_codec.specs.Lists.{later}
-use Rattle.delta_codec.proofs.written.push_joined.Given as goal
-
-abbrev pub invariant-loop-element : goal.invariant-loop-element
-invariant-loop-element g l = string_bytes l.text ≡ string_bytes l.initial.text ++ later g.T.Written.text_of (take l.element-index l.later)

@@ -1,0 +1,4 @@
+pub mod Words
+pub mod Asks
+pub mod Replies
+pub mod Examples

@@ -1,0 +1,72 @@
+//! The texts of help.
+
+/// What the program is for.
+pub const PROGRAM: &str =
+    "Joins deltas of the seats of shared records into one book, and plays scripts of several sites";
+
+/// What stands behind the program's options.
+pub const PROGRAM_NOTES: &str = "\
+Without a command it is `join`. The input is standard input, the answer goes to standard output.
+
+Exit status:
+  0  all lines were carried out; help or the version was printed
+  2  the arguments are wrong
+  3  there is no layout: `layout refused NAME` on standard error
+  4  the input or a line of it was refused, which is the answer
+  6  memory ran out: `memory` on standard error
+  7  a read or a write failed: `io` on standard error
+
+Examples:
+  cat site_0.deltas site_1.deltas | seat_cli join --layout three_sites.toml
+  printf '0 give a 1 1\\n0 send\\n1 take 0\\n1 read a 8\\n' | seat_cli play --tables";
+
+/// What `join` does.
+pub const JOIN: &str =
+    "Joins the delta texts of the input, one a line, and writes the text of the joined book";
+
+/// What stands behind the options of `join`.
+pub const JOIN_NOTES: &str = "\
+A line of the input is the text of a delta, and so is the answer:
+  {\"from\":0,\"rows\":[{\"ann\":0,\"fin\":0,\"out\":[2,1],\"r\":0,\"s\":0,\"taken\":0}],\"v\":1}
+Row (r, s) is what site s did at record r: `out` are the rights that it made and gave to each site, `taken` the
+seats that it took, `ann` and `fin` the writers that it announced and finished. The first line that is refused is
+the only answer: `line K refused NAME`.";
+
+/// What `play` does.
+pub const PLAY: &str =
+    "Plays a script of several sites, one event a line, and writes one line of reply to each";
+
+/// What stands behind the options of `play`.
+pub const PLAY_NOTES: &str = "\
+A line of the input is one of these, with one space between words:
+  I read NAME H      at site I, holder H enters record NAME as a reader
+  I announce NAME H  H announces that it will write
+  I write NAME H     H, who announced it, enters as the writer, who needs all seats
+  I leave NAME H     H leaves, or withdraws what it announced
+  I give NAME J N    site I gives N of its seats to site J
+  I help NAME        site I gives seats to the site of an announced writer, or its excess to the next site
+  I send             site I writes what it knows into a message; messages are numbered from 0
+  I take K           site I joins message K, as often as it is told to
+  I restart          site I stops, and begins again from what it keeps
+  I grow             site I, which began with the first M sites, begins again with all
+I and J are sites, from 0; H is any number that stands for a holder. Numbers are decimal, without a leading zero.
+Each line gets one line of reply, as `admitted`, `sent 0` or `refused NoSeat 0`; a refused event changes nothing, and
+the script goes on. The first line that can't be read ends it, with `line K refused BadWord` and status 4.
+
+M is the number of sites, or a smaller one with every record's home among them; else `layout refused BadGrowth` and
+status 3.
+
+Example:
+  printf '0 give a 1 1\\n0 send\\n1 take 0\\n1 read a 8\\n' | seat_cli play --tables";
+
+/// What `--layout` names.
+pub const LAYOUT: &str =
+    "A TOML file with the sites and records [default: two sites, record a of two seats at site 0]";
+
+/// What `--tables` adds.
+pub const TABLES: &str =
+    "After a script that was read to its end, writes a table of seats and one of sessions";
+
+/// What `--from` does.
+pub const FIRST: &str =
+    "The first M sites begin with the layout of M sites, the others with all [default: all sites]";

@@ -1,0 +1,4 @@
+pub mod LiteralLaws
+pub mod NumberLaws
+pub mod ElementLaws
+pub mod WritingLaws

@@ -1,0 +1,53 @@
+-- Literals: what a comparison of the front says, and that a literal is taken exactly where it stands.
+use Rattle.std.proofs.Common.{◌≡◌, ℕ, Bool, true, false, cond, eqb, nat_eq, List, [], ◌∷◌, ◌++◌, length, take, drop, Option, Some, None, refl, inl, inr}
+use lib.Pointwise.{pointwise}
+use Rattle.std.proofs.lemmas.Bool.{and_parts, and_cases, eqb-true, eq-eqb}
+use Rattle.std.proofs.lemmas.Option.{none-some}
+use Rattle.text_parts.specs.Readers.{◌>>=◌, after}
+
+-- the literal stands at the front
+pub after_same : (literal bytes : List ℕ) → pointwise nat_eq (take (length literal) bytes) literal ≡ true → after literal bytes ≡ Some (drop (length literal) bytes)
+after_same [] bytes same = refl
+after_same (c ∷ cs) [] same = absurd (cc)
+after_same (c ∷ cs) (b ∷ bs) same =
+    let parts = and_parts (nat_eq b c) _ same in
+    rw parts.0 (after_same cs bs parts.1)
+
+-- another front
+pub after_other : (literal bytes : List ℕ) → pointwise nat_eq (take (length literal) bytes) literal ≡ false → after literal bytes ≡ None
+after_other [] bytes other = absurd (cc)
+after_other (c ∷ cs) [] other = refl
+after_other (c ∷ cs) (b ∷ bs) other =
+    elim (and_cases (nat_eq b c) _ other) [
+      | inl first ↦ rw first refl
+      | inr rest ↦ cases (eqb b c) (after_other cs bs rest)
+    ]
+  where
+    cases : (same : Bool) → after cs bs ≡ None → cond same (after cs bs) None ≡ None
+    cases true none = none
+    cases false none = refl
+
+-- a test that did not fail
+pub cond_taken : {A : Type 0} (b : Bool) (o : Option A) (x : A) → cond b o None ≡ Some x → (b ≡ true) × (o ≡ Some x)
+cond_taken true o x e = (refl, e)
+cond_taken false o x e = absurd (none-some x e)
+
+-- a step that did not fail
+pub bind_some : {A B : Type 0} (o : Option A) (f : A → Option B) (y : B) → (o >>= f) ≡ Some y → (x : A) × (o ≡ Some x) × (f x ≡ Some y)
+bind_some (Some x) f y e = (x, refl, e)
+bind_some None f y e = absurd (none-some y e)
+
+-- what is taken is the literal
+pub after_takes : (literal bytes rest : List ℕ) → after literal bytes ≡ Some rest → bytes ≡ literal ++ rest
+after_takes [] bytes rest taken = cc
+after_takes (c ∷ cs) [] rest taken = absurd cc
+after_takes (c ∷ cs) (b ∷ bs) rest taken =
+    let parts = cond_taken (eqb b c) (after cs bs) rest taken in
+    let head = eqb-true b c parts.0 in
+    let tail = after_takes cs bs rest parts.1 in
+    cc
+
+-- the literal is taken again, whatever follows
+pub after_again : (literal rest : List ℕ) → after literal (literal ++ rest) ≡ Some rest
+after_again [] rest = refl
+after_again (c ∷ cs) rest = rw (eq-eqb c c refl) (after_again cs rest)

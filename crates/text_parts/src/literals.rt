@@ -1,0 +1,26 @@
+//! Fixed pieces of a canonical text.
+ghost use Rattle.std.specs.Prelude.{◌≡◌, codes, option_map, IfErr};
+ghost use Rattle.text_parts.specs.Readers.{Gives, after};
+
+use crate::unread::Unread;
+
+/// The bytes behind a literal, which has to stand at the front.
+pub fn after<'a>(literal: &[u8], bytes: &'a [u8]) -> Result<&'a [u8], Unread>
+    ensures read { Gives (λ rest. rest.now) result (after literal.now bytes.now) }
+    ensures no_memory { IfErr result (λ e. e ≡ Unread.Refused) }
+{
+    match bytes.strip_prefix(literal) {
+        Some(rest) => Ok(rest),
+        None => Err(Unread::Refused),
+    }
+}
+
+/// The bytes behind a comma, if one stands at the front.
+pub fn behind_comma(bytes: &[u8]) -> Option<&[u8]>
+    ensures { option_map (λ rest. rest.now) result ≡ after (codes ",") bytes.now }
+{
+    match bytes {
+        [b',', rest @ ..] => Some(rest),
+        _ => None,
+    }
+}
