@@ -108,7 +108,8 @@ def make(keep):
             it.write(toml)
 
 
-def main():
+def run(make, measure):
+    """What the arguments ask for: to make the inputs alone, or to make and measure them, in a folder or in none."""
     if not os.path.isfile(PROGRAM):
         sys.exit("run ./seat_cli --version first: the program is not built")
     if sys.argv[1:2] == ["--make"]:
@@ -146,4 +147,4 @@ def measure(keep):
 
 
 if __name__ == "__main__":
-    main()
+    run(make, measure)

@@ -9,7 +9,6 @@ import os
 import random
 import subprocess
 import sys
-import tempfile
 import time
 
 import join
@@ -89,17 +88,6 @@ def half(number, lines):
     return lines[: len(lines) // 2]
 
 
-def main():
-    if not os.path.isfile(join.PROGRAM):
-        sys.exit("run ./seat_cli --version first: the program is not built")
-    if sys.argv[1:2] == ["--make"]:
-        return make(sys.argv[2])
-    if len(sys.argv) > 1:
-        return measure(sys.argv[1])
-    with tempfile.TemporaryDirectory(prefix="seat_cli_bench_") as keep:
-        measure(keep)
-
-
 def measure(keep):
     subprocess.run([sys.executable, __file__, "--make", keep], check=True)
     print(f"{os.cpu_count()} cores of {join.processor()}, {time.strftime('%Y-%m-%d')}")
@@ -118,4 +106,4 @@ def measure(keep):
 
 
 if __name__ == "__main__":
-    main()
+    join.run(make, measure)
