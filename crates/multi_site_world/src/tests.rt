@@ -4,19 +4,24 @@ use admission_model::{Ask, Refusal, Reply};
 use merge_core::{Layout, RecordName, RecordSpec};
 use std::alloc::{AllocError, Global};
 
-// The layout of one record with two seats, which start at site 0.
-fn small_layout(alloc: Global, sites: u16) -> Option<Layout> {
+// The layout of one record with so many seats, which start at site 0.
+fn layout_of(alloc: Global, sites: u16, seats: u32, problem: u16) -> Option<Layout> {
     let name = RecordName::from_string(String::from_str(alloc, "a").ok()?);
     let mut records = Vec::new(alloc);
     records
         .push(RecordSpec {
             name,
-            seats: 2,
+            seats,
             home: 0,
-            problem: 1,
+            problem,
         })
         .ok()?;
     Layout::new(sites, records).ok()
+}
+
+// Two seats under problem 1.
+fn small_layout(alloc: Global, sites: u16) -> Option<Layout> {
+    layout_of(alloc, sites, 2, 1)
 }
 
 // Whether a seat that is given, told and taken admits a reader, also after the site has grown.
@@ -166,13 +171,14 @@ fn numbers(reply: &WorldReply) -> (u8, u64, u64) {
     }
 }
 
-// A writer at site 1 is heard of at site 0, gets its seats, enters and leaves; site 1 begins again; site 0 takes a
-// message thin.
-const STORY: [Event; 16] = [
+// A writer at site 1 is heard of at site 0, which lets no reader in and hands its seats over as they come back; the
+// writer enters, site 2 takes a message thin, site 1 begins again, and the writer leaves.
+const STORY: [Event; 18] = [
     Event::Call(1, Ask::Announce { r: 0, h: 5 }),
     Event::Call(0, Ask::Read { r: 0, h: 1 }),
     Event::Send(1),
     Event::Take(0, 0),
+    Event::Call(0, Ask::Read { r: 0, h: 2 }),
     Event::Call(0, Ask::Help { r: 0 }),
     Event::Send(0),
     Event::Take(1, 1),
@@ -180,8 +186,9 @@ const STORY: [Event; 16] = [
     Event::Call(0, Ask::Leave { r: 0, h: 1 }),
     Event::Call(0, Ask::Help { r: 0 }),
     Event::Send(0),
-    Event::Thin(1, 2, 1),
+    Event::Take(1, 2),
     Event::Call(1, Ask::Quill { r: 0, h: 5 }),
+    Event::Thin(2, 2, 1),
     Event::Restart(1),
     Event::Call(1, Ask::Leave { r: 0, h: 5 }),
     Event::Grow(0),
@@ -206,11 +213,11 @@ fn served(
 // Where a run that may find no memory once is not, without the events that did not find any, the run of the others:
 // the number of a reply, and what both runs answer.
 fn strayed(alloc: Global) -> Option<(usize, (u8, u64, u64), (u8, u64, u64))> {
-    let layout = small_layout(alloc, 2)?;
+    let layout = layout_of(alloc, 3, 3, 2)?;
     let copy = layout.try_copy(alloc).ok()?;
-    let (_, replies) = run_grown(alloc, layout, 1, &STORY).ok()?;
+    let (_, replies) = run_world(alloc, layout, &STORY).ok()?;
     let (events, told) = served(alloc, replies.as_slice()).ok()?;
-    let (_, again) = run_grown(alloc, copy, 1, events.as_slice()).ok()?;
+    let (_, again) = run_world(alloc, copy, events.as_slice()).ok()?;
     for (number, (reply, wanted)) in again.iter().zip(told.as_slice()).enumerate() {
         if matches!(reply, WorldReply::Memory) {
             return None; // it was this run that found none
