@@ -75,3 +75,7 @@ reply_text (Gave to seats) = codes "gave" ++ numbers_text (to ∷ seats ∷ [])
 reply_text (Merged risen) = codes "merged" ++ numbers_text (risen ∷ [])
 reply_text (Snapshot delta) = delta_text delta
 reply_text (Refused refusal) = refusal_text refusal
+
+-- the line that tells of the first line of a script that says nothing, counted from 1
+abbrev pub unread_line : ℕ → List ℕ
+unread_line number = (codes "line " ++ decimal number) ++ codes " refused BadWord\n"

@@ -7,7 +7,7 @@ ghost use Rattle.session_list.specs.declared.session.Phase.TheVariants.{Reader, 
 ghost use Rattle.admission_model.specs.declared.reply.Refusal.TheVariants.{NoRecord, WriterAnnounced, NoSeat, MissingSeats, TooFewRights, OtherLayout, BadRow, OwnRowAhead};
 ghost use Rattle.admission_model.specs.declared.reply.Reply.TheVariants.{Admitted, Announced, Left, Given, Gave, Merged, Snapshot, Refused};
 ghost use Rattle.script_text.specs.Words.{words_of, number_word, short_word, record_word};
-ghost use Rattle.script_text.specs.Replies.{phase_word, reply_text};
+ghost use Rattle.script_text.specs.Replies.{phase_word, reply_text, unread_line};
 ghost use Rattle.script_text.specs.Examples.{two_records, asked};
 
 /// Words and the numbers in them, with the greatest numbers of their kinds and the first beyond.
@@ -92,4 +92,5 @@ pub fn reply_examples()
     ensures other_layout { reply_text (Refused (OtherLayout 1)) ≡ codes "refused OtherLayout 1" }
     ensures bad_row { reply_text (Refused (BadRow 1)) ≡ codes "refused BadRow 1" }
     ensures own_row_ahead { reply_text (Refused (OwnRowAhead 2)) ≡ codes "refused OwnRowAhead 2" }
+    ensures unread { unread_line 3 ≡ codes "line 3 refused BadWord\n" }
 {}

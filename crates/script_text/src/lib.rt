@@ -2,7 +2,7 @@
 #![tactic(auto)]
 
 pub use asks::ask_in;
-pub use replies::{phase_name, push_refusal, push_reply, refusal_name};
+pub use replies::{phase_name, push_refusal, push_reply, push_unread_line, refusal_name};
 pub use words::{cut_word, number_word, record_word, short_word};
 
 mod asks;

@@ -1,6 +1,6 @@
 //! The texts of replies.
 ghost use Rattle.std.specs.Prelude.{◌≡◌, ◌++◌, ℕ, List, string_bytes, IfOk};
-ghost use Rattle.script_text.specs.Replies.{phase_word, left_text, refusal_name, refusal_numbers, numbers_text, refusal_text, reply_text};
+ghost use Rattle.script_text.specs.Replies.{phase_word, left_text, refusal_name, refusal_numbers, numbers_text, refusal_text, reply_text, unread_line};
 
 use admission_model::{Phase, Refusal, Reply};
 use delta_codec::push_delta;
@@ -105,4 +105,13 @@ pub fn push_reply(text: &mut String, reply: &Reply) -> Result<(), AllocError>
         Reply::Snapshot(delta) => push_delta(text, delta),
         Reply::Refused(refusal) => push_refusal(text, *refusal),
     }
+}
+
+/// Writes the line that tells of a line that says nothing, by its number from 1.
+pub fn push_unread_line(text: &mut String, number: u64) -> Result<(), AllocError>
+    ensures { IfOk result (λ _. string_bytes text.new ≡ string_bytes text.old ++ unread_line number) }
+{
+    push_field(text, "line ", number)?;
+    text.push_str(" refused BadWord\n")?;
+    Ok(())
 }

@@ -6,8 +6,9 @@ use Rattle.multi_site_world.specs.declared.event.Event.{Event}
 use Rattle.multi_site_world.specs.World.{World, start_world, run, replies}
 use Rattle.multi_site_world.specs.Worlds.{MayBeFirst}
 use Rattle.audit_report.specs.Tables.{seat_table, session_table}
+use Rattle.script_text.specs.Replies.{unread_line}
 use Rattle.world_script.specs.Events.{event_in}
-use Rattle.world_script.specs.Replies.{reply_lines, unread_line}
+use Rattle.world_script.specs.Replies.{reply_lines}
 use Rattle.world_script.specs.Played.{AreEvents}
 use Rattle.text_input.specs.declared.input.InputError.TheVariants.{TooLong}
 use Rattle.text_input.specs.Input.{ReadsInput, LosesSome, input_limit}

@@ -8,8 +8,9 @@ use Rattle.multi_site_world.specs.Worlds.{WorldState, StandsForWorld}
 use Rattle.multi_site_world.proofs.WorldCode.{run_more}
 use Rattle.multi_site_world.proofs.WorldRun.{replies_more}
 use Rattle.text_input.specs.Lines.{lines_of}
+use Rattle.script_text.specs.Replies.{unread_line}
 use Rattle.world_script.specs.Events.{event_in}
-use Rattle.world_script.specs.Replies.{reply_line, reply_lines, unread_line}
+use Rattle.world_script.specs.Replies.{reply_line, reply_lines}
 use Rattle.world_script.specs.Played.{AreEvents, PlaysAll, PlaysUpTo, PlaysEvent, PlaysNone, PlaysSoFar}
 
 map_more : {A B : Type 0} (f : A → B) (xs : List A) (x : A) → map f (xs ++ x ∷ []) ≡ map f xs ++ f x ∷ []

@@ -2,11 +2,12 @@
 -- them.
 use Rattle.std.specs.Prelude.{◌≡◌, ℕ, ◌+◌, Bool, true, false, List, [], ◌∷◌, ◌++◌, length, map, Option, Some, None}
 use Rattle.merge_core.specs.declared.layout.RecordSpec.{RecordSpec}
+use Rattle.script_text.specs.Replies.{unread_line}
 use Rattle.multi_site_world.specs.declared.event.Event.{Event}
 use Rattle.multi_site_world.specs.World.{World, happens, run, replies, world_reply}
 use Rattle.multi_site_world.specs.Worlds.{WorldState, StandsForWorld}
 use Rattle.world_script.specs.Events.{event_in}
-use Rattle.world_script.specs.Replies.{reply_line, reply_lines, unread_line}
+use Rattle.world_script.specs.Replies.{reply_line, reply_lines}
 
 -- each line says an event; these are they, in order
 abbrev pub AreEvents : List RecordSpec → List (List ℕ) → List Event → Type 0

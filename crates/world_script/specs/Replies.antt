@@ -21,7 +21,3 @@ reply_line reply = world_reply_text reply ++ 10 ∷ []
 abbrev pub reply_lines : List WorldReply → List ℕ
 reply_lines [] = []
 reply_lines (reply ∷ rest) = reply_line reply ++ reply_lines rest
-
--- the line that tells of the first line of a script that says no event, counted from 1
-abbrev pub unread_line : ℕ → List ℕ
-unread_line number = (codes "line " ++ decimal number) ++ codes " refused BadWord\n"

@@ -8,7 +8,7 @@ ghost use Rattle.script_text.specs.Examples.{two_records};
 ghost use Rattle.multi_site_world.specs.declared.event.Event.TheVariants.{Call, Send, Take, Restart, Grow};
 ghost use Rattle.multi_site_world.specs.declared.event.WorldReply.TheVariants.{Core, Sent, Restarted, Grown, NoSite, NoMessage, NoGrowth};
 ghost use Rattle.world_script.specs.Events.{event_in};
-ghost use Rattle.world_script.specs.Replies.{reply_lines, unread_line};
+ghost use Rattle.world_script.specs.Replies.{reply_lines};
 
 /// Lines and what they say, where `a` and `stock-2` are records 0 and 1.
 pub fn event_examples()
@@ -43,5 +43,4 @@ pub fn reply_examples()
     ensures lines { reply_lines (Core Admitted ∷ (Core (Refused (NoSeat 0)) ∷ (Sent 2 ∷ []))) ≡ codes "admitted\nrefused NoSeat 0\nsent 2\n" }
     ensures started { reply_lines (Restarted ∷ (Grown ∷ [])) ≡ codes "restarted\ngrown\n" }
     ensures refusals { reply_lines (NoSite ∷ (NoMessage ∷ (NoGrowth ∷ []))) ≡ codes "refused NoSite\nrefused NoMessage\nrefused NoGrowth\n" }
-    ensures unread { unread_line 3 ≡ codes "line 3 refused BadWord\n" }
 {}

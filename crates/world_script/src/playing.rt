@@ -6,8 +6,9 @@ ghost use Rattle.multi_site_world.specs.Worlds.{StandsForWorld, is_wanting};
 ghost use Rattle.world_script.specs.Played.{Plays, PlaysLine};
 
 use crate::events::event_in;
-use crate::replies::{push_reply_line, push_unread_line};
+use crate::replies::push_reply_line;
 use multi_site_world::{World, WorldReply};
+use script_text::push_unread_line;
 use std::alloc::{AllocError, Global};
 use text_input::cut_line;
 

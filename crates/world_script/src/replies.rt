@@ -1,6 +1,6 @@
 //! Replies of a world as lines.
 ghost use Rattle.std.specs.Prelude.{◌≡◌, ◌++◌, string_bytes, IfOk};
-ghost use Rattle.world_script.specs.Replies.{world_reply_text, reply_line, unread_line};
+ghost use Rattle.world_script.specs.Replies.{world_reply_text, reply_line};
 
 use multi_site_world::WorldReply;
 use script_text::push_reply;
@@ -28,13 +28,4 @@ fn push_world_reply(text: &mut String, reply: &WorldReply) -> Result<(), AllocEr
         WorldReply::NoGrowth => text.push_str("refused NoGrowth"),
         WorldReply::Memory => text.push_str("refused Memory"),
     }
-}
-
-/// Writes the line that tells of a line that says no event.
-pub fn push_unread_line(text: &mut String, number: u64) -> Result<(), AllocError>
-    ensures { IfOk result (λ _. string_bytes text.new ≡ string_bytes text.old ++ unread_line number) }
-{
-    push_field(text, "line ", number)?;
-    text.push_str(" refused BadWord\n")?;
-    Ok(())
 }

@@ -36,3 +36,6 @@ returns-clause-bad_row c = rw one_written refl
 
 pub returns-clause-own_row_ahead : goal.returns-clause-own_row_ahead
 returns-clause-own_row_ahead c = rw two_written refl
+
+pub returns-clause-unread : goal.returns-clause-unread
+returns-clause-unread c = rw three_written refl

@@ -1,9 +1,6 @@
 use Rattle.std.proofs.Common.{refl}
-use Rattle.script_text.proofs.ExampleLemmas.{zero_written, two_written, three_written}
+use Rattle.script_text.proofs.ExampleLemmas.{zero_written, two_written}
 use Rattle.world_script.proofs.laws.reply_examples.Goals as goal
 
 pub returns-clause-lines : goal.returns-clause-lines
 returns-clause-lines c = rw (zero_written, two_written) refl
-
-pub returns-clause-unread : goal.returns-clause-unread
-returns-clause-unread c = rw three_written refl

@@ -1,0 +1,76 @@
+//! Want of memory at each call of a keeper and a desk. These tests pass with ample memory and with any one allocation
+//! refused: what then finds no memory has changed nothing.
+use crate::Desk;
+use crate::tests::desks::{
+    Told, ask, cell, database, in_memory, is_part, keeper_over, over, read, reader,
+};
+use admission_core::Durable;
+use site_store::{Keeper, KeeperError, OpenError};
+use sqlite::{Connection, MemStore};
+use std::alloc::Global;
+
+/// What a keeper keeps, asked once more where it finds no memory; nothing where its store has failed.
+fn kept<K: Keeper>(alloc: Global, keeper: &mut K) -> Option<Durable> {
+    match keeper.load(alloc) {
+        Ok(durable) => Some(durable),
+        Err(KeeperError::Memory) => keeper.load(alloc).ok(),
+        Err(KeeperError::StoreFault) => None,
+    }
+}
+
+/// Whether a desk admits a reader and keeps that, or finds no memory and keeps nothing.
+fn admits_or_keeps_nothing<K: Keeper + Drop>(alloc: Global, desk: Desk<K>) -> bool {
+    let mut desk = desk;
+    let told = ask(&mut desk, read(7));
+    let mut keeper = desk.into_keeper();
+    match (told, kept(alloc, &mut keeper)) {
+        (Told::Admitted, Some(durable)) => is_part(&durable, &[cell(200, 1)], &[reader(7)]),
+        (Told::Memory, Some(durable)) => is_part(&durable, &[], &[]),
+        _ => false,
+    }
+}
+
+/// Whether a connection is opened as a store, or for want of memory not, and is opened then.
+fn opens_now_or_then(alloc: Global, connection: Connection<MemStore>, sites: u16) -> Option<bool> {
+    match keeper_over(alloc, connection, sites)? {
+        Ok(_) => Some(true),
+        Err((OpenError::Memory, back)) => Some(keeper_over(alloc, back, sites)?.is_ok()),
+        Err(_) => Some(false),
+    }
+}
+
+/// The connection of a store with one reader.
+fn with_reader(alloc: Global) -> Option<Connection<MemStore>> {
+    let mut desk = over(alloc, database(alloc)?, 2)?;
+    match ask(&mut desk, read(7)) {
+        Told::Admitted => Some(desk.into_keeper().into_connection()),
+        _ => None,
+    }
+}
+
+#[test]
+fn a_store_is_made_or_not_for_want_of_memory(rt: HostRuntime) {
+    let alloc = rt.alloc();
+    let made = database(alloc).and_then(|connection| opens_now_or_then(alloc, connection, 2));
+    assert_ne!(rt; made, Some(false));
+}
+
+#[test]
+fn a_store_is_found_or_not_for_want_of_memory(rt: HostRuntime) {
+    let alloc = rt.alloc();
+    let same = with_reader(alloc).and_then(|connection| opens_now_or_then(alloc, connection, 2));
+    assert_ne!(rt; same, Some(false));
+    let grown = with_reader(alloc).and_then(|connection| opens_now_or_then(alloc, connection, 3));
+    assert_ne!(rt; grown, Some(false));
+}
+
+#[test]
+fn a_reader_is_admitted_or_not_for_want_of_memory(rt: HostRuntime) {
+    let alloc = rt.alloc();
+    let memory = in_memory(alloc).map(|desk| admits_or_keeps_nothing(alloc, desk));
+    assert_ne!(rt; memory, Some(false));
+    let stored = database(alloc)
+        .and_then(|connection| over(alloc, connection, 2))
+        .map(|desk| admits_or_keeps_nothing(alloc, desk));
+    assert_ne!(rt; stored, Some(false));
+}

@@ -1,0 +1,119 @@
+//! What desks leave in their keepers, and what a store without a place for one more session does.
+use crate::Desk;
+use crate::tests::desks::{
+    Told, ask, cell, database, in_memory, is_part, layout, leave, over, read, reader,
+};
+use site_store::{Keeper, OpenError, SqlKeeper};
+use sqlite::{Connection, MemStore};
+use std::alloc::Global;
+
+/// Whether a keeper keeps one reader and the count of one seat taken.
+fn keeps_one<K: Keeper>(alloc: Global, keeper: &mut K) -> Option<bool> {
+    let durable = keeper.load(alloc).ok()?;
+    Some(is_part(&durable, &[cell(200, 1)], &[reader(7)]))
+}
+
+/// Whether a desk admits a reader, and its keeper keeps just that.
+fn one_read<K: Keeper + Drop>(alloc: Global, mut desk: Desk<K>) -> Option<(bool, K)> {
+    let admitted = ask(&mut desk, read(7)) == Told::Admitted;
+    let mut keeper = desk.into_keeper();
+    let kept = keeps_one(alloc, &mut keeper)?;
+    Some((admitted && kept && keeper.faults() == 0, keeper))
+}
+
+/// The store of a site with one reader.
+fn one_reader(alloc: Global) -> Option<Connection<MemStore>> {
+    let (kept, keeper) = one_read(alloc, over(alloc, database(alloc)?, 2)?)?;
+    if kept {
+        Some(keeper.into_connection())
+    } else {
+        None
+    }
+}
+
+/// Why that store is refused after a statement, at this site and with this many sites; `None` where it is opened.
+fn refusal_after(alloc: Global, text: &str, sites: u16, site: u16) -> Option<Option<OpenError>> {
+    let mut connection = one_reader(alloc)?;
+    connection.execute_batch(text).ok()?;
+    let layout = layout(alloc, sites, 1)?;
+    if !connection.is_autocommit() {
+        return None;
+    }
+    Some(match SqlKeeper::open(alloc, connection, &layout, site) {
+        Ok(_) => None,
+        Err((error, _)) => Some(error),
+    })
+}
+
+#[test]
+fn keepers_of_both_kinds_keep_the_same(rt: HostRuntime) {
+    let alloc = rt.alloc();
+    let memory = in_memory(alloc).and_then(|desk| one_read(alloc, desk));
+    assert_eq!(rt; memory.map(|pair| pair.0), Some(true));
+    assert!(rt; one_reader(alloc).is_some());
+}
+
+#[test]
+fn a_store_with_a_reader_is_judged(rt: HostRuntime) {
+    let alloc = rt.alloc();
+    assert_eq!(rt; refusal_after(alloc, "", 2, 0), Some(None));
+    assert_eq!(rt; refusal_after(alloc, "", 3, 0), Some(None));
+    assert_eq!(rt;
+        refusal_after(alloc, "", 2, 1),
+        Some(Some(OpenError::WrongSite))
+    );
+    assert_eq!(rt;
+        refusal_after(alloc, "", 1, 0),
+        Some(Some(OpenError::WrongLayout))
+    );
+    assert_eq!(rt;
+        refusal_after(
+            alloc,
+            "UPDATE meta SET value = '9' WHERE name = 'version'",
+            2,
+            0
+        ),
+        Some(Some(OpenError::BadStore))
+    );
+    assert_eq!(rt;
+        refusal_after(
+            alloc,
+            "DROP TABLE cells; CREATE TABLE cells (x INTEGER)",
+            2,
+            0
+        ),
+        Some(Some(OpenError::BadStore))
+    );
+    assert_eq!(rt;
+        refusal_after(alloc, "CREATE TABLE other (x INTEGER)", 2, 0),
+        Some(None)
+    );
+}
+
+/// What a desk answers to a second reader and to the first one's leave, where the first one's place is set so, and who is
+/// inside once the store is opened again.
+fn at_place(alloc: Global, place: &str) -> Option<(Told, Told, u64)> {
+    let mut connection = one_reader(alloc)?;
+    connection.execute_batch(place).ok()?;
+    let mut desk = over(alloc, connection, 2)?;
+    let entered = ask(&mut desk, read(8));
+    let left = ask(&mut desk, leave(7));
+    let again = over(alloc, desk.into_keeper().into_connection(), 2)?;
+    match again.first().sessions() {
+        [session] => Some((entered, left, session.h)),
+        _ => None,
+    }
+}
+
+#[test]
+fn a_session_without_a_place_stops_the_desk(rt: HostRuntime) {
+    let alloc = rt.alloc();
+    assert_eq!(rt;
+        at_place(alloc, "UPDATE sessions SET place = 4611686018427387903"),
+        Some((Told::Admitted, Told::Left, 8))
+    );
+    assert_eq!(rt;
+        at_place(alloc, "UPDATE sessions SET place = 4611686018427387904"),
+        Some((Told::StoreFault, Told::Frozen, 7))
+    );
+}

@@ -1,0 +1,4 @@
+pub mod AnswerLemmas
+pub mod StepLemmas
+pub mod LineLemmas
+pub mod LawLemmas

@@ -1,0 +1,42 @@
+-- A script on the way: what was answered so far, and one line more (no public contract cites these).
+use Rattle.std.specs.Prelude.{◌≡◌, ℕ, Bool, true, false, List, [], ◌∷◌, ◌++◌, length, Some, None}
+use Rattle.merge_core.specs.declared.layout.RecordSpec.{RecordSpec}
+use Rattle.admission_model.specs.Account.{Account}
+use Rattle.script_text.specs.Replies.{unread_line}
+use Rattle.desk_log.specs.Desk.{DeskState, account_of, is_frozen}
+use Rattle.site_script.specs.declared.lines.Said.{Said}
+use Rattle.site_script.specs.Lines.{Says}
+use Rattle.site_script.specs.Served.{places_after, places_of, IsServed, IsStopped, AnswersAll}
+
+-- the answers of a desk that still serves, or has stopped, with its account b and so many places now
+abbrev pub AnsweredAs : Bool → Account → ℕ → Account → ℕ → List Said → List ℕ → Type 0
+AnsweredAs false a left b now said text = IsServed a left b said text × (now ≡ places_after left said)
+AnsweredAs true a left b now said text = IsStopped a left b said text
+
+-- a desk has answered what was said by this text, from an account and with so many places in the log
+abbrev pub HasAnswered : {K : Type 0} → Account → ℕ → DeskState K → List Said → List ℕ → Type 0
+HasAnswered a left d said text = AnsweredAs (is_frozen d) a left (account_of d) (places_of d) said text
+
+-- so many lines are answered, and the rest is still to come
+pub record AnsweredSoFar (A : List Said → List ℕ → Type 0) (records : List RecordSpec) (lines rest : List (List ℕ)) (number : ℕ) (text : List ℕ) : Type 0 where
+  pub before : List (List ℕ)
+  pub split : lines ≡ before ++ rest
+  pub counted : length before ≡ number
+  pub answers : AnswersAll A records before text
+
+-- a line that says something: with it, what was answered before stays answered
+pub record AnswersLine (A B : List Said → List ℕ → Type 0) (records : List RecordSpec) (line old new : List ℕ) : Type 0 where
+  pub said : Said
+  pub read : Says records line (Some said)
+  pub answered : (before : List Said) → A before old → B (before ++ said ∷ []) new
+
+-- a line that says nothing, which is told with its number
+pub record AnswersNone (A B : List Said → List ℕ → Type 0) (records : List RecordSpec) (line : List ℕ) (number : ℕ) (old new : List ℕ) : Type 0 where
+  pub unread : Says records line None
+  pub text_is : new ≡ old ++ unread_line number
+  pub still : (said : List Said) → A said old → B said old
+
+-- one of the two
+abbrev pub AnswersOne : (List Said → List ℕ → Type 0) → (List Said → List ℕ → Type 0) → List RecordSpec → List ℕ → ℕ → Bool → List ℕ → List ℕ → Type 0
+AnswersOne A B records line number true old new = AnswersLine A B records line old new
+AnswersOne A B records line number false old new = AnswersNone A B records line number old new

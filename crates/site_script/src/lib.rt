@@ -1,0 +1,11 @@
+//! The script of one site: each line is a call that its desk serves, and is answered by a line.
+#![tactic(auto)]
+
+pub use lines::{Said, said_in};
+pub use serving::{Served, serve_script};
+
+pub mod laws;
+mod lines;
+mod serving;
+#[cfg(test)]
+mod tests;

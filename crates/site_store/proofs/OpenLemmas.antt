@@ -1,0 +1,135 @@
+-- What the opening of a store comes to.
+use Rattle.std.proofs.Common.{◌≡◌, ◌⊎◌, ℕ, inl, inr, refl, sym, ap, subst, List, ◌∙◌, decimal, Option, Some, None, Result, Ok, Err, IfOk}
+use Rattle.std.proofs.lemmas.Option.{none-some, same_Some}
+use Rattle.std.proofs.Math.Logic.{∥∥₁_map}
+use Rattle.sqlite_trees.specs.Tree.{Trees}
+use Rattle.sqlite_trees.specs.declared.store.Store.{Ghosts}
+use Rattle.sqlite.specs.State.{HasCleanDisk}
+use Rattle.sqlite.specs.Held.{Held, state}
+use Rattle.merge_core.specs.Layout.{LayoutState}
+use Rattle.layout_line.specs.declared.Line.{Line}
+use Rattle.layout_line.specs.declared.Line.TheVariants as lines
+use Rattle.layout_line.specs.Line.{IsLine, line_of}
+use Rattle.store_schema.specs.declared.Version.{Version}
+use Rattle.store_schema.specs.declared.Version.TheVariants.{Second}
+use Rattle.store_rows.specs.Rows.{Stored}
+use Rattle.store_rows.specs.Changes.{renewed}
+use Rattle.store_rows.specs.Holding.{Keeps, KeepsEither, KeepsNothing, Leaves, Holds, HoldsNothing}
+use Rattle.store_tables.specs.Transacts.{made}
+use Rattle.store_content.specs.Content.{IsContent}
+use Rattle.store_content.specs.declared.index.Index.{Index}
+use Rattle.store_content.specs.Known.{Knows}
+use Rattle.store_tables.specs.declared.error.TableError.{TableError}
+use Rattle.store_tables.specs.declared.error.TableError.TheVariants as tables
+use Rattle.store_tables.proofs.KeepLemmas.{leaves_first}
+use Rattle.site_store.specs.declared.error.OpenError.{OpenError}
+use Rattle.site_store.specs.declared.error.OpenError.TheVariants as opening
+use Rattle.site_store.specs.Errors.{open_error}
+use Rattle.site_store.specs.Opened.{Fits, IsFor, IsSound, IsLeft, IsLeftBlank, IsReady, IsRefused, IsRefusedBlank, Readies, ReadiesBlank}
+
+-- a line that is not another's is that of the layout or of an earlier one
+pub fits_of : (layout : LayoutState) (i : ℕ) (it : Stored) (line : Line) → (line ≡ lines.Other → ⊥) → IsLine layout i it.layout line → Fits layout i it
+fits_of layout i it lines.Same other is = inl is
+fits_of layout i it lines.Earlier other is = inr is
+fits_of layout i it lines.Other other is = absurd (other refl)
+
+-- a content that is as it is to be is not changed
+pub as_renewed : (line : List ℕ) (it : Stored) → it.version ≡ Second → it.layout ≡ line → renewed line it ≡ it
+as_renewed line it second same =
+    ap (λ (v : Version). record it { version = v; layout = line }) (sym second) ∙ ap (λ (l : List ℕ). record it { layout = l }) (sym same)
+
+-- a new store has the content of a site
+pub made_content : (site line : List ℕ) → IsContent (made site line)
+made_content site line = record {
+  rows = record { cells_rise = _; slots = _; notices_rise = _; notices = _; sessions_rise = _; places = _ };
+  once = _;
+}
+
+-- and what is renewed keeps it
+pub renewed_content : (line : List ℕ) (it : Stored) → IsContent it → IsContent (renewed line it)
+renewed_content line it h = record {
+  rows = record { cells_rise = h.rows.cells_rise; slots = h.rows.slots; notices_rise = h.rows.notices_rise; notices = h.rows.notices; sessions_rise = h.rows.sessions_rise; places = h.rows.places };
+  once = h.once;
+}
+
+pub renewed_known : (line : List ℕ) (it : Stored) (index : Index) → Knows index it → Knows index (renewed line it)
+renewed_known line it index h = record { places = h.places; notices = h.notices; unique = h.unique; greatest = h.greatest }
+
+module _ {S : Type 0} (g : Ghosts S) (c : Held S) where
+  -- what is left needs to be shown of an honest device alone
+  pub if_honest : (P : Trees → Type 0) → (HasCleanDisk (state g c) → Leaves g c P) → Leaves g c P
+  if_honest P h = record { left = λ clean db left. (h clean).left clean db left }
+
+  pub twice : (it : Stored) → Keeps g c it → KeepsEither g c it it
+  twice it keeps = record { left = λ clean db left. ∥∥₁_map (keeps.left clean db left) (λ h. inl h) }
+
+  -- a content of this site is ready once it is renewed and kept
+  pub is_ready : (layout : LayoutState) (i : ℕ) (it content : Stored) (index : Index) → (HasCleanDisk (state g c) → content ≡ it) → IsFor layout i content → Knows index content
+      → (HasCleanDisk (state g c) → Keeps g c (renewed (line_of layout) it)) → IsReady g layout i it c index
+  is_ready layout i it content index found fits knows kept =
+      let line = line_of layout in
+      let is_for : HasCleanDisk (state g c) → IsFor layout i it = λ clean. subst (IsFor layout i) (found clean) fits in
+      record {
+        fits = is_for;
+        stores = λ clean. record {
+          own = record { second = refl; its_site = (is_for clean).its_site; its_layout = refl; content = renewed_content line it (is_for clean).content };
+          kept = kept clean;
+          known = renewed_known line it index (subst (Knows index) (found clean) knows);
+        };
+      }
+
+  -- a refusal of the tables
+  pub refused : (layout : LayoutState) (i : ℕ) (it : Stored) (e : TableError) → (e ≡ tables.BadStore → HasCleanDisk (state g c) → ¬ IsSound it) → Keeps g c it → IsRefused g layout i it c (open_error e)
+  refused layout i it tables.BadStore bad keeps = record { cause = bad refl; left = keeps }
+  refused layout i it tables.Memory bad keeps = record { cause = λ _. _; left = keeps }
+  refused layout i it tables.StoreFault bad keeps = record { cause = λ _. _; left = leaves_first g c (Holds it) (Holds (renewed (line_of layout) it)) keeps }
+
+  pub refused_blank : (layout : LayoutState) (i : ℕ) (e : TableError) → (e ≡ tables.BadStore → HasCleanDisk (state g c) → ⊥) → KeepsNothing g c → IsRefusedBlank g layout i c (open_error e)
+  refused_blank layout i tables.BadStore bad keeps = record { cause = bad refl; left = keeps }
+  refused_blank layout i tables.Memory bad keeps = record { cause = λ _. _; left = keeps }
+  refused_blank layout i tables.StoreFault bad keeps = record { cause = λ _. _; left = leaves_first g c HoldsNothing (Holds (made (decimal i) (line_of layout))) keeps }
+
+  -- nothing needs to be shown of a device that can't be honest
+  module _ (never : HasCleanDisk (state g c) → ⊥) where
+    leaves_any : (P : Trees → Type 0) → Leaves g c P
+    leaves_any P = record { left = λ clean db left. absurd (never clean) }
+
+    left_any : (layout : LayoutState) (it : Stored) (e : OpenError) → IsLeft g layout it c e
+    left_any layout it opening.BadStore = leaves_any (Holds it)
+    left_any layout it opening.WrongSite = leaves_any (Holds it)
+    left_any layout it opening.WrongLayout = leaves_any (Holds it)
+    left_any layout it opening.StoreFault = leaves_any (λ db. Holds it db ⊎ Holds (renewed (line_of layout) it) db)
+    left_any layout it opening.Memory = leaves_any (Holds it)
+
+    left_blank_any : (layout : LayoutState) (i : ℕ) (e : OpenError) → IsLeftBlank g layout i c e
+    left_blank_any layout i opening.BadStore = leaves_any HoldsNothing
+    left_blank_any layout i opening.WrongSite = leaves_any HoldsNothing
+    left_blank_any layout i opening.WrongLayout = leaves_any HoldsNothing
+    left_blank_any layout i opening.StoreFault = leaves_any (λ db. HoldsNothing db ⊎ Holds (made (decimal i) (line_of layout)) db)
+    left_blank_any layout i opening.Memory = leaves_any HoldsNothing
+
+    pub readies_any : (layout : LayoutState) (i : ℕ) (it : Stored) (r : Result Index OpenError) → Readies g layout i it c r
+    readies_any layout i it (Ok index) = record { fits = λ clean. absurd (never clean); stores = λ clean. absurd (never clean) }
+    readies_any layout i it (Err e) = record { cause = λ clean. absurd (never clean); left = left_any layout it e }
+
+    pub readies_blank_any : (layout : LayoutState) (i : ℕ) (r : Result Index OpenError) → ReadiesBlank g layout i c r
+    readies_blank_any layout i (Ok index) = λ clean. absurd (never clean)
+    readies_blank_any layout i (Err e) = record { cause = λ clean. absurd (never clean); left = left_blank_any layout i e }
+
+  -- one of two contents was kept, and a look found it or none
+  module _ (layout : LayoutState) (i : ℕ) (a b : Stored) (P Q C : Type 0) (early : HasCleanDisk (state g c) → C) where
+    pub settled_none : (t : Option Stored) → t ≡ None → (r : Result Index OpenError) → ∥ (P × (C → t ≡ Some a)) ⊎ (Q × (C → t ≡ Some b)) ∥₁
+        → IfOk r (λ index. ∥ IsReady g layout i a c index ⊎ IsReady g layout i b c index ∥₁)
+    settled_none t none (Err e) found = _
+    settled_none t none (Ok index) found = ∥∥₁_map found (λ f. elim f [
+      | inl x ↦ inl (readies_any (λ clean. none-some a (sym none ∙ x.1 (early clean))) layout i a (Ok index))
+      | inr y ↦ inr (readies_any (λ clean. none-some b (sym none ∙ y.1 (early clean))) layout i b (Ok index))
+    ])
+
+    pub settled : (t : Option Stored) (content : Stored) → t ≡ Some content → (r : Result Index OpenError) → (P → (C → content ≡ a) → Readies g layout i a c r) → (Q → (C → content ≡ b) → Readies g layout i b c r)
+        → ∥ (P × (C → t ≡ Some a)) ⊎ (Q × (C → t ≡ Some b)) ∥₁ → IfOk r (λ index. ∥ IsReady g layout i a c index ⊎ IsReady g layout i b c index ∥₁)
+    settled t content is (Err e) first second found = _
+    settled t content is (Ok index) first second found = ∥∥₁_map found (λ f. elim f [
+      | inl x ↦ inl (first x.0 (λ clean. same_Some content a (sym is ∙ x.1 clean)))
+      | inr y ↦ inr (second y.0 (λ clean. same_Some content b (sym is ∙ y.1 clean)))
+    ])

@@ -1,0 +1,33 @@
+use Rattle.std.proofs.Common.{◌≡◌, Option, IfSome, Result, Err, ap, sym, subst, arith}
+use Rattle.sqlite.specs.Held.{Held}
+use Rattle.store_rows.specs.Holding.{Keeps}
+use Rattle.store_tables.specs.declared.error.TableError.{TableError}
+use Rattle.store_tables.specs.Kept.{connection_of}
+use Rattle.store_content.specs.Plan.{RowsState, Makes}
+use Rattle.site_store.specs.Errors.{keeper_error}
+use Rattle.site_store.specs.declared.error.KeeperError.TheVariants.{StoreFault}
+use Rattle.site_store.proofs.SqlLemmas.{fault_is, unchanged, takes_rows, in_doubt}
+use Rattle.site_store.proofs.sql.commit_rows.Goals as goal
+
+abbrev error : TableError → Result (Unit {0}) TableError
+error e = Err e
+
+pub returns-in_default-clause-fault : goal.returns-in_default-clause-fault
+returns-in_default-clause-fault g c layout i it stores fault =
+    unchanged g.S.Store (connection_of c.stop.new.self) layout i c.args.change.now it stores.own
+    (subst (λ (h : Held g.row.S.Denot). Keeps g.S.Store h it) (sym c.stop.ensures.connection) stores.kept)
+
+pub returns-then-not-are_rows-clause-fault : goal.returns-then-not-are_rows-clause-fault
+returns-then-not-are_rows-clause-fault g c layout i it stores fault =
+    unchanged g.S.Store (connection_of c.stop-then-not-are_rows.new.self) layout i c.args.change.now it stores.own
+    (subst (λ (h : Held g.row.S.Denot). Keeps g.S.Store h it) (sym c.stop-then-not-are_rows.ensures.connection) stores.kept)
+
+pub returns-in-Err-clause-fault : goal.returns-in-Err-clause-fault
+returns-in-Err-clause-fault g c layout i it stores fault =
+    let conn = connection_of c.put.new.tables in
+    let told : keeper_error c.in-Err.error ≡ StoreFault = grind (arith, fault, c.from.ensures) in
+    let is = fault_is c.in-Err.error (λ e. c.in-Err.ensures.kind (ap error e)) told in
+    let makes : Makes c.args.change.now it c.in-Some.rows =
+    subst (λ (o : Option RowsState). IfSome o (Makes c.args.change.now it)) c.in-Some.is (c.in_ok-rows.ensures.law it stores.known stores.own.content c.requires.tellable) in
+    in_doubt g.S.Store conn layout i c.args.change.now it stores.own c.in-Some.rows makes
+    (c.in-Err.ensures.either it (takes_rows layout i it c.args.change.now c.in-Some.rows stores.own makes) stores.kept (ap error is))

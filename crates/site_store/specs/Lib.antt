@@ -1,0 +1,4 @@
+pub mod Errors
+pub mod Memory
+pub mod Opened
+pub mod Sql

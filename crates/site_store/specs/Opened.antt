@@ -1,0 +1,121 @@
+-- What the opening of a store comes to.
+use Rattle.std.specs.Prelude.{◌≡◌, ◌≢◌, ◌⊎◌, ℕ, decimal, Result, Ok, Err, ⊤}
+use Rattle.sqlite_trees.specs.declared.store.Store.{Ghosts}
+use Rattle.sqlite.specs.State.{HasCleanDisk}
+use Rattle.sqlite.specs.Held.{Held, state}
+use Rattle.merge_core.specs.Layout.{LayoutState}
+use Rattle.layout_line.specs.declared.Line.{Line}
+use Rattle.layout_line.specs.declared.Line.TheVariants as lines
+use Rattle.layout_line.specs.Line.{line_of, IsLine}
+use Rattle.store_rows.specs.Rows.{Stored}
+use Rattle.store_rows.specs.Changes.{renewed}
+use Rattle.store_rows.specs.Holding.{Keeps, KeepsEither, KeepsNothing, KeepsNothingOr}
+use Rattle.store_tables.specs.Transacts.{made}
+use Rattle.store_tables.specs.Reads.{IsInRange}
+use Rattle.store_content.specs.declared.index.Index.{Index}
+use Rattle.store_content.specs.Content.{IsContent, durable_in}
+use Rattle.store_content.specs.Known.{Knows}
+use Rattle.store_content.specs.Keeping.{nothing_kept}
+use Rattle.site_store.specs.declared.error.OpenError.{OpenError}
+use Rattle.site_store.specs.declared.error.OpenError.TheVariants.{BadStore, WrongSite, WrongLayout, StoreFault, Memory}
+use Rattle.site_store.specs.declared.sql.SqlKeeper.{SqlKeeper}
+use Rattle.site_store.specs.Sql.{Stores, KeepsPart, layout_of, site_of, faults_of, is_honest}
+
+-- a layout line is that of a layout, or of an earlier one that has the site
+abbrev pub Fits : LayoutState → ℕ → Stored → Type 0
+Fits layout i it = IsLine layout i it.layout lines.Same ⊎ IsLine layout i it.layout lines.Earlier
+
+-- a content is one that a keeper of a site takes
+pub record IsFor (layout : LayoutState) (i : ℕ) (it : Stored) : Type 0 where
+  pub content : IsContent it
+  pub its_site : it.site ≡ decimal i
+  pub its_layout : Fits layout i it
+
+-- a content is one that some site's store has: its numbers are such as the tables take, and it is that of a site
+pub record IsSound (it : Stored) : Type 0 where
+  pub in_range : IsInRange it
+  pub content : IsContent it
+
+-- why a store is refused: the first of these that is so, where no call of the device was refused
+abbrev pub IsCause : LayoutState → ℕ → Stored → OpenError → Type 0
+IsCause layout i it BadStore = ¬ IsSound it
+IsCause layout i it WrongSite = IsContent it × (it.site ≢ decimal i)
+IsCause layout i it WrongLayout = IsContent it × ((it.site ≡ decimal i) × IsLine layout i it.layout lines.Other)
+IsCause layout i it StoreFault = ⊤
+IsCause layout i it Memory = ⊤
+
+-- an empty database is refused by the device alone
+abbrev pub IsDeviceCause : OpenError → Type 0
+IsDeviceCause BadStore = ⊥
+IsDeviceCause WrongSite = ⊥
+IsDeviceCause WrongLayout = ⊥
+IsDeviceCause StoreFault = ⊤
+IsDeviceCause Memory = ⊤
+
+-- a content was judged: it is one of this site, with its index and how its line compares; or why not
+abbrev pub IsJudged : LayoutState → ℕ → Stored → Result (Index × Line) OpenError → Type 0
+IsJudged layout i it (Ok x) = IsFor layout i it × (Knows x.0 it × IsLine layout i it.layout x.1)
+IsJudged layout i it (Err e) = IsCause layout i it e × (e ≢ StoreFault)
+
+module _ {S : Type 0} (g : Ghosts S) where
+  -- what a connection keeps after a refusal: what it kept, or after a fault perhaps the content that was to come
+  abbrev pub IsLeft : LayoutState → Stored → Held S → OpenError → Type 0
+  IsLeft layout it c StoreFault = KeepsEither g c it (renewed (line_of layout) it)
+  IsLeft layout it c BadStore = Keeps g c it
+  IsLeft layout it c WrongSite = Keeps g c it
+  IsLeft layout it c WrongLayout = Keeps g c it
+  IsLeft layout it c Memory = Keeps g c it
+
+  -- the same of a database without tables
+  abbrev pub IsLeftBlank : LayoutState → ℕ → Held S → OpenError → Type 0
+  IsLeftBlank layout i c StoreFault = KeepsNothingOr g c (made (decimal i) (line_of layout))
+  IsLeftBlank layout i c BadStore = KeepsNothing g c
+  IsLeftBlank layout i c WrongSite = KeepsNothing g c
+  IsLeftBlank layout i c WrongLayout = KeepsNothing g c
+  IsLeftBlank layout i c Memory = KeepsNothing g c
+
+  -- a store with a content was refused
+  pub record IsRefused (layout : LayoutState) (i : ℕ) (it : Stored) (c : Held S) (e : OpenError) : Type 0 where
+    pub cause : HasCleanDisk (state g c) → IsCause layout i it e
+    pub left : IsLeft layout it c e
+
+  -- a database without tables was refused
+  pub record IsRefusedBlank (layout : LayoutState) (i : ℕ) (c : Held S) (e : OpenError) : Type 0 where
+    pub cause : HasCleanDisk (state g c) → IsDeviceCause e
+    pub left : IsLeftBlank layout i c e
+
+  -- a store with a content is ready, of this layout now
+  pub record IsReady (layout : LayoutState) (i : ℕ) (it : Stored) (c : Held S) (index : Index) : Type 0 where
+    pub fits : HasCleanDisk (state g c) → IsFor layout i it
+    pub stores : HasCleanDisk (state g c) → Stores g layout i c index (renewed (line_of layout) it)
+
+  -- the answer to the opening of a connection that keeps a content, and of one without tables
+  abbrev pub Readies : LayoutState → ℕ → Stored → Held S → Result Index OpenError → Type 0
+  Readies layout i it c (Ok index) = IsReady layout i it c index
+  Readies layout i it c (Err e) = IsRefused layout i it c e
+
+  abbrev pub ReadiesBlank : LayoutState → ℕ → Held S → Result Index OpenError → Type 0
+  ReadiesBlank layout i c (Ok index) = HasCleanDisk (state g c) → Stores g layout i c index (made (decimal i) (line_of layout))
+  ReadiesBlank layout i c (Err e) = IsRefusedBlank layout i c e
+
+module _ {S : Type 0} {g : Ghosts S} where
+  -- a keeper is one of a site of a layout, whose device has refused no call
+  pub record IsKeeperOf (layout : LayoutState) (i : ℕ) (k : SqlKeeper S g) : Type 0 where
+    pub its_layout : layout_of k ≡ layout
+    pub its_site : site_of k ≡ i
+    pub sound : faults_of k ≡ 0
+
+  -- The answer to an opening. Where the connection kept a content: a keeper of its durable part, the content being one
+  -- of this site; or the connection again, with what it kept.
+  abbrev pub Opens : LayoutState → ℕ → Stored → Result (SqlKeeper S g) (OpenError × Held S) → Type 0
+  Opens layout i it (Ok k) = (is_honest k → IsFor layout i it) × KeepsPart k (durable_in it)
+  Opens layout i it (Err x) = IsRefused g layout i it x.1 x.0
+
+  -- where it kept a database without tables: a keeper of nothing, or the connection again
+  abbrev pub OpensBlank : LayoutState → ℕ → Result (SqlKeeper S g) (OpenError × Held S) → Type 0
+  OpensBlank layout i (Ok k) = KeepsPart k nothing_kept
+  OpensBlank layout i (Err x) = IsRefusedBlank g layout i x.1 x.0
+
+  -- where it was not known which of two contents a connection keeps, a keeper of one of them
+  abbrev pub Settles : Stored → Stored → SqlKeeper S g → Type 0
+  Settles a b k = ∥ KeepsPart k (durable_in a) ⊎ KeepsPart k (durable_in b) ∥₁

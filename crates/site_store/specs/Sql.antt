@@ -1,0 +1,76 @@
+-- What a keeper over SQLite keeps, and what it was made for.
+use Rattle.std.specs.Prelude.{◌≡◌, ◌⊎◌, ℕ, decimal, if◌then◌else◌}
+use Rattle.sqlite_trees.specs.declared.store.Store.{Ghosts}
+use Rattle.merge_core.specs.Layout.{LayoutState}
+use Rattle.layout_line.specs.Line.{line_of}
+use Rattle.admission_core.specs.Kept.{DurableState, ChangeState}
+use Rattle.store_schema.specs.declared.Version.TheVariants.{Second}
+use Rattle.store_rows.specs.Rows.{Stored}
+use Rattle.sqlite.specs.State.{HasCleanDisk}
+use Rattle.sqlite.specs.Held.{Held, state}
+use Rattle.store_rows.specs.Holding.{Keeps, KeepsEither}
+use Rattle.store_tables.specs.Kept.{has_failed, connection_of}
+use Rattle.store_content.specs.declared.index.Index.{Index}
+use Rattle.store_content.specs.Content.{IsContent, durable_in}
+use Rattle.store_content.specs.Keeping.{changed}
+use Rattle.store_content.specs.Known.{Knows}
+use Rattle.site_store.specs.declared.sql.SqlKeeper.{SqlKeeper}
+
+-- a content is that of a site of a layout, in the second version
+pub record IsOf (layout : LayoutState) (i : ℕ) (it : Stored) : Type 0 where
+  pub second : it.version ≡ Second
+  pub its_site : it.site ≡ decimal i
+  pub its_layout : it.layout ≡ line_of layout
+  pub content : IsContent it
+
+-- a content of a site has one of two durable parts
+pub record IsOneOf (layout : LayoutState) (i : ℕ) (d e : DurableState) (it : Stored) : Type 0 where
+  pub own : IsOf layout i it
+  pub part : (durable_in it ≡ d) ⊎ (durable_in it ≡ e)
+
+module _ {S : Type 0} (g : Ghosts S) where
+  -- a connection keeps a content of a site, which an index knows
+  pub record Stores (layout : LayoutState) (i : ℕ) (c : Held S) (index : Index) (it : Stored) : Type 0 where
+    pub own : IsOf layout i it
+    pub kept : Keeps g c it
+    pub known : Knows index it
+
+  -- a change was made of the durable part of a content of a site
+  pub record Changes (layout : LayoutState) (i : ℕ) (change : ChangeState) (it : Stored) (c : Held S) (index : Index) : Type 0 where
+    pub next : Stored
+    pub stores : Stores layout i c index next
+    pub part : durable_in next ≡ changed change (durable_in it)
+
+  -- a crash leaves that content, or one with the change
+  pub record ChangesEither (layout : LayoutState) (i : ℕ) (change : ChangeState) (it : Stored) (c : Held S) : Type 0 where
+    pub first : Stored
+    pub second : Stored
+    pub left : KeepsEither g c first second
+    pub is_first : IsOneOf layout i (durable_in it) (changed change (durable_in it)) first
+    pub is_second : IsOneOf layout i (durable_in it) (changed change (durable_in it)) second
+
+module _ {S : Type 0} {g : Ghosts S} where
+  abbrev pub layout_of : SqlKeeper S g → LayoutState
+  layout_of k = k.layout
+
+  abbrev pub site_of : SqlKeeper S g → ℕ
+  site_of k = k.site
+
+  -- the connection below
+  abbrev pub below : SqlKeeper S g → Held S
+  below k = connection_of k.tables
+
+  -- the device has given back what was written so far
+  abbrev pub is_honest : SqlKeeper S g → Type 0
+  is_honest k = HasCleanDisk (state g (below k))
+
+  abbrev pub faults_of : SqlKeeper S g → ℕ
+  faults_of k = if has_failed k.tables then 1 else 0
+
+  -- while its device is honest, it keeps a content with this durable part
+  abbrev pub KeepsPart : SqlKeeper S g → DurableState → Type 0
+  KeepsPart k d = is_honest k → (it : Stored) × (Stores g k.layout k.site (below k) k.index it × (durable_in it ≡ d))
+
+  -- while its device is honest, a crash leaves one of two contents, each with one of two durable parts
+  abbrev pub KeepsEitherPart : SqlKeeper S g → DurableState → DurableState → Type 0
+  KeepsEitherPart k d e = is_honest k → (a : Stored) × ((b : Stored) × (KeepsEither g (below k) a b × (IsOneOf k.layout k.site d e a × IsOneOf k.layout k.site d e b)))

@@ -1,0 +1,79 @@
+ghost use Rattle.std.specs.Prelude.{◌≡◌};
+ghost use Rattle.site_store.specs.Errors.{keeper_error, open_error};
+ghost use Rattle.site_store.specs.declared.error.KeeperError.TheVariants as keeper;
+ghost use Rattle.site_store.specs.declared.error.OpenError.TheVariants as opening;
+
+use std::alloc::AllocError;
+use store_tables::TableError;
+use thiserror::Error;
+
+/// Why a keeper did not do what it was asked.
+#[derive(Clone, Copy, Debug, PartialEq, Eq, Error)]
+pub enum KeeperError {
+    /// What is kept has not changed.
+    #[error("out of memory")]
+    Memory,
+    /// The device refused a call. What was asked may have happened or not, and the store has to be opened again.
+    #[error("the store has failed")]
+    StoreFault,
+}
+
+impl From<AllocError> for KeeperError {
+    ghost from_gives = { λ _ e. e ≡ keeper.Memory };
+
+    fn from(_e: AllocError) -> KeeperError {
+        KeeperError::Memory
+    }
+}
+
+impl From<TableError> for KeeperError {
+    ghost from_gives = { λ t e. e ≡ keeper_error t };
+
+    fn from(e: TableError) -> KeeperError {
+        match e {
+            TableError::Memory => KeeperError::Memory,
+            TableError::BadStore | TableError::StoreFault => KeeperError::StoreFault,
+        }
+    }
+}
+
+/// Why a store was not opened: the first of these that applies.
+#[derive(Clone, Copy, Debug, PartialEq, Eq, Error)]
+pub enum OpenError {
+    /// Some of its tables, columns or rows of `meta` are missing, its version is not known, or it holds what no store
+    /// of a site holds.
+    #[error("BadStore")]
+    BadStore,
+    /// It is the store of another site.
+    #[error("WrongSite")]
+    WrongSite,
+    /// It was made for a layout that is neither this one nor an earlier one that has the site.
+    #[error("WrongLayout")]
+    WrongLayout,
+    /// The device refused a call.
+    #[error("StoreFault")]
+    StoreFault,
+    /// There was no room. What the store keeps has not changed.
+    #[error("Memory")]
+    Memory,
+}
+
+impl From<AllocError> for OpenError {
+    ghost from_gives = { λ _ e. e ≡ opening.Memory };
+
+    fn from(_e: AllocError) -> OpenError {
+        OpenError::Memory
+    }
+}
+
+impl From<TableError> for OpenError {
+    ghost from_gives = { λ t e. e ≡ open_error t };
+
+    fn from(e: TableError) -> OpenError {
+        match e {
+            TableError::BadStore => OpenError::BadStore,
+            TableError::Memory => OpenError::Memory,
+            TableError::StoreFault => OpenError::StoreFault,
+        }
+    }
+}

@@ -1,0 +1,130 @@
+//! A database is opened as the store of a site, or made one.
+ghost use Rattle.std.specs.Prelude.{◌≡◌, ◌⊎◌, ◌↔◌, string_bytes, decimal, false, IsTrue, IsOk, IfOk};
+ghost use Rattle.sqlite.specs.State.{HasCleanDisk};
+ghost use Rattle.sqlite.specs.Held.{state};
+ghost use Rattle.layout_line.specs.Line.{line_of};
+ghost use Rattle.store_rows.specs.Holding.{Keeps, KeepsEither, KeepsNothing};
+ghost use Rattle.store_tables.specs.Kept.{has_failed, connection_of};
+ghost use Rattle.site_store.specs.Opened.{IsJudged, IsReady, Readies, ReadiesBlank};
+
+use crate::error::OpenError;
+use layout_line::{Line, compare, layout_line};
+use merge_core::Layout;
+use sqlite::Alter;
+use std::alloc::{AllocError, Global};
+use store_content::Index;
+use store_rows::{Content, Version};
+use store_tables::Tables;
+use text_parts::push_field;
+
+/// The site's number, as the table `meta` has it.
+fn site_text(alloc: Global, site: u16) -> Result<String, AllocError>
+    ensures { IfOk result (λ text. string_bytes text ≡ decimal site) }
+{
+    let mut text = String::new(alloc);
+    push_field(&mut text, "", u64::from(site))?;
+    Ok(text)
+}
+
+/// Whether two texts are the same.
+fn is_same(a: &[u8], b: &[u8]) -> bool
+    ensures { IsTrue result ↔ (a.now ≡ b.now) }
+{
+    a == b
+}
+
+/// The index of a content that is one of this site, and how its line compares with the layout: it is the layout's or
+/// that of an earlier one.
+fn judge(
+    alloc: Global,
+    content: &Content,
+    layout: &Layout,
+    site: u16,
+) -> Result<(Index, Line), OpenError>
+    ensures { IsJudged layout.now site content.now result }
+{
+    let own = site_text(alloc, site)?;
+    let Some(index) = Index::of(alloc, content)? else {
+        return Err(OpenError::BadStore);
+    };
+    if !is_same(content.site.as_slice(), own.as_bytes()) {
+        return Err(OpenError::WrongSite);
+    }
+    match compare(alloc, content.layout.as_slice(), layout, site)? {
+        Line::Other => Err(OpenError::WrongLayout),
+        line => Ok((index, line)),
+    }
+}
+
+/// Whether a store has to get the second version or the layout's own line.
+fn is_due(found: Line, version: Version) -> bool
+    ensures { result ≡ false ↔ ((found ≡ Line.Same) × (version ≡ Version.Second)) }
+{
+    match (found, version) {
+        (Line::Same, Version::Second) => false,
+        _ => true,
+    }
+}
+
+/// An opened store of a content that was found, which gets the second version and this line where either is due.
+fn open_found<S: Alter>(
+    alloc: Global,
+    tables: &mut Tables<S>,
+    content: &Content,
+    line: &str,
+    layout: &Layout,
+    site: u16,
+) -> Result<Index, OpenError>
+    requires { line.now ≡ line_of layout.now }
+    ensures ready { (it : _) → Keeps S.Store (connection_of tables.old) it → (HasCleanDisk (state S.Store (connection_of tables.old)) → content.now ≡ it)
+        → Readies S.Store layout.now site it (connection_of tables.new) result }
+    ensures honest { HasCleanDisk (state S.Store (connection_of tables.new)) → HasCleanDisk (state S.Store (connection_of tables.old)) }
+    ensures sound { has_failed tables.old ≡ false → IsOk result → has_failed tables.new ≡ false }
+{
+    let (index, found) = judge(alloc, content, layout, site)?;
+    if !is_due(found, content.version) {
+        return Ok(index);
+    }
+    tables.renew(content.version, line)?;
+    Ok(index)
+}
+
+/// An opened store that was made in a database without tables.
+fn make_new<S: Alter>(
+    alloc: Global,
+    tables: &mut Tables<S>,
+    layout: &Layout,
+    site: u16,
+    line: &str,
+) -> Result<Index, OpenError>
+    requires { line.now ≡ line_of layout.now }
+    ensures made { KeepsNothing S.Store (connection_of tables.old) → ReadiesBlank S.Store layout.now site (connection_of tables.new) result }
+    ensures honest { HasCleanDisk (state S.Store (connection_of tables.new)) → HasCleanDisk (state S.Store (connection_of tables.old)) }
+    ensures sound { IsOk result → has_failed tables.new ≡ false }
+{
+    let own = site_text(alloc, site)?;
+    tables.make(own.as_str(), line)?;
+    Ok(Index::new(alloc))
+}
+
+/// Opens tables as the store of a site, or makes one where there are none.
+pub(crate) fn prepare<S: Alter>(
+    alloc: Global,
+    tables: &mut Tables<S>,
+    layout: &Layout,
+    site: u16,
+) -> Result<Index, OpenError>
+    ensures ready { (it : _) → Keeps S.Store (connection_of tables.old) it → Readies S.Store layout.now site it (connection_of tables.new) result }
+    ensures made { KeepsNothing S.Store (connection_of tables.old) → ReadiesBlank S.Store layout.now site (connection_of tables.new) result }
+    ensures settles { (a b : _) → KeepsEither S.Store (connection_of tables.old) a b
+        → IfOk result (λ index. ∥ IsReady S.Store layout.now site a (connection_of tables.new) index ⊎ IsReady S.Store layout.now site b (connection_of tables.new) index ∥₁) }
+    ensures honest { HasCleanDisk (state S.Store (connection_of tables.new)) → HasCleanDisk (state S.Store (connection_of tables.old)) }
+    ensures sound { IsOk result → has_failed tables.new ≡ false }
+{
+    let line = layout_line(alloc, layout)?;
+    match tables.look(alloc) {
+        Ok(Some(content)) => open_found(alloc, tables, &content, line.as_str(), layout, site),
+        Ok(None) => make_new(alloc, tables, layout, site, line.as_str()),
+        Err(error) => Err(OpenError::from(error)),
+    }
+}

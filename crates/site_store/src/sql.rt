@@ -1,0 +1,251 @@
+//! A keeper over an SQLite database.
+ghost use Rattle.std.specs.Prelude.{◌≡◌, ◌≢◌, ℕ, ◌<◌, ◌^◌, All, Err, false, IsTrue, OnOk};
+ghost use Rattle.sqlite.specs.State.{HasCleanDisk};
+ghost use Rattle.sqlite.specs.Held.{state};
+ghost use Rattle.sqlite.specs.declared.connection.Connection.{Connection};
+ghost use Rattle.merge_core.specs.Layout.{LayoutState};
+ghost use Rattle.store_rows.specs.Rows.{Stored};
+ghost use Rattle.store_rows.specs.Steps.{IsStorable};
+ghost use Rattle.store_tables.specs.Kept.{has_failed, connection_of};
+ghost use Rattle.store_rows.specs.Holding.{Keeps, KeepsEither};
+ghost use Rattle.store_tables.specs.Transacts.{Takes};
+ghost use Rattle.store_tables.specs.declared.error.TableError.TheVariants.{BadStore, Memory as NoMemory, StoreFault as NoStore};
+ghost use Rattle.store_content.specs.Plan.{IsTellable, after};
+ghost use Rattle.site_store.specs.Sql.{Stores, Changes, ChangesEither};
+ghost use Rattle.site_store.specs.declared.error.KeeperError.TheVariants.{Memory, StoreFault};
+
+use crate::error::{KeeperError, OpenError};
+use crate::keeper::Keeper;
+use crate::opening::prepare;
+use admission_core::{Change, Durable};
+use merge_core::Layout;
+use sqlite::{Alter, Connection};
+use std::alloc::Global;
+use store_content::{Index, Rows, durable_of};
+use store_rows::{SessionEdit, StoredCell, StoredNotice};
+use store_tables::{TableError, Tables};
+
+// What is above no whole number of the database: they have 63 bits and a sign.
+const MOST: u64 = 0x7fff_ffff_ffff_ffff;
+
+/// Whether the database has numbers for these counters.
+fn are_counters(cells: &[StoredCell]) -> bool
+    ensures { IsTrue result → All (λ c. c.n < 2 ^ 63) cells.now }
+{
+    cells.iter().all(|cell| cell.n <= MOST)
+}
+
+/// Whether it has numbers for these notices.
+fn are_notices(notices: &[StoredNotice]) -> bool
+    ensures { IsTrue result → All (λ n. (n.announced < 2 ^ 63) × (n.finished < 2 ^ 63)) notices.now }
+{
+    notices.iter().all(|notice| notice.announced <= MOST && notice.finished <= MOST)
+}
+
+/// Whether it has numbers for the edit of a session.
+fn is_edit(edit: Option<SessionEdit>) -> bool
+    ensures { IsTrue result → IsStorable edit }
+{
+    match edit {
+        Some(SessionEdit::Put(session)) => session.h <= MOST && session.place <= MOST,
+        Some(SessionEdit::Dropped { r: _, h }) => h <= MOST,
+        None => true,
+    }
+}
+
+/// Puts rows into the tables, in one transaction.
+fn put<S: Alter>(tables: &mut Tables<S>, rows: &Rows) -> Result<(), TableError>
+    requires cells { All (λ c. c.n < 2 ^ 63) rows.now.cells }
+    requires notices { All (λ n. (n.announced < 2 ^ 63) × (n.finished < 2 ^ 63)) rows.now.notices }
+    requires edit { IsStorable rows.now.edit }
+    ensures ok { (it : Stored) → Takes rows.now.edit it → Keeps S.Store (connection_of tables.old) it
+        → OnOk result (Keeps S.Store (connection_of tables.new) (after rows.now it)) }
+    ensures memory { (it : Stored) → Takes rows.now.edit it → Keeps S.Store (connection_of tables.old) it
+        → result ≡ Err NoMemory → Keeps S.Store (connection_of tables.new) it }
+    ensures either { (it : Stored) → Takes rows.now.edit it → Keeps S.Store (connection_of tables.old) it
+        → result ≡ Err NoStore → KeepsEither S.Store (connection_of tables.new) it (after rows.now it) }
+    ensures honest { HasCleanDisk (state S.Store (connection_of tables.new)) → HasCleanDisk (state S.Store (connection_of tables.old)) }
+    ensures fault { result ≡ Err NoStore → IsTrue (has_failed tables.new) }
+    ensures sound { result ≢ Err NoStore → has_failed tables.new ≡ false }
+    ensures kind { result ≢ Err BadStore }
+{
+    tables.commit(&rows.cells, &rows.notices, rows.edit)
+}
+
+/// Whether the database has numbers for all rows.
+fn are_rows(rows: &Rows) -> bool
+    ensures cells { IsTrue result → All (λ c. c.n < 2 ^ 63) rows.now.cells }
+    ensures notices { IsTrue result → All (λ n. (n.announced < 2 ^ 63) × (n.finished < 2 ^ 63)) rows.now.notices }
+    ensures edit { IsTrue result → IsStorable rows.now.edit }
+{
+    is_edit(rows.edit) && are_counters(&rows.cells) && are_notices(&rows.notices)
+}
+
+/// Makes a change in the tables, and takes it into the index. Where no place is left for a session, or the database has
+/// no such number, the tables are stopped, as after a refusal of the device.
+fn commit_rows<S: Alter>(
+    alloc: Global,
+    tables: &mut Tables<S>,
+    index: &mut Index,
+    change: &Change,
+) -> Result<(), KeeperError>
+    requires tellable { IsTellable change.now }
+    requires sound { has_failed tables.old ≡ false }
+    ensures ok { (layout : LayoutState) (i : ℕ) (it : Stored) → Stores S.Store layout i (connection_of tables.old) index.old it
+        → OnOk result (Changes S.Store layout i change.now it (connection_of tables.new) index.new) }
+    ensures memory { (layout : LayoutState) (i : ℕ) (it : Stored) → Stores S.Store layout i (connection_of tables.old) index.old it
+        → result ≡ Err Memory → Stores S.Store layout i (connection_of tables.new) index.new it }
+    ensures fault { (layout : LayoutState) (i : ℕ) (it : Stored) → Stores S.Store layout i (connection_of tables.old) index.old it
+        → result ≡ Err StoreFault → ChangesEither S.Store layout i change.now it (connection_of tables.new) }
+    ensures honest { HasCleanDisk (state S.Store (connection_of tables.new)) → HasCleanDisk (state S.Store (connection_of tables.old)) }
+    ensures told { result ≡ Err StoreFault → IsTrue (has_failed tables.new) }
+    ensures still { result ≢ Err StoreFault → has_failed tables.new ≡ false }
+{
+    let Some(rows) = index.plan(alloc, change)? else {
+        tables.stop();
+        return Err(KeeperError::StoreFault);
+    };
+    if !are_rows(&rows) {
+        tables.stop();
+        return Err(KeeperError::StoreFault);
+    }
+    index.reserve(&rows)?;
+    if let Err(error) = put(tables, &rows) {
+        return Err(KeeperError::from(error));
+    }
+    index.advance(&rows);
+    Ok(())
+}
+
+/// It keeps a site's durable part in an SQLite database, each change in a transaction of its own.
+///
+/// Beside the connection it has the places of the sessions and the notices in memory, so that a change asks the
+/// database nothing.
+pub struct SqlKeeper<S: Alter> {
+    alloc: Global,
+    tables: Tables<S>,
+    index: Index,
+    layout: Layout,
+    site: u16,
+}
+
+impl<S: Alter + Drop> Drop for SqlKeeper<S> {
+    fn drop(self) {
+        let SqlKeeper {
+            alloc: _,
+            tables: _,
+            index: _,
+            layout: _,
+            site: _,
+        } = self;
+    }
+}
+
+impl<S: Alter> SqlKeeper<S> {
+    ghost use Rattle.std.specs.Prelude.{◌≡◌, false, IfOk};
+    ghost use Rattle.store_rows.specs.Rows.{Stored};
+    ghost use Rattle.store_rows.specs.Holding.{Keeps, KeepsEither, KeepsNothing};
+    ghost use Rattle.site_store.specs.Sql.{below, is_honest};
+    ghost use Rattle.site_store.specs.Opened.{IsKeeperOf, Opens, OpensBlank, Settles};
+
+    /// Opens a database as the store of a site of a layout, with no transaction open, as the caller shows.
+    ///
+    /// Where the database has none of the tables, they are made in one transaction. A store of the first version gets
+    /// the second, and one whose layout is an earlier one of this layout's growth gets this layout's line, in one
+    /// transaction where both are due. Everything is judged before. A refusal hands the connection back. Linear in
+    /// what is stored.
+    pub fn open(
+        alloc: Global,
+        connection: Connection<S>,
+        layout: &Layout,
+        site: u16,
+    ) -> Result<SqlKeeper<S>, (OpenError, Connection<S>)>
+        requires { connection.in_transaction ≡ false }
+        ensures keeper { IfOk result (IsKeeperOf layout.now site) }
+        ensures store { (it : Stored) → Keeps S.Store connection it → Opens layout.now site it result }
+        ensures blank { KeepsNothing S.Store connection → OpensBlank layout.now site result }
+        ensures settles { (a b : Stored) → KeepsEither S.Store connection a b → IfOk result (Settles a b) }
+        ensures honest { IfOk result (λ k. is_honest k → HasCleanDisk (state S.Store connection)) }
+    {
+        let Ok(copy) = layout.try_copy(alloc) else {
+            return Err((OpenError::Memory, connection));
+        };
+        let mut tables = Tables::over(connection);
+        match prepare(alloc, &mut tables, layout, site) {
+            Ok(index) => Ok(SqlKeeper {
+                alloc,
+                tables,
+                index,
+                layout: copy,
+                site,
+            }),
+            Err(error) => Err((error, tables.into_connection())),
+        }
+    }
+
+    /// The connection, as it is. Takes no memory.
+    pub fn into_connection(self) -> Connection<S>
+        ensures { result ≡ below self }
+    {
+        let SqlKeeper {
+            alloc: _,
+            tables,
+            index: _,
+            layout: _,
+            site: _,
+        } = self;
+        tables.into_connection()
+    }
+
+    /// The tables, the layout and the site.
+    pub(crate) fn into_parts(self) -> (Tables<S>, Layout, u16)
+        ensures tables { result.0 ≡ self.tables }
+        ensures layout { result.1 ≡ self.layout }
+        ensures site { result.2 ≡ self.site }
+    {
+        let SqlKeeper {
+            alloc: _,
+            tables,
+            index: _,
+            layout,
+            site,
+        } = self;
+        (tables, layout, site)
+    }
+}
+
+impl<S: Alter> Keeper for SqlKeeper<S> {
+    ghost use Rattle.site_store.specs.Sql.{layout_of, site_of, is_honest, faults_of, KeepsPart, KeepsEitherPart};
+
+    ghost layout = { layout_of };
+
+    ghost site = { site_of };
+
+    ghost keeps = { KeepsPart };
+
+    ghost keeps_either = { KeepsEitherPart };
+
+    ghost is_honest = { is_honest };
+
+    ghost faults_of = { faults_of };
+
+    fn commit(&mut self, change: &Change) -> Result<(), KeeperError> {
+        if self.tables.faults() > 0 {
+            return Err(KeeperError::StoreFault);
+        }
+        if change.is_empty() {
+            return Ok(());
+        }
+        let _ = self.layout.sites(); // tells that the layout is one
+        commit_rows(self.alloc, &mut self.tables, &mut self.index, change)
+    }
+
+    fn load(&mut self, alloc: Global) -> Result<Durable, KeeperError> {
+        let content = self.tables.load(alloc)?;
+        Ok(durable_of(alloc, &content)?)
+    }
+
+    fn faults(&self) -> u64 {
+        self.tables.faults()
+    }
+}

@@ -1,0 +1,192 @@
+//! Databases that are opened as the store of a site, and those that are not. What commits keep is tested above, where
+//! changes come from a site.
+use crate::{Keeper, MemoryKeeper, OpenError, SqlKeeper};
+use admission_core::{Durable, Phase};
+use merge_core::{Layout, RecordName, RecordSpec};
+use sqlite::{Connection, MemStore};
+use std::alloc::Global;
+use std::test::Fail;
+
+/// The tables of the first version.
+const FIRST: [&str; 3] = [
+    "CREATE TABLE meta (name TEXT PRIMARY KEY NOT NULL, value TEXT NOT NULL)",
+    "CREATE TABLE cells (record INTEGER NOT NULL, slot INTEGER NOT NULL, n INTEGER NOT NULL CHECK (n >= 0), PRIMARY KEY (record, slot))",
+    "CREATE TABLE sessions (record INTEGER NOT NULL, holder INTEGER NOT NULL, phase INTEGER NOT NULL, place INTEGER NOT NULL UNIQUE, PRIMARY KEY (record, holder))",
+];
+
+/// The rows of `meta` of a store of the first version, of site 0 of two sites.
+const MARKS: &str =
+    "INSERT INTO meta VALUES ('version', '1'), ('site', '0'), ('layout', '2;a,2,0,1')";
+
+/// Record `a` of so many seats at site 0, at so many sites.
+fn layout(alloc: Global, sites: u16, seats: u32) -> Option<Layout> {
+    let name = RecordName::from_string(String::from_str(alloc, "a").ok()?);
+    let mut records = Vec::new(alloc);
+    records
+        .push(RecordSpec {
+            name,
+            seats,
+            home: 0,
+            problem: 1,
+        })
+        .ok()?;
+    Layout::new(sites, records).ok()
+}
+
+/// A database after these statements.
+fn database(alloc: Global, texts: &[&str]) -> Option<Connection<MemStore>> {
+    let mut connection = Connection::open_in_memory(alloc).ok()?;
+    for text in texts {
+        connection.execute_batch(text).ok()?;
+    }
+    Some(connection)
+}
+
+/// A store of the first version with these rows.
+fn first_version(alloc: Global, rows: &str) -> Option<Connection<MemStore>> {
+    let mut connection = database(alloc, &FIRST)?;
+    connection.execute_batch(MARKS).ok()?;
+    connection.execute_batch(rows).ok()?;
+    Some(connection)
+}
+
+/// The refusal of an opening, if it is refused, and the connection.
+fn refusal(
+    alloc: Global,
+    connection: Connection<MemStore>,
+    sites: u16,
+    seats: u32,
+    site: u16,
+) -> Option<(Option<OpenError>, Connection<MemStore>)> {
+    let layout = layout(alloc, sites, seats)?;
+    if !connection.is_autocommit() {
+        return None;
+    }
+    match SqlKeeper::open(alloc, connection, &layout, site) {
+        Ok(keeper) => Some((None, keeper.into_connection())),
+        Err((error, back)) => Some((Some(error), back)),
+    }
+}
+
+/// The refusal of a store of the first version with these rows.
+fn refusal_with(alloc: Global, rows: &str) -> Option<Option<OpenError>> {
+    let (error, _) = refusal(alloc, first_version(alloc, rows)?, 2, 2, 0)?;
+    Some(error)
+}
+
+/// The refusals of one store, new at site 0 of two sites: again, at site 1, with other seats, at three sites, and then
+/// at two again.
+fn refusals_in_turn(alloc: Global) -> Option<[Option<OpenError>; 6]> {
+    let (a, connection) = refusal(alloc, database(alloc, &[])?, 2, 2, 0)?;
+    let (b, connection) = refusal(alloc, connection, 2, 2, 0)?;
+    let (c, connection) = refusal(alloc, connection, 2, 2, 1)?;
+    let (d, connection) = refusal(alloc, connection, 2, 3, 0)?;
+    let (e, connection) = refusal(alloc, connection, 3, 2, 0)?;
+    let (f, _) = refusal(alloc, connection, 2, 2, 0)?;
+    Some([a, b, c, d, e, f])
+}
+
+/// What a keeper over a database keeps.
+fn loaded(alloc: Global, connection: Connection<MemStore>) -> Option<Durable> {
+    let layout = layout(alloc, 2, 2)?;
+    if !connection.is_autocommit() {
+        return None;
+    }
+    let Ok(mut keeper) = SqlKeeper::open(alloc, connection, &layout, 0) else {
+        return None;
+    };
+    let durable = keeper.load(alloc).ok()?;
+    if keeper.faults() == 0 {
+        Some(durable)
+    } else {
+        None
+    }
+}
+
+/// How many counters and sessions a keeper over a database keeps, and whether the first session reads.
+fn counted(
+    alloc: Global,
+    connection: Option<Connection<MemStore>>,
+) -> Option<(usize, usize, bool)> {
+    let durable = loaded(alloc, connection?)?;
+    let reads = match durable.sessions().first() {
+        Some(session) => session.phase == Phase::Reader,
+        None => false,
+    };
+    Some((durable.cells().len(), durable.sessions().len(), reads))
+}
+
+/// The same of a new keeper in memory.
+fn counted_in_memory(alloc: Global) -> Option<(usize, usize)> {
+    let layout = layout(alloc, 2, 2)?;
+    let mut keeper = MemoryKeeper::new(alloc, &layout, 0).ok()?;
+    let durable = keeper.load(alloc).ok()?;
+    Some((durable.cells().len(), durable.sessions().len()))
+}
+
+#[test]
+fn opens_what_is_its_own(rt: HostRuntime) -> Result<(), Fail> {
+    let alloc = rt.alloc();
+    let wanted = [
+        None,
+        None,
+        Some(OpenError::WrongSite),
+        Some(OpenError::WrongLayout),
+        None,
+        Some(OpenError::WrongLayout),
+    ];
+    assert_eq!(rt; refusals_in_turn(alloc), Some(wanted));
+    let rows =
+        "INSERT INTO cells VALUES (0, 200, 1), (0, 100, 3); INSERT INTO sessions VALUES (0, 7, 1, 5), (0, 9, 2, 2)";
+    assert_eq!(rt;
+        counted(alloc, first_version(alloc, rows)),
+        Some((2, 2, false))
+    );
+    assert_eq!(rt; counted(alloc, database(alloc, &[])), Some((0, 0, false)));
+    assert_eq!(rt;
+        counted(alloc, database(alloc, &["CREATE TABLE other (x INTEGER)"])),
+        Some((0, 0, false))
+    );
+    assert_eq!(rt; counted_in_memory(alloc), Some((0, 0)));
+    Ok(())
+}
+
+#[test]
+fn refuses_what_is_no_store(rt: HostRuntime) -> Result<(), Fail> {
+    let alloc = rt.alloc();
+    let bad = Some(Some(OpenError::BadStore));
+    let texts = [
+        "UPDATE meta SET value = '9' WHERE name = 'version'",
+        "DELETE FROM meta WHERE name = 'site'",
+        "DELETE FROM meta WHERE name = 'layout'",
+        "INSERT INTO cells VALUES (0, 300, 1)",
+        "INSERT INTO cells VALUES (65536, 200, 1)",
+        "INSERT INTO cells VALUES (0, 200, 'x')",
+        "INSERT INTO sessions VALUES (0, 7, 4, 1)",
+        "INSERT INTO sessions VALUES (0, 7, 1, 0)",
+        "INSERT INTO sessions VALUES (0, -1, 1, 1)",
+        "CREATE TABLE notices (x INTEGER)",
+        "UPDATE meta SET value = '1' WHERE name = 'site'; INSERT INTO cells VALUES (0, 300, 1)",
+    ];
+    for text in texts {
+        assert_eq!(rt; refusal_with(alloc, text), bad);
+    }
+    let other =
+        "UPDATE meta SET value = '1' WHERE name = 'site'; UPDATE meta SET value = 'x' WHERE name = 'layout'";
+    assert_eq!(rt;
+        refusal_with(alloc, other),
+        Some(Some(OpenError::WrongSite))
+    );
+    assert_eq!(rt;
+        refusal_with(alloc, "UPDATE meta SET value = 'x' WHERE name = 'layout'"),
+        Some(Some(OpenError::WrongLayout))
+    );
+    assert_eq!(rt;
+        refusal_with(
+            alloc,
+            "INSERT INTO sessions VALUES (0, 7, 1, 4611686018427387904)"
+        ),
+        Some(None)
+    );
+    Ok(())
+}

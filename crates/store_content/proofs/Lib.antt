@@ -1,0 +1,15 @@
+pub mod CellLists
+pub mod HalfLemmas
+pub mod RisingLemmas
+pub mod MergeLemmas
+pub mod ToldLemmas
+pub mod DurableLemmas
+pub mod IndexLemmas
+pub mod PlaceLemmas
+pub mod EditLemmas
+pub mod PutLemmas
+pub mod RowLemmas
+pub mod SlotLaws
+pub mod SessionLaws
+pub mod LawLemmas
+pub mod TellableLemmas

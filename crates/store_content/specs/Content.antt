@@ -1,0 +1,116 @@
+-- Which content of a store is that of a site, and the durable part that it stands for.
+use Rattle.std.specs.Prelude.{◌≡◌, ℕ, ◌+◌, ◌<◌, ◌≤◌, ◌^◌, ◌==◌, ◌&&◌, not, List, [], ◌∷◌, ◌++◌, Option, Some, None, map, filter, max, if◌then◌else◌}
+use Rattle.std.specs.List.{AllByRecursion}
+use Rattle.session_list.specs.declared.session.Phase.{Phase}
+use Rattle.session_list.specs.declared.session.Phase.TheVariants.{Reader, Waiting, Writer}
+use Rattle.session_list.specs.declared.session.Session.{Session}
+use Rattle.admission_model.specs.declared.durable.DurableCell.{DurableCell}
+use Rattle.admission_model.specs.Durable.{put_cells}
+use Rattle.admission_core.specs.Kept.{DurableState}
+use Rattle.store_rows.specs.declared.content.StoredCell.{StoredCell}
+use Rattle.store_rows.specs.declared.content.StoredSession.{StoredSession}
+use Rattle.store_rows.specs.declared.content.StoredNotice.{StoredNotice}
+use Rattle.store_rows.specs.declared.content.Stage.{Stage}
+use Rattle.store_rows.specs.declared.content.Stage.TheVariants as stages
+use Rattle.store_rows.specs.Rows.{Stored, cell_before, session_before, notice_before}
+use Rattle.store_rows.specs.Sorted.{IsRising}
+
+-- the phase that a stage in the store stands for
+abbrev pub phase_of : Stage → Phase
+phase_of stages.Reader = Reader
+phase_of stages.Waiting = Waiting
+phase_of stages.Writer = Writer
+
+-- the stage in the store that stands for a phase
+abbrev pub stage_for : Phase → Stage
+stage_for Reader = stages.Reader
+stage_for Waiting = stages.Waiting
+stage_for Writer = stages.Writer
+
+-- a counter and a session as they stand in a durable part
+abbrev pub durable_cell : StoredCell → DurableCell
+durable_cell c = record { r = c.r; slot = c.slot; value = c.n }
+
+abbrev pub session_of : StoredSession → Session
+session_of s = record { r = s.r; h = s.h; phase = phase_of s.stage }
+
+-- the slots of what is known of site j's writers: those announced, and those finished
+abbrev pub announced_slot : ℕ → ℕ
+announced_slot j = 300 + j
+
+abbrev pub finished_slot : ℕ → ℕ
+finished_slot j = 400 + j
+
+-- the counters of announced writers that are not 0, and those of finished ones
+abbrev pub announced_cells : List StoredNotice → List DurableCell
+announced_cells ns = map (λ n. record { r = n.r; slot = announced_slot n.site; value = n.announced }) (filter (λ n. not (n.announced == 0)) ns)
+
+abbrev pub finished_cells : List StoredNotice → List DurableCell
+finished_cells ns = map (λ n. record { r = n.r; slot = finished_slot n.site; value = n.finished }) (filter (λ n. not (n.finished == 0)) ns)
+
+-- the counters of a content, by record and slot: its cells, with those of its notices put at their places
+abbrev pub durable_cells : Stored → List DurableCell
+durable_cells it = put_cells (announced_cells it.notices ++ finished_cells it.notices) (map durable_cell it.cells)
+
+-- the durable part that a content stands for
+abbrev pub durable_in : Stored → DurableState
+durable_in it = record { cells = durable_cells it; sessions = map session_of it.sessions }
+
+-- the place of holder h at record r: that of the first session of theirs
+abbrev pub place_in : List StoredSession → ℕ → ℕ → Option ℕ
+place_in [] r h = None
+place_in (s ∷ ss) r h = if (r == s.r) && (h == s.h) then Some s.place else place_in ss r h
+
+-- each holder has one session at most at each record
+abbrev pub IsOnce : List StoredSession → Type 0
+IsOnce [] = Unit {0}
+IsOnce (s ∷ ss) = (place_in ss s.r s.h ≡ None) × IsOnce ss
+
+-- the greatest place, and 0 where there is no session
+abbrev pub greatest_place : List StoredSession → ℕ
+greatest_place [] = 0
+greatest_place (s ∷ ss) = max s.place (greatest_place ss)
+
+-- the most that a place can be
+abbrev pub most_places : ℕ
+most_places = 2 ^ 62
+
+-- the row of what is known of site j's writers at record r
+abbrev pub notice_in : List StoredNotice → ℕ → ℕ → Option StoredNotice
+notice_in [] r j = None
+notice_in (n ∷ ns) r j = if (r == n.r) && (j == n.site) then Some n else notice_in ns r j
+
+-- the writers announced, and those finished; where there is no row, none is
+abbrev pub announced_by : Option StoredNotice → ℕ
+announced_by None = 0
+announced_by (Some n) = n.announced
+
+abbrev pub finished_by : Option StoredNotice → ℕ
+finished_by None = 0
+finished_by (Some n) = n.finished
+
+-- a notice is of one of 16 sites, with numbers that a store takes
+pub record IsNotice (n : StoredNotice) : Type 0 where
+  pub site_there : n.site ≤ 15
+  pub announced_fits : n.announced < 2 ^ 63
+  pub finished_fits : n.finished < 2 ^ 63
+
+-- a place is one that is given to a session
+pub record IsPlaced (s : StoredSession) : Type 0 where
+  pub given : 1 ≤ s.place
+  pub small : s.place ≤ most_places
+
+-- the rows of each table are such as those of a site's store: its counters rise and none is that of a notice, its
+-- notices rise, and its sessions rise by place
+pub record HasRows (it : Stored) : Type 0 where
+  pub cells_rise : IsRising cell_before it.cells
+  pub slots : AllByRecursion (λ c. c.slot < 300) it.cells
+  pub notices_rise : IsRising notice_before it.notices
+  pub notices : AllByRecursion IsNotice it.notices
+  pub sessions_rise : IsRising session_before it.sessions
+  pub places : AllByRecursion IsPlaced it.sessions
+
+-- a content is that of a site: it has such rows, with no holder twice at a record
+pub record IsContent (it : Stored) : Type 0 where
+  pub rows : HasRows it
+  pub once : IsOnce it.sessions

@@ -1,0 +1,4 @@
+pub mod Content
+pub mod Keeping
+pub mod Known
+pub mod Plan

@@ -1,0 +1,16 @@
+//! A site's durable part as the rows of its store: what a content stands for, and which rows a change puts.
+#![tactic(auto)]
+
+pub use durable::{durable_of, put_cells};
+pub use index::Index;
+pub use laws::change_law;
+pub use rows::Rows;
+
+mod cells;
+mod checks;
+mod durable;
+mod index;
+mod laws;
+mod rows;
+#[cfg(test)]
+mod tests;

@@ -1,0 +1,9 @@
+pub mod ContentLemmas
+pub mod CreateLemmas
+pub mod EditLemmas
+pub mod PutLemmas
+pub mod ReadLemmas
+pub mod SelectLemmas
+pub mod SessionLemmas
+pub mod SortedLemmas
+pub mod StepLemmas

@@ -1,0 +1,9 @@
+use Rattle.sqlite.specs.Held.{state}
+use Rattle.store_rows.proofs.StepLemmas.{drop_goes}
+use Rattle.store_rows.proofs.writes.drop_session.Goals as goal
+
+pub returns-clause-goes : goal.returns-clause-goes
+returns-clause-goes g c clean inside =
+    let ran = c.in_ok-execute.ensures.runs clean inside in
+    let has = rw (c.number.ensures, c.number-2.ensures, c.from.ensures) at ran.0 in
+    record { inside = ran.1.mode; committed = ran.1.committed_is; effect = drop_goes (state g.S.Store c.args.tx.now.conn.now) (state g.S.Store c.execute.new.self.conn.now) c.args.r c.args.h c.in_ok-execute.field-0 has }

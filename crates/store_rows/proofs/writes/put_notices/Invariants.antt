@@ -1,0 +1,14 @@
+use Rattle.std.proofs.Common.{◌≡◌, IsTrue, take}
+use Rattle.sqlite.specs.State.{HasCleanDisk, KeepsCommit, Survives}
+use Rattle.sqlite.specs.Held.{state}
+use Rattle.store_rows.specs.Steps.{Goes, Brings, Any, with_notices}
+use Rattle.store_rows.proofs.writes.put_notices.Given as goal
+
+abbrev pub invariant-loop-notice : goal.invariant-loop-notice
+invariant-loop-notice g l = record {
+  same : l.tx.conn.ghost_name ≡ l.initial.tx.conn.ghost_name;
+  goes : HasCleanDisk (state g.S.Store l.tx.conn.now) → IsTrue l.initial.tx.conn.now.in_transaction
+      → Goes (state g.S.Store l.initial.tx.conn.now) (state g.S.Store l.tx.conn.now) (Brings Any (with_notices (take l.notice-index l.notices)));
+  kept : HasCleanDisk (state g.S.Store l.tx.conn.now) → IsTrue l.initial.tx.conn.now.in_transaction → KeepsCommit (state g.S.Store l.initial.tx.conn.now) (state g.S.Store l.tx.conn.now);
+  survives : Survives (state g.S.Store l.initial.tx.conn.now) (state g.S.Store l.tx.conn.now) (λ _. ⊥);
+}

@@ -1,0 +1,6 @@
+pub mod Changes
+pub mod Holding
+pub mod Rows
+pub mod Sorted
+pub mod Steps
+pub mod Texts

@@ -1,0 +1,82 @@
+-- What the statements of a transaction do to a database.
+use Rattle.std.specs.Prelude.{◌≡◌, ℕ, ◌<◌, ◌^◌, ◌==◌, [], List, Option, Some, None, ⊤, IsTrue, false}
+use Rattle.sqlite_schema.specs.declared.schema.Schema.{Schema}
+use Rattle.sqlite_catalog.specs.Change.{next_tree, KeepsRows}
+use Rattle.sqlite_rules.specs.Lists.{Has}
+use Rattle.sqlite.specs.Effect.{Database, IsDatabase}
+use Rattle.sqlite.specs.State.{State}
+use Rattle.store_schema.specs.declared.Version.TheVariants.{Second}
+use Rattle.store_rows.specs.declared.content.StoredCell.{StoredCell}
+use Rattle.store_rows.specs.declared.content.StoredNotice.{StoredNotice}
+use Rattle.store_rows.specs.declared.content.StoredSession.{StoredSession}
+use Rattle.store_rows.specs.declared.content.SessionEdit.{SessionEdit}
+use Rattle.store_rows.specs.declared.content.SessionEdit.TheVariants.{Put, Dropped}
+use Rattle.store_rows.specs.Rows.{cell_before, notice_before, session_before}
+use Rattle.store_rows.specs.Sorted.{put, put_all}
+use Rattle.store_rows.specs.Changes.{without, edited}
+use Rattle.store_rows.specs.Holding.{Mark, Parts, HoldsParts, set_mark}
+
+-- statements inside a transaction change what it sees, in this way, and commit nothing
+pub record Goes (old new : State) (Effect : Database → Database → Type 0) : Type 0 where
+  pub inside : IsTrue new.in_transaction
+  pub committed : new.committed ≡ old.committed
+  pub effect : Effect old.now new.now
+
+-- a table was made: it is empty, and the tables that were there have their rows
+pub record HasMade (before after : Schema) (old new : Database) : Type 0 where
+  pub schema : new.schema ≡ after
+  pub empty : new.trees (next_tree before) ≡ []
+  pub others : KeepsRows before.tables old.trees new.trees
+  pub sound : IsDatabase new
+
+-- a table is made where the schema is this one
+abbrev pub Makes : Schema → Schema → Database → Database → Type 0
+Makes before after a b = a.schema ≡ before → HasMade before after a b
+
+-- a store of the second version whose parts fit has other parts then
+abbrev pub Brings : (Parts → Type 0) → (Parts → Parts) → Database → Database → Type 0
+Brings Fits f a b = (p : Parts) → p.tables ≡ Second → Fits p → HoldsParts p a → HoldsParts (f p) b
+
+-- all parts fit
+abbrev pub Any : Parts → Type 0
+Any p = ⊤
+
+-- parts with a mark set
+abbrev pub with_mark : Mark → Parts → Parts
+with_mark m p = record p { marks = set_mark m p.marks }
+
+-- parts with counters put, in turn
+abbrev pub with_cells : List StoredCell → Parts → Parts
+with_cells cells p = record p { cells = put_all cell_before cells p.cells }
+
+-- parts with notices put, in turn
+abbrev pub with_notices : List StoredNotice → Parts → Parts
+with_notices notices p = record p { notices = put_all notice_before notices p.notices }
+
+-- parts with the sessions after an edit
+abbrev pub with_edit : Option SessionEdit → Parts → Parts
+with_edit edit p = record p { sessions = edited edit p.sessions }
+
+-- no other session has the place of one that is put
+abbrev pub HasFreePlace : Option SessionEdit → List StoredSession → Type 0
+HasFreePlace None sessions = ⊤
+HasFreePlace (Some (Put s)) sessions = (x : StoredSession) → Has (without s.r s.h sessions) x → (x.place == s.place) ≡ false
+HasFreePlace (Some (Dropped r h)) sessions = ⊤
+
+-- parts without the session of a holder at a record
+abbrev pub with_drop : ℕ → ℕ → Parts → Parts
+with_drop r h p = record p { sessions = without r h p.sessions }
+
+-- parts with a session more
+abbrev pub with_session : StoredSession → Parts → Parts
+with_session s p = record p { sessions = put session_before s p.sessions }
+
+-- no session has the place of this one
+abbrev pub HasNoSuchPlace : StoredSession → Parts → Type 0
+HasNoSuchPlace s p = (x : StoredSession) → Has p.sessions x → (x.place == s.place) ≡ false
+
+-- the numbers of an edit are such as a store takes
+abbrev pub IsStorable : Option SessionEdit → Type 0
+IsStorable None = ⊤
+IsStorable (Some (Put s)) = (s.h < 2 ^ 63) × (s.place < 2 ^ 63)
+IsStorable (Some (Dropped r h)) = h < 2 ^ 63

@@ -1,0 +1,258 @@
+//! The statements of a transaction, one function each, and what they make of a store.
+ghost use Rattle.std.specs.Prelude.{◌≡◌, ◌<◌, ◌^◌, pos, [], ◌∷◌, All, Some, IsTrue, OnOk};
+ghost use Rattle.sqlite_value.specs.declared.value.Value.TheVariants.{Int};
+ghost use Rattle.sqlite_value.specs.Value.{owned};
+ghost use Rattle.sqlite.specs.State.{HasCleanDisk, KeepsCommit, Survives};
+ghost use Rattle.sqlite.specs.Held.{state};
+ghost use Rattle.store_schema.specs.Tables.{no_schema, schema_1, schema_2, schema_3, schema_4};
+ghost use Rattle.store_rows.specs.Holding.{mark};
+ghost use Rattle.store_rows.specs.Steps.{Goes, Makes, Brings, Any, HasFreePlace, HasNoSuchPlace, IsStorable, with_mark, with_cells, with_notices, with_drop, with_session, with_edit};
+
+use crate::content::{SessionEdit, StoredCell, StoredNotice, StoredSession};
+use sqlite::types::ValueRef;
+use sqlite::{Alter, Error, Transaction};
+
+/// A whole number as the store takes it.
+fn number<'a>(n: u64) -> ValueRef<'a>
+    requires { n < 2 ^ 63 }
+    ensures { owned result ≡ Int (pos n) }
+{
+    ValueRef::Int(n as i64)
+}
+
+/// Makes the table of the marks, in a database without tables.
+pub fn create_meta<S: Alter>(tx: &mut Transaction<'_, S>) -> Result<(), Error>
+    ensures same_reference { tx.new.conn.ghost_name ≡ tx.old.conn.ghost_name }
+    ensures goes { HasCleanDisk (state S.Store tx.new.conn.now) → IsTrue tx.old.conn.now.in_transaction
+        → OnOk result (Goes (state S.Store tx.old.conn.now) (state S.Store tx.new.conn.now) (Makes no_schema schema_1)) }
+    ensures kept { HasCleanDisk (state S.Store tx.new.conn.now) → IsTrue tx.old.conn.now.in_transaction
+        → KeepsCommit (state S.Store tx.old.conn.now) (state S.Store tx.new.conn.now) }
+    ensures survives { Survives (state S.Store tx.old.conn.now) (state S.Store tx.new.conn.now) (λ _. ⊥) }
+{
+    tx.execute(
+        "CREATE TABLE meta (name TEXT PRIMARY KEY NOT NULL, value TEXT NOT NULL)",
+        &[],
+    )?;
+    Ok(())
+}
+
+/// Makes the table of the counters, the second.
+pub fn create_cells<S: Alter>(tx: &mut Transaction<'_, S>) -> Result<(), Error>
+    ensures same_reference { tx.new.conn.ghost_name ≡ tx.old.conn.ghost_name }
+    ensures goes { HasCleanDisk (state S.Store tx.new.conn.now) → IsTrue tx.old.conn.now.in_transaction
+        → OnOk result (Goes (state S.Store tx.old.conn.now) (state S.Store tx.new.conn.now) (Makes schema_1 schema_2)) }
+    ensures kept { HasCleanDisk (state S.Store tx.new.conn.now) → IsTrue tx.old.conn.now.in_transaction
+        → KeepsCommit (state S.Store tx.old.conn.now) (state S.Store tx.new.conn.now) }
+    ensures survives { Survives (state S.Store tx.old.conn.now) (state S.Store tx.new.conn.now) (λ _. ⊥) }
+{
+    tx.execute(
+        "CREATE TABLE cells (record INTEGER NOT NULL, slot INTEGER NOT NULL, n INTEGER NOT NULL CHECK (n >= 0), PRIMARY KEY (record, slot))",
+        &[],
+    )?;
+    Ok(())
+}
+
+/// Makes the table of the sessions, the third.
+pub fn create_sessions<S: Alter>(tx: &mut Transaction<'_, S>) -> Result<(), Error>
+    ensures same_reference { tx.new.conn.ghost_name ≡ tx.old.conn.ghost_name }
+    ensures goes { HasCleanDisk (state S.Store tx.new.conn.now) → IsTrue tx.old.conn.now.in_transaction
+        → OnOk result (Goes (state S.Store tx.old.conn.now) (state S.Store tx.new.conn.now) (Makes schema_2 schema_3)) }
+    ensures kept { HasCleanDisk (state S.Store tx.new.conn.now) → IsTrue tx.old.conn.now.in_transaction
+        → KeepsCommit (state S.Store tx.old.conn.now) (state S.Store tx.new.conn.now) }
+    ensures survives { Survives (state S.Store tx.old.conn.now) (state S.Store tx.new.conn.now) (λ _. ⊥) }
+{
+    tx.execute(
+        "CREATE TABLE sessions (record INTEGER NOT NULL, holder INTEGER NOT NULL, phase INTEGER NOT NULL, place INTEGER NOT NULL UNIQUE, PRIMARY KEY (record, holder))",
+        &[],
+    )?;
+    Ok(())
+}
+
+/// Makes the table of the notices, the last.
+pub fn create_notices<S: Alter>(tx: &mut Transaction<'_, S>) -> Result<(), Error>
+    ensures same_reference { tx.new.conn.ghost_name ≡ tx.old.conn.ghost_name }
+    ensures goes { HasCleanDisk (state S.Store tx.new.conn.now) → IsTrue tx.old.conn.now.in_transaction
+        → OnOk result (Goes (state S.Store tx.old.conn.now) (state S.Store tx.new.conn.now) (Makes schema_3 schema_4)) }
+    ensures kept { HasCleanDisk (state S.Store tx.new.conn.now) → IsTrue tx.old.conn.now.in_transaction
+        → KeepsCommit (state S.Store tx.old.conn.now) (state S.Store tx.new.conn.now) }
+    ensures survives { Survives (state S.Store tx.old.conn.now) (state S.Store tx.new.conn.now) (λ _. ⊥) }
+{
+    tx.execute(
+        "CREATE TABLE notices (record INTEGER NOT NULL, site INTEGER NOT NULL, ann INTEGER NOT NULL CHECK (ann >= 0), fin INTEGER NOT NULL CHECK (fin >= 0), PRIMARY KEY (record, site))",
+        &[],
+    )?;
+    Ok(())
+}
+
+/// Sets a row of `meta`.
+pub fn put_mark<S: Alter>(tx: &mut Transaction<'_, S>, name: &str, value: &str) -> Result<(), Error>
+    ensures same_reference { tx.new.conn.ghost_name ≡ tx.old.conn.ghost_name }
+    ensures goes { HasCleanDisk (state S.Store tx.new.conn.now) → IsTrue tx.old.conn.now.in_transaction
+        → OnOk result (Goes (state S.Store tx.old.conn.now) (state S.Store tx.new.conn.now) (Brings Any (with_mark (mark name.now value.now)))) }
+    ensures kept { HasCleanDisk (state S.Store tx.new.conn.now) → IsTrue tx.old.conn.now.in_transaction
+        → KeepsCommit (state S.Store tx.old.conn.now) (state S.Store tx.new.conn.now) }
+    ensures survives { Survives (state S.Store tx.old.conn.now) (state S.Store tx.new.conn.now) (λ _. ⊥) }
+{
+    tx.execute(
+        "INSERT OR REPLACE INTO meta (name, value) VALUES (?1, ?2)",
+        &[
+            ValueRef::Text(name.as_bytes()),
+            ValueRef::Text(value.as_bytes()),
+        ],
+    )?;
+    Ok(())
+}
+
+/// Sets a counter.
+fn put_cell<S: Alter>(tx: &mut Transaction<'_, S>, cell: StoredCell) -> Result<(), Error>
+    requires { cell.n < 2 ^ 63 }
+    ensures same_reference { tx.new.conn.ghost_name ≡ tx.old.conn.ghost_name }
+    ensures goes { HasCleanDisk (state S.Store tx.new.conn.now) → IsTrue tx.old.conn.now.in_transaction
+        → OnOk result (Goes (state S.Store tx.old.conn.now) (state S.Store tx.new.conn.now) (Brings Any (with_cells (cell ∷ [])))) }
+    ensures kept { HasCleanDisk (state S.Store tx.new.conn.now) → IsTrue tx.old.conn.now.in_transaction
+        → KeepsCommit (state S.Store tx.old.conn.now) (state S.Store tx.new.conn.now) }
+    ensures survives { Survives (state S.Store tx.old.conn.now) (state S.Store tx.new.conn.now) (λ _. ⊥) }
+{
+    tx.execute(
+        "INSERT OR REPLACE INTO cells (record, slot, n) VALUES (?1, ?2, ?3)",
+        &[
+            number(u64::from(cell.r)),
+            number(u64::from(cell.slot)),
+            number(cell.n),
+        ],
+    )?;
+    Ok(())
+}
+
+/// Sets a notice.
+fn put_notice<S: Alter>(tx: &mut Transaction<'_, S>, notice: StoredNotice) -> Result<(), Error>
+    requires announced { notice.announced < 2 ^ 63 }
+    requires finished { notice.finished < 2 ^ 63 }
+    ensures same_reference { tx.new.conn.ghost_name ≡ tx.old.conn.ghost_name }
+    ensures goes { HasCleanDisk (state S.Store tx.new.conn.now) → IsTrue tx.old.conn.now.in_transaction
+        → OnOk result (Goes (state S.Store tx.old.conn.now) (state S.Store tx.new.conn.now) (Brings Any (with_notices (notice ∷ [])))) }
+    ensures kept { HasCleanDisk (state S.Store tx.new.conn.now) → IsTrue tx.old.conn.now.in_transaction
+        → KeepsCommit (state S.Store tx.old.conn.now) (state S.Store tx.new.conn.now) }
+    ensures survives { Survives (state S.Store tx.old.conn.now) (state S.Store tx.new.conn.now) (λ _. ⊥) }
+{
+    tx.execute(
+        "INSERT OR REPLACE INTO notices (record, site, ann, fin) VALUES (?1, ?2, ?3, ?4)",
+        &[
+            number(u64::from(notice.r)),
+            number(u64::from(notice.site)),
+            number(notice.announced),
+            number(notice.finished),
+        ],
+    )?;
+    Ok(())
+}
+
+/// Adds a session.
+fn add_session<S: Alter>(tx: &mut Transaction<'_, S>, session: StoredSession) -> Result<(), Error>
+    requires holder { session.h < 2 ^ 63 }
+    requires place { session.place < 2 ^ 63 }
+    ensures same_reference { tx.new.conn.ghost_name ≡ tx.old.conn.ghost_name }
+    ensures goes { HasCleanDisk (state S.Store tx.new.conn.now) → IsTrue tx.old.conn.now.in_transaction
+        → OnOk result (Goes (state S.Store tx.old.conn.now) (state S.Store tx.new.conn.now) (Brings (HasNoSuchPlace session) (with_session session))) }
+    ensures kept { HasCleanDisk (state S.Store tx.new.conn.now) → IsTrue tx.old.conn.now.in_transaction
+        → KeepsCommit (state S.Store tx.old.conn.now) (state S.Store tx.new.conn.now) }
+    ensures survives { Survives (state S.Store tx.old.conn.now) (state S.Store tx.new.conn.now) (λ _. ⊥) }
+{
+    tx.execute(
+        "INSERT INTO sessions (record, holder, phase, place) VALUES (?1, ?2, ?3, ?4)",
+        &[
+            number(u64::from(session.r)),
+            number(session.h),
+            number(session.stage.number()),
+            number(session.place),
+        ],
+    )?;
+    Ok(())
+}
+
+/// Drops the session of a holder at a record, if there is one.
+fn drop_session<S: Alter>(tx: &mut Transaction<'_, S>, r: u16, h: u64) -> Result<(), Error>
+    requires { h < 2 ^ 63 }
+    ensures same_reference { tx.new.conn.ghost_name ≡ tx.old.conn.ghost_name }
+    ensures goes { HasCleanDisk (state S.Store tx.new.conn.now) → IsTrue tx.old.conn.now.in_transaction
+        → OnOk result (Goes (state S.Store tx.old.conn.now) (state S.Store tx.new.conn.now) (Brings Any (with_drop r h))) }
+    ensures kept { HasCleanDisk (state S.Store tx.new.conn.now) → IsTrue tx.old.conn.now.in_transaction
+        → KeepsCommit (state S.Store tx.old.conn.now) (state S.Store tx.new.conn.now) }
+    ensures survives { Survives (state S.Store tx.old.conn.now) (state S.Store tx.new.conn.now) (λ _. ⊥) }
+{
+    tx.execute(
+        "DELETE FROM sessions WHERE record = ?1 AND holder = ?2",
+        &[number(u64::from(r)), number(h)],
+    )?;
+    Ok(())
+}
+
+/// Puts a session in the place of the one that its holder has at its record, if there is one.
+fn put_session<S: Alter>(tx: &mut Transaction<'_, S>, session: StoredSession) -> Result<(), Error>
+    requires holder { session.h < 2 ^ 63 }
+    requires place { session.place < 2 ^ 63 }
+    ensures same_reference { tx.new.conn.ghost_name ≡ tx.old.conn.ghost_name }
+    ensures goes { HasCleanDisk (state S.Store tx.new.conn.now) → IsTrue tx.old.conn.now.in_transaction
+        → OnOk result (Goes (state S.Store tx.old.conn.now) (state S.Store tx.new.conn.now) (Brings (λ p. HasFreePlace (Some (SessionEdit.Put session)) p.sessions) (with_edit (Some (SessionEdit.Put session))))) }
+    ensures kept { HasCleanDisk (state S.Store tx.new.conn.now) → IsTrue tx.old.conn.now.in_transaction
+        → KeepsCommit (state S.Store tx.old.conn.now) (state S.Store tx.new.conn.now) }
+    ensures survives { Survives (state S.Store tx.old.conn.now) (state S.Store tx.new.conn.now) (λ _. ⊥) }
+{
+    drop_session(tx, session.r, session.h)?;
+    add_session(tx, session)
+}
+
+/// Sets counters, in turn. One statement each.
+pub fn put_cells<S: Alter>(tx: &mut Transaction<'_, S>, cells: &[StoredCell]) -> Result<(), Error>
+    requires { All (λ c. c.n < 2 ^ 63) cells.now }
+    ensures same_reference { tx.new.conn.ghost_name ≡ tx.old.conn.ghost_name }
+    ensures goes { HasCleanDisk (state S.Store tx.new.conn.now) → IsTrue tx.old.conn.now.in_transaction
+        → OnOk result (Goes (state S.Store tx.old.conn.now) (state S.Store tx.new.conn.now) (Brings Any (with_cells cells.now))) }
+    ensures kept { HasCleanDisk (state S.Store tx.new.conn.now) → IsTrue tx.old.conn.now.in_transaction
+        → KeepsCommit (state S.Store tx.old.conn.now) (state S.Store tx.new.conn.now) }
+    ensures survives { Survives (state S.Store tx.old.conn.now) (state S.Store tx.new.conn.now) (λ _. ⊥) }
+{
+    for cell in cells {
+        put_cell(tx, *cell)?;
+    }
+    Ok(())
+}
+
+/// Sets notices, in turn. One statement each.
+pub fn put_notices<S: Alter>(
+    tx: &mut Transaction<'_, S>,
+    notices: &[StoredNotice],
+) -> Result<(), Error>
+    requires { All (λ n. (n.announced < 2 ^ 63) × (n.finished < 2 ^ 63)) notices.now }
+    ensures same_reference { tx.new.conn.ghost_name ≡ tx.old.conn.ghost_name }
+    ensures goes { HasCleanDisk (state S.Store tx.new.conn.now) → IsTrue tx.old.conn.now.in_transaction
+        → OnOk result (Goes (state S.Store tx.old.conn.now) (state S.Store tx.new.conn.now) (Brings Any (with_notices notices.now))) }
+    ensures kept { HasCleanDisk (state S.Store tx.new.conn.now) → IsTrue tx.old.conn.now.in_transaction
+        → KeepsCommit (state S.Store tx.old.conn.now) (state S.Store tx.new.conn.now) }
+    ensures survives { Survives (state S.Store tx.old.conn.now) (state S.Store tx.new.conn.now) (λ _. ⊥) }
+{
+    for notice in notices {
+        put_notice(tx, *notice)?;
+    }
+    Ok(())
+}
+
+/// Puts or drops a session, or does nothing. At most two statements.
+pub fn edit_session<S: Alter>(
+    tx: &mut Transaction<'_, S>,
+    edit: Option<SessionEdit>,
+) -> Result<(), Error>
+    requires { IsStorable edit }
+    ensures same_reference { tx.new.conn.ghost_name ≡ tx.old.conn.ghost_name }
+    ensures goes { HasCleanDisk (state S.Store tx.new.conn.now) → IsTrue tx.old.conn.now.in_transaction
+        → OnOk result (Goes (state S.Store tx.old.conn.now) (state S.Store tx.new.conn.now) (Brings (λ p. HasFreePlace edit p.sessions) (with_edit edit))) }
+    ensures kept { HasCleanDisk (state S.Store tx.new.conn.now) → IsTrue tx.old.conn.now.in_transaction
+        → KeepsCommit (state S.Store tx.old.conn.now) (state S.Store tx.new.conn.now) }
+    ensures survives { Survives (state S.Store tx.old.conn.now) (state S.Store tx.new.conn.now) (λ _. ⊥) }
+{
+    match edit {
+        Some(SessionEdit::Put(session)) => put_session(tx, session),
+        Some(SessionEdit::Dropped { r, h }) => drop_session(tx, r, h),
+        None => Ok(()),
+    }
+}

@@ -1,0 +1,7 @@
+pub mod KeepLemmas
+pub mod LookLemmas
+pub mod MakeLemmas
+pub mod OwnLemmas
+pub mod RestartLemmas
+pub mod RiseLemmas
+pub mod TransactLemmas

@@ -1,0 +1,67 @@
+-- Making and renewing a store, step by step.
+use Rattle.std.proofs.Common.{◌≡◌, ℕ, List, [], codes, refl, sym, ap, subst, ◌∙◌}
+use Rattle.sqlite_value.specs.Order.{Row}
+use Rattle.sqlite.specs.Effect.{Database}
+use Rattle.store_schema.specs.declared.Version.{Version}
+use Rattle.store_schema.specs.declared.Version.TheVariants.{First, Second}
+use Rattle.store_schema.specs.Tables.{no_schema, schema_1, schema_2, schema_3, schema_4, schema_of}
+use Rattle.store_rows.specs.Rows.{cell_row, session_row, notice_row, version_text}
+use Rattle.store_rows.specs.Changes.{renewed}
+use Rattle.store_rows.specs.Holding.{HoldsRows, HoldsNotices, IsStoreOf, parts_of, mark}
+use Rattle.store_rows.specs.Steps.{Makes, Brings, Any, with_mark}
+use Rattle.store_tables.specs.Transacts.{Turns, Upgrades, BecomesEmpty, BecomesStore, no_parts}
+
+no_rows : {X : Type 0} (row : X → Row) (rows : List Row) → rows ≡ [] → HoldsRows row [] rows
+no_rows row rows none = rw none (record { keyed = tt; numbered = tt; sound = λ r h. absurd h; complete = λ x h. absurd h })
+
+pub all_made : (a b c d e : Database) → Makes no_schema schema_1 a b → Makes schema_1 schema_2 b c → Makes schema_2 schema_3 c d → Makes schema_3 schema_4 d e → BecomesEmpty a e
+all_made a b c d e one two three four has =
+    let w = one has in
+    let x = two w.schema in
+    let y = three x.schema in
+    let z = four y.schema in
+    let meta : e.trees 0 ≡ [] = z.others.0 ∙ y.others.0 ∙ x.others.0 ∙ w.empty in
+    let cells : e.trees 2 ≡ [] = z.others.1.0 ∙ y.others.1.0 ∙ x.empty in
+    let sessions : e.trees 4 ≡ [] = z.others.1.1.0 ∙ y.empty in
+    record {
+      schema = z.schema;
+      sound = z.sound;
+      rows = rw meta tt;
+      numbered = rw meta tt;
+      marks = tt;
+      cells = no_rows cell_row (e.trees 2) cells;
+      sessions = no_rows session_row (e.trees 4) sessions;
+      notices = no_rows notice_row (e.trees 7) z.empty;
+      cells_rise = tt;
+      sessions_rise = tt;
+      notices_rise = tt;
+    }
+
+pub empty_then : (a b c : Database) (site layout : List ℕ) → BecomesEmpty a b
+    → Brings Any (λ p. with_mark (mark (codes "layout") layout) (with_mark (mark (codes "site") site) (with_mark (mark (codes "version") (version_text Second)) p))) b c → BecomesStore site layout a c
+empty_then a b c site layout one next has = next no_parts refl tt (one has)
+
+pub upgrade_then : (a b c : Database) (version : Version) (layout : List ℕ) → Upgrades version a b → Brings Any (with_mark (mark (codes "layout") layout)) b c → Turns (λ it. it.version ≡ version) (renewed layout) a c
+upgrade_then a b c version layout one next it fits h = next (parts_of (record it { version = Second })) refl tt (one it fits h)
+
+-- a store of the first version gets the table of notices and then the mark of the second
+pub first_upgraded : (a b c : Database) → Makes schema_3 schema_4 a b → Brings Any (with_mark (mark (codes "version") (version_text Second))) b c → Upgrades First a c
+first_upgraded a b c one next it fits h =
+    let w = one (h.schema ∙ ap schema_of fits) in
+    let none : it.notices ≡ [] = subst (λ v. HoldsNotices v it.notices (a.trees 7)) fits h.notices in
+    next (record (parts_of it) { tables = Second }) refl tt (record {
+      schema = w.schema;
+      sound = w.sound;
+      rows = rw w.others.0 h.rows;
+      numbered = rw w.others.0 h.numbered;
+      marks = rw w.others.0 h.marks;
+      cells = subst (HoldsRows cell_row it.cells) (sym w.others.1.0) h.cells;
+      sessions = subst (HoldsRows session_row it.sessions) (sym w.others.1.1.0) h.sessions;
+      notices = subst (λ ns. HoldsRows notice_row ns (b.trees 7)) (sym none) (no_rows notice_row (b.trees 7) w.empty);
+      cells_rise = h.cells_rise;
+      sessions_rise = h.sessions_rise;
+      notices_rise = h.notices_rise;
+    })
+
+pub second_stays : (a : Database) → Upgrades Second a a
+second_stays a it fits h = subst (λ v. IsStoreOf a (record it { version = v })) fits h

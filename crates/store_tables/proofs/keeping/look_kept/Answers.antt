@@ -1,0 +1,91 @@
+use Rattle.std.proofs.Common.{◌≡◌, Option, None, Some, Ok, IfOk, OnOk, IsTrue, ap, subst, ◌∙◌, arith}
+use Rattle.std.proofs.Math.Logic.{∥∥₁_elim}
+use Rattle.sqlite.specs.Effect.{IsDatabase}
+use Rattle.sqlite.specs.State.{HasCleanDisk}
+use Rattle.sqlite.specs.Held.{state}
+use Rattle.store_schema.specs.declared.Found.TheVariants.{Store}
+use Rattle.store_schema.specs.Found.{found_in}
+use Rattle.store_schema.proofs.TableLemmas.{found_blank}
+use Rattle.store_rows.specs.Rows.{Stored}
+use Rattle.store_rows.specs.Holding.{IsStoreOf, Holds, HoldsNothing}
+use Rattle.store_tables.proofs.KeepLemmas.{seen_is, store_of, bare, nothing_seen, settles}
+use Rattle.store_tables.proofs.LookLemmas.{if_ok_given, found_store, found_once, on_ok_given, if_ok_from}
+use Rattle.store_tables.proofs.keeping.look_kept.Goals as goal
+
+pub returns-clause-read : goal.returns-clause-read
+returns-clause-read g c clean it keeps =
+    let old = c.args.conn.now in
+    let early : HasCleanDisk (state g.S.Store old) = omega (arith, c.read_whole.ensures.survives.clean) in
+    let idle = c.is_autocommit-is_idle.ensures.settled (rw (c.is_autocommit-is_idle.ensures.value, c.requires)) in
+    if_ok_given (λ found. found ≡ Some it) c.read_whole.result
+    (λ up.
+    let seen = seen_is g.S.Store g.met.S.Store.settled g.met.S.Store.stays old (Holds it) keeps c.schema.ensures.live idle early up in
+    ∥∥₁_elim seen.1 (found_once c.read_whole.result (Some it)) (λ holds.
+    let store : IsStoreOf (state g.S.Store old).now it = store_of (state g.S.Store old).now it seen.0 holds in
+    let found : c.found_in-found.result ≡ Store it.version = c.found_in-found.ensures ∙ ap found_in (c.schema.ensures.value ∙ store.schema) ∙ found_store it.version in
+    c.read_whole.ensures.read clean it found store))
+    (c.read_whole.ensures.opened clean)
+
+pub returns-clause-own : goal.returns-clause-own
+returns-clause-own g c clean it fits keeps bad =
+    let old = c.args.conn.now in
+    let early : HasCleanDisk (state g.S.Store old) = omega (arith, c.read_whole.ensures.survives.clean) in
+    let idle = c.is_autocommit-is_idle.ensures.settled (rw (c.is_autocommit-is_idle.ensures.value, c.requires)) in
+    let up = c.read_whole.ensures.judged clean bad in
+    let seen = seen_is g.S.Store g.met.S.Store.settled g.met.S.Store.stays old (Holds it) keeps c.schema.ensures.live idle early up in
+    ∥∥₁_elim seen.1 (λ a b. absurd a) (λ holds.
+    let store : IsStoreOf (state g.S.Store old).now it = store_of (state g.S.Store old).now it seen.0 holds in
+    let found : c.found_in-found.result ≡ Store it.version = c.found_in-found.ensures ∙ ap found_in (c.schema.ensures.value ∙ store.schema) ∙ found_store it.version in
+    c.read_whole.ensures.own clean it found store fits bad)
+
+pub returns-clause-blank : goal.returns-clause-blank
+returns-clause-blank g c clean keeps =
+    let old = c.args.conn.now in
+    let early : HasCleanDisk (state g.S.Store old) = omega (arith, c.read_whole.ensures.survives.clean) in
+    let idle = c.is_autocommit-is_idle.ensures.settled (rw (c.is_autocommit-is_idle.ensures.value, c.requires)) in (
+      if_ok_given (λ found. found ≡ None) c.read_whole.result
+          (λ up.
+          let seen = seen_is g.S.Store g.met.S.Store.settled g.met.S.Store.stays old HoldsNothing keeps c.schema.ensures.live idle early up in
+          ∥∥₁_elim seen.1 (found_once c.read_whole.result None) (λ nothing.
+          (c.read_whole.ensures.blank (c.found_in-found.ensures ∙ ap found_in (c.schema.ensures.value ∙ bare (state g.S.Store old).now seen.0 nothing) ∙ found_blank)).0))
+          (c.read_whole.ensures.opened clean),
+      λ bad.
+          let up = c.read_whole.ensures.judged clean bad in
+          let seen = seen_is g.S.Store g.met.S.Store.settled g.met.S.Store.stays old HoldsNothing keeps c.schema.ensures.live idle early up in
+          ∥∥₁_elim seen.1 (λ a b. absurd a) (λ nothing.
+          (c.read_whole.ensures.blank (c.found_in-found.ensures ∙ ap found_in (c.schema.ensures.value ∙ bare (state g.S.Store old).now seen.0 nothing) ∙ found_blank)).1 bad),
+    )
+
+pub returns-clause-fresh : goal.returns-clause-fresh
+returns-clause-fresh g c none =
+    let old = c.args.conn.now in
+    let idle = c.is_autocommit-is_idle.ensures.settled (rw (c.is_autocommit-is_idle.ensures.value, c.requires)) in
+    on_ok_given c.read_whole.result
+    (λ opened. nothing_seen g.S.Store g.met.S.Store.settled g.met.S.Store.stays old c.read_whole.new.conn none c.schema.ensures.live idle c.read_whole.ensures.survives opened)
+    c.read_whole.ensures.opened
+
+pub returns-clause-settles : goal.returns-clause-settles
+returns-clause-settles g c a b keeps =
+    let old = c.args.conn.now in
+    let idle = c.is_autocommit-is_idle.ensures.settled (rw (c.is_autocommit-is_idle.ensures.value, c.requires)) in
+    let holds_as : (it : Stored) (found : Option Stored) → c.read_whole.result ≡ Ok found → HasCleanDisk (state g.S.Store c.read_whole.new.conn) → IsDatabase (state g.S.Store old).now → Holds it (state g.S.Store old).now.trees → found ≡ Some it = λ it found is clean sound holds.
+    let store : IsStoreOf (state g.S.Store old).now it = store_of (state g.S.Store old).now it sound holds in
+    let has : c.found_in-found.result ≡ Store it.version = c.found_in-found.ensures ∙ ap found_in (c.schema.ensures.value ∙ store.schema) ∙ found_store it.version in
+    subst (λ r. IfOk r (λ x. x ≡ Some it)) is (c.read_whole.ensures.read clean it has store) in
+    if_ok_from c.read_whole.result (λ found is.
+    settles g.S.Store g.met.S.Store.settled g.met.S.Store.stays old c.read_whole.new.conn (Holds a) (Holds b) (found ≡ Some a) (found ≡ Some b) keeps c.schema.ensures.live idle c.read_whole.ensures.survives
+    (λ clean. subst (λ r. OnOk r (IsTrue (state g.S.Store old).is_open)) is (c.read_whole.ensures.opened clean)) (holds_as a found is) (holds_as b found is))
+
+pub returns-clause-settles_or : goal.returns-clause-settles_or
+returns-clause-settles_or g c it keeps =
+    let old = c.args.conn.now in
+    let idle = c.is_autocommit-is_idle.ensures.settled (rw (c.is_autocommit-is_idle.ensures.value, c.requires)) in
+    let holds_as : (it : Stored) (found : Option Stored) → c.read_whole.result ≡ Ok found → HasCleanDisk (state g.S.Store c.read_whole.new.conn) → IsDatabase (state g.S.Store old).now → Holds it (state g.S.Store old).now.trees → found ≡ Some it = λ it found is clean sound holds.
+    let store : IsStoreOf (state g.S.Store old).now it = store_of (state g.S.Store old).now it sound holds in
+    let has : c.found_in-found.result ≡ Store it.version = c.found_in-found.ensures ∙ ap found_in (c.schema.ensures.value ∙ store.schema) ∙ found_store it.version in
+    subst (λ r. IfOk r (λ x. x ≡ Some it)) is (c.read_whole.ensures.read clean it has store) in
+    if_ok_from c.read_whole.result (λ found is.
+    settles g.S.Store g.met.S.Store.settled g.met.S.Store.stays old c.read_whole.new.conn HoldsNothing (Holds it) (found ≡ None) (found ≡ Some it) keeps c.schema.ensures.live idle c.read_whole.ensures.survives
+    (λ clean. subst (λ r. OnOk r (IsTrue (state g.S.Store old).is_open)) is (c.read_whole.ensures.opened clean))
+    (λ clean sound nothing. subst (λ r. IfOk r (λ x. x ≡ None)) is (c.read_whole.ensures.blank (c.found_in-found.ensures ∙ ap found_in (c.schema.ensures.value ∙ bare (state g.S.Store old).now sound nothing) ∙ found_blank)).0)
+    (holds_as it found is))

@@ -1,0 +1,19 @@
+use Rattle.store_rows.specs.Changes.{changed}
+use Rattle.store_rows.specs.Holding.{Holds}
+use Rattle.store_tables.specs.Transacts.{Takes, Turns}
+use Rattle.store_tables.proofs.KeepLemmas.{turned, leaves_done, leaves_either, on_ok_under}
+use Rattle.store_tables.proofs.keeping.write_kept.Goals as goal
+
+pub returns-clause-done : goal.returns-clause-done
+returns-clause-done g c it fits keeps =
+    let idle = c.is_autocommit-is_idle.ensures.settled (rw (c.is_autocommit-is_idle.ensures.value, c.requires.idle)) in
+    on_ok_under c.write.result
+    (leaves_done g.S.Store g.met.S.Store.settled g.met.S.Store.stays c.args.conn.now c.write.new.conn (Holds it) (Holds ((changed c.args.cells.now c.args.notices.now c.args.edit) it)) (Turns (Takes c.args.edit) (changed c.args.cells.now c.args.notices.now c.args.edit)) (turned (Takes c.args.edit) (changed c.args.cells.now c.args.notices.now c.args.edit) it fits) keeps
+    c.schema-schema.ensures.live idle c.write.ensures.survives)
+    c.write.ensures.done
+
+pub returns-clause-either : goal.returns-clause-either
+returns-clause-either g c it fits keeps =
+    let idle = c.is_autocommit-is_idle.ensures.settled (rw (c.is_autocommit-is_idle.ensures.value, c.requires.idle)) in
+    leaves_either g.S.Store g.met.S.Store.settled g.met.S.Store.stays c.args.conn.now c.write.new.conn (Holds it) (Holds ((changed c.args.cells.now c.args.notices.now c.args.edit) it)) (Turns (Takes c.args.edit) (changed c.args.cells.now c.args.notices.now c.args.edit)) (turned (Takes c.args.edit) (changed c.args.cells.now c.args.notices.now c.args.edit) it fits) keeps
+    c.schema-schema.ensures.live idle c.write.ensures.survives

@@ -1,0 +1,55 @@
+-- What a store over a connection keeps.
+use Rattle.std.specs.Prelude.{◌≡◌, Bool, Option, None, Some}
+use Rattle.sqlite_trees.specs.declared.store.Store.{Ghosts}
+use Rattle.sqlite.specs.State.{HasCleanDisk}
+use Rattle.sqlite.specs.Held.{Held, state}
+use Rattle.sqlite_schema.specs.declared.schema.Schema.{Schema}
+use Rattle.store_schema.specs.Tables.{no_schema}
+use Rattle.store_rows.specs.Rows.{Stored}
+use Rattle.store_rows.specs.Holding.{Keeps, KeepsEither, KeepsNothing, KeepsNothingOr}
+use Rattle.store_tables.specs.declared.tables.Tables.{Tables}
+
+module _ {S : Type 0} {g : Ghosts S} where
+  -- the device, or the database above it, has refused a call
+  abbrev pub has_failed : Tables S g → Bool
+  has_failed t = t.failed
+
+  -- the connection below
+  abbrev pub connection_of : Tables S g → Held S
+  connection_of t = t.conn
+
+  -- the tables that the connection sees
+  abbrev pub schema_of : Tables S g → Schema
+  schema_of t = (state g t.conn).now.schema
+
+  -- it sees none
+  abbrev pub IsBlank : Tables S g → Type 0
+  IsBlank t = schema_of t ≡ no_schema
+
+  -- whatever a crash at this moment leaves is a store with this content
+  abbrev pub KeepsStore : Tables S g → Stored → Type 0
+  KeepsStore t it = Keeps g t.conn it
+
+  -- whatever a crash at this moment leaves is a store with one of two contents
+  abbrev pub KeepsOneOf : Tables S g → Stored → Stored → Type 0
+  KeepsOneOf t a b = KeepsEither g t.conn a b
+
+  -- whatever a crash at this moment leaves is a database without tables
+  abbrev pub KeepsBlank : Tables S g → Type 0
+  KeepsBlank t = KeepsNothing g t.conn
+
+  -- whatever a crash at this moment leaves is a database without tables, or a store with this content
+  abbrev pub KeepsBlankOr : Tables S g → Stored → Type 0
+  KeepsBlankOr t it = KeepsNothingOr g t.conn it
+
+  -- the device has given back what was written so far
+  abbrev pub IsHonest : Tables S g → Type 0
+  IsHonest t = HasCleanDisk (state g t.conn)
+
+  -- a content is what is kept, and a look has found it
+  abbrev pub Settles : Tables S g → Option Stored → Stored → Type 0
+  Settles t found it = KeepsStore t it × (IsHonest t → found ≡ Some it)
+
+  -- no table is what is kept, and a look has found none
+  abbrev pub SettlesBlank : Tables S g → Option Stored → Type 0
+  SettlesBlank t found = KeepsBlank t × (IsHonest t → found ≡ None)

@@ -1,0 +1,39 @@
+-- What the rows that a look shows tell, and the numbers that a store takes.
+use Rattle.std.specs.Prelude.{◌≡◌, ◌<◌, ◌≤◌, ◌^◌, Bool, true, ◌&&◌, List, [], ◌∷◌, All}
+use Rattle.sqlite_value.specs.declared.value.Value.TheVariants.{Text}
+use Rattle.sqlite_value.specs.Order.{Row, column}
+use Rattle.sqlite_rules.specs.Lists.{Has}
+use Rattle.store_rows.specs.declared.content.StoredCell.{StoredCell}
+use Rattle.store_rows.specs.declared.content.StoredSession.{StoredSession}
+use Rattle.store_rows.specs.declared.content.StoredNotice.{StoredNotice}
+use Rattle.store_rows.specs.Rows.{Stored, mark_row}
+use Rattle.store_rows.specs.Holding.{Mark}
+
+-- each element stands before the next
+abbrev pub is_chain : {X : Type 0} → (X → X → Bool) → List X → Bool
+is_chain before [] = true
+is_chain before (x ∷ []) = true
+is_chain before (x ∷ (y ∷ ys)) = before x y && is_chain before (y ∷ ys)
+
+-- rows of names and values tell a mark, and no other value for its name
+pub record TellsMark (rows : List Row) (m : Mark) : Type 0 where
+  pub there : Has rows (mark_row m.name m.value)
+  pub alone : (r : Row) → Has rows r → column r 0 ≡ Text m.name → r ≡ mark_row m.name m.value
+
+-- record and slot are up to 65,535
+abbrev pub IsCellInRange : StoredCell → Type 0
+IsCellInRange c = (c.r < 2 ^ 16) × (c.slot < 2 ^ 16)
+
+-- and a place is from 1 to 2^62
+abbrev pub IsSessionInRange : StoredSession → Type 0
+IsSessionInRange s = (s.r < 2 ^ 16) × (0 < s.place) × (s.place ≤ 2 ^ 62)
+
+-- there are sixteen sites at most
+abbrev pub IsNoticeInRange : StoredNotice → Type 0
+IsNoticeInRange n = (n.r < 2 ^ 16) × (n.site < 16)
+
+-- the numbers of a content are such as the tables take (formats of this project)
+pub record IsInRange (it : Stored) : Type 0 where
+  pub cells : All IsCellInRange it.cells
+  pub sessions : All IsSessionInRange it.sessions
+  pub notices : All IsNoticeInRange it.notices

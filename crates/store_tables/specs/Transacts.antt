@@ -1,0 +1,52 @@
+-- What one transaction does to a store, and what a store over a connection keeps.
+use Rattle.std.specs.Prelude.{◌≡◌, ℕ, List, [], IsTrue}
+use Rattle.sqlite_trees.specs.Tree.{Trees}
+use Rattle.sqlite.specs.Effect.{Database}
+use Rattle.sqlite.specs.State.{State}
+use Rattle.store_schema.specs.declared.Version.{Version}
+use Rattle.store_schema.specs.declared.Version.TheVariants.{Second}
+use Rattle.store_schema.specs.Tables.{no_schema}
+use Rattle.store_rows.specs.declared.content.SessionEdit.{SessionEdit}
+use Rattle.std.specs.Prelude.{Option}
+use Rattle.store_rows.specs.Rows.{Stored}
+use Rattle.store_rows.specs.Holding.{Parts, HoldsParts, IsStoreOf}
+use Rattle.store_rows.specs.Steps.{HasFreePlace}
+
+-- what a transaction did is committed
+pub record HasCommitted (old new : State) (Effect : Database → Database → Type 0) : Type 0 where
+  pub was_open : IsTrue old.is_open
+  pub is_open : IsTrue new.is_open
+  pub effect : Effect old.now new.committed
+
+-- trees that a transaction commits, of a connection that was open
+abbrev pub MayCommit : State → (Database → Database → Type 0) → Trees → Type 0
+MayCommit old Effect trees = IsTrue old.is_open × (d : Database) × Effect old.now d × (d.trees ≡ trees)
+
+-- a store with one content becomes one with another
+abbrev pub Turns : (Stored → Type 0) → (Stored → Stored) → Database → Database → Type 0
+Turns Fits f a b = (it : Stored) → Fits it → IsStoreOf a it → IsStoreOf b (f it)
+
+-- a commit asks of the content that it is of the second version and that a session's place is free
+pub record Takes (edit : Option SessionEdit) (it : Stored) : Type 0 where
+  pub second : it.version ≡ Second
+  pub free : HasFreePlace edit it.sessions
+
+-- the parts of a store of the second version that has no mark yet
+abbrev pub no_parts : Parts
+no_parts = record { tables = Second; marks = []; cells = []; sessions = []; notices = [] }
+
+-- a new store
+abbrev pub made : List ℕ → List ℕ → Stored
+made site layout = record { version = Second; site = site; layout = layout; cells = []; sessions = []; notices = [] }
+
+-- a database without tables becomes a new store
+abbrev pub BecomesStore : List ℕ → List ℕ → Database → Database → Type 0
+BecomesStore site layout a b = a.schema ≡ no_schema → IsStoreOf b (made site layout)
+
+-- a database without tables gets those of a store
+abbrev pub BecomesEmpty : Database → Database → Type 0
+BecomesEmpty a b = a.schema ≡ no_schema → HoldsParts no_parts b
+
+-- a store of a version becomes one of the second
+abbrev pub Upgrades : Version → Database → Database → Type 0
+Upgrades version = Turns (λ it. it.version ≡ version) (λ it. record it { version = Second })

@@ -1,0 +1,70 @@
+//! One change of a store, as one transaction.
+ghost use Rattle.std.specs.Prelude.{◌≡◌, ◌<◌, ◌^◌, false, All, IsTrue, OnOk, OnErr};
+ghost use Rattle.sqlite.specs.State.{HasCleanDisk, IsUnchanged, KeepsCommit, Survives};
+ghost use Rattle.sqlite.specs.Held.{state};
+ghost use Rattle.store_rows.specs.Changes.{changed};
+ghost use Rattle.store_rows.specs.Steps.{Goes, Brings, HasFreePlace, IsStorable, with_cells, with_notices, with_edit};
+ghost use Rattle.store_tables.specs.Transacts.{HasCommitted, MayCommit, Turns, Takes};
+
+use sqlite::{Alter, Connection, Error, Transaction};
+use store_rows::writes::{edit_session, put_cells, put_notices};
+use store_rows::{SessionEdit, StoredCell, StoredNotice};
+
+/// Goes on only where the connection is open. Changes nothing.
+pub(crate) fn check_open<S: Alter>(tx: &mut Transaction<'_, S>) -> Result<(), Error>
+    ensures same_reference { tx.new.conn.ghost_name ≡ tx.old.conn.ghost_name }
+    ensures open { HasCleanDisk (state S.Store tx.new.conn.now) → OnOk result (IsUnchanged (state S.Store tx.old.conn.now) (state S.Store tx.new.conn.now)) }
+    ensures kept { HasCleanDisk (state S.Store tx.new.conn.now) → KeepsCommit (state S.Store tx.old.conn.now) (state S.Store tx.new.conn.now) }
+    ensures survives { Survives (state S.Store tx.old.conn.now) (state S.Store tx.new.conn.now) (λ _. ⊥) }
+{
+    let _statement = tx.prepare("SELECT 1")?;
+    Ok(())
+}
+
+/// Sets counters and notices, and puts or drops a session.
+fn change<S: Alter>(
+    tx: &mut Transaction<'_, S>,
+    cells: &[StoredCell],
+    notices: &[StoredNotice],
+    edit: Option<SessionEdit>,
+) -> Result<(), Error>
+    requires cells { All (λ c. c.n < 2 ^ 63) cells.now }
+    requires notices { All (λ n. (n.announced < 2 ^ 63) × (n.finished < 2 ^ 63)) notices.now }
+    requires edit { IsStorable edit }
+    ensures same_reference { tx.new.conn.ghost_name ≡ tx.old.conn.ghost_name }
+    ensures goes { HasCleanDisk (state S.Store tx.new.conn.now) → IsTrue tx.old.conn.now.in_transaction
+        → OnOk result (Goes (state S.Store tx.old.conn.now) (state S.Store tx.new.conn.now)
+        (Brings (λ p. HasFreePlace edit p.sessions) (λ p. with_edit edit (with_notices notices.now (with_cells cells.now p))))) }
+    ensures kept { HasCleanDisk (state S.Store tx.new.conn.now) → IsTrue tx.old.conn.now.in_transaction
+        → KeepsCommit (state S.Store tx.old.conn.now) (state S.Store tx.new.conn.now) }
+    ensures opened { HasCleanDisk (state S.Store tx.new.conn.now) → OnOk result (IsTrue (state S.Store tx.old.conn.now).is_open) }
+    ensures survives { Survives (state S.Store tx.old.conn.now) (state S.Store tx.new.conn.now) (λ _. ⊥) }
+{
+    check_open(tx)?;
+    put_cells(tx, cells)?;
+    put_notices(tx, notices)?;
+    edit_session(tx, edit)
+}
+
+/// Sets counters and notices, and puts or drops a session, in one transaction.
+pub(crate) fn write<S: Alter>(
+    conn: &mut Connection<S>,
+    cells: &[StoredCell],
+    notices: &[StoredNotice],
+    edit: Option<SessionEdit>,
+) -> Result<(), Error>
+    requires idle { conn.old.in_transaction ≡ false }
+    requires cells { All (λ c. c.n < 2 ^ 63) cells.now }
+    requires notices { All (λ n. (n.announced < 2 ^ 63) × (n.finished < 2 ^ 63)) notices.now }
+    requires edit { IsStorable edit }
+    ensures idle { conn.new.in_transaction ≡ false }
+    ensures done { HasCleanDisk (state S.Store conn.new)
+        → OnOk result (HasCommitted (state S.Store conn.old) (state S.Store conn.new) (Turns (Takes edit) (changed cells.now notices.now edit))) }
+    ensures kept { HasCleanDisk (state S.Store conn.new) → OnErr result (KeepsCommit (state S.Store conn.old) (state S.Store conn.new)) }
+    ensures survives { Survives (state S.Store conn.old) (state S.Store conn.new)
+        (MayCommit (state S.Store conn.old) (Turns (Takes edit) (changed cells.now notices.now edit))) }
+{
+    let mut tx = conn.transaction();
+    change(&mut tx, cells, notices, edit)?;
+    tx.commit()
+}

@@ -1,0 +1,184 @@
+//! What a connection keeps, over each transaction.
+ghost use Rattle.std.specs.Prelude.{◌≡◌, ◌≢◌, ◌⊎◌, ◌<◌, ◌^◌, false, All, None, Some, Ok, Err, IsTrue, IfOk, OnOk, OnErr};
+ghost use Rattle.sqlite.specs.State.{HasCleanDisk, Survives};
+ghost use Rattle.sqlite.specs.Held.{state};
+ghost use Rattle.store_schema.specs.Tables.{no_schema};
+ghost use Rattle.store_schema.specs.Found.{found_in};
+ghost use Rattle.store_schema.specs.declared.Found.TheVariants.{Blank, Store};
+ghost use Rattle.store_rows.specs.Changes.{changed, renewed};
+ghost use Rattle.store_rows.specs.Holding.{Keeps, KeepsEither, KeepsNothing, KeepsNothingOr, Holds, HoldsNothing, IsStoreOf};
+ghost use Rattle.store_rows.specs.Steps.{IsStorable};
+ghost use Rattle.store_tables.specs.Transacts.{Takes, made};
+ghost use Rattle.store_tables.specs.Reads.{IsInRange};
+ghost use Rattle.store_tables.specs.declared.reads.Unread.TheVariants.{Bad};
+
+use crate::commits::{check_open, write};
+use crate::making::{make, renew};
+use crate::reads::{Unread, read_all};
+use sqlite::{Alter, Connection, Error, ErrorCode, Transaction};
+use std::alloc::Global;
+use store_rows::{Content, SessionEdit, StoredCell, StoredNotice, Version};
+use store_schema::{Found, found_in};
+
+fn is_memory(error: Error) -> bool {
+    error == Error::SqliteFailure(ErrorCode::OutOfMemory)
+}
+
+/// Whether the connection is open still, with the last commit as it was. Commits nothing.
+fn is_open<S: Alter>(conn: &mut Connection<S>) -> bool
+    requires { conn.old.in_transaction ≡ false }
+    ensures idle { conn.new.in_transaction ≡ false }
+    ensures settled { HasCleanDisk (state S.Store conn.new) → IsTrue result → (db : _) → (state S.Store conn.new).may_leave db → db ≡ (state S.Store conn.old).committed.trees }
+    ensures was_open { HasCleanDisk (state S.Store conn.new) → IsTrue result → IsTrue (state S.Store conn.old).is_open }
+    ensures survives { Survives (state S.Store conn.old) (state S.Store conn.new) (λ _. ⊥) }
+{
+    conn.prepare("SELECT 1").is_ok()
+}
+
+/// Whether a refused statement met want of memory alone, and the connection is open still with the last commit as it
+/// was. Commits nothing.
+pub(crate) fn is_unchanged<S: Alter>(conn: &mut Connection<S>, error: Error) -> bool
+    requires { conn.old.in_transaction ≡ false }
+    ensures idle { conn.new.in_transaction ≡ false }
+    ensures settled { HasCleanDisk (state S.Store conn.new) → IsTrue result → (db : _) → (state S.Store conn.new).may_leave db → db ≡ (state S.Store conn.old).committed.trees }
+    ensures was_open { HasCleanDisk (state S.Store conn.new) → IsTrue result → IsTrue (state S.Store conn.old).is_open }
+    ensures survives { Survives (state S.Store conn.old) (state S.Store conn.new) (λ _. ⊥) }
+{
+    if !is_memory(error) {
+        return false;
+    }
+    is_open(conn)
+}
+
+/// A change of a store, by what the connection keeps.
+pub(crate) fn write_kept<S: Alter>(
+    conn: &mut Connection<S>,
+    cells: &[StoredCell],
+    notices: &[StoredNotice],
+    edit: Option<SessionEdit>,
+) -> Result<(), Error>
+    requires idle { conn.old.in_transaction ≡ false }
+    requires cells { All (λ c. c.n < 2 ^ 63) cells.now }
+    requires notices { All (λ n. (n.announced < 2 ^ 63) × (n.finished < 2 ^ 63)) notices.now }
+    requires edit { IsStorable edit }
+    ensures idle { conn.new.in_transaction ≡ false }
+    ensures honest { HasCleanDisk (state S.Store conn.new) → HasCleanDisk (state S.Store conn.old) }
+    ensures done { (it : _) → Takes edit it → Keeps S.Store conn.old it → OnOk result (Keeps S.Store conn.new (changed cells.now notices.now edit it)) }
+    ensures either { (it : _) → Takes edit it → Keeps S.Store conn.old it → KeepsEither S.Store conn.new it (changed cells.now notices.now edit it) }
+    ensures undone { (it : _) → Keeps S.Store conn.old it → HasCleanDisk (state S.Store conn.new)
+        → OnErr result (IsTrue (state S.Store conn.new).is_open → ∥ Holds it (state S.Store conn.new).committed.trees ∥₁) }
+{
+    let _is_idle = conn.is_autocommit();
+    let _schema = conn.schema();
+    write(conn, cells, notices, edit)
+}
+
+/// A new store, by what the connection keeps.
+pub(crate) fn make_kept<S: Alter>(
+    conn: &mut Connection<S>,
+    site: &str,
+    layout: &str,
+) -> Result<(), Error>
+    requires { conn.old.in_transaction ≡ false }
+    ensures idle { conn.new.in_transaction ≡ false }
+    ensures honest { HasCleanDisk (state S.Store conn.new) → HasCleanDisk (state S.Store conn.old) }
+    ensures done { KeepsNothing S.Store conn.old → OnOk result (Keeps S.Store conn.new (made site.now layout.now)) }
+    ensures either { KeepsNothing S.Store conn.old → KeepsNothingOr S.Store conn.new (made site.now layout.now) }
+    ensures undone { KeepsNothing S.Store conn.old → HasCleanDisk (state S.Store conn.new)
+        → OnErr result (IsTrue (state S.Store conn.new).is_open → ∥ HoldsNothing (state S.Store conn.new).committed.trees ∥₁) }
+{
+    let _is_idle = conn.is_autocommit();
+    let _schema = conn.schema();
+    make(conn, site, layout)
+}
+
+/// A store brought to the second version and to a layout line, by what the connection keeps.
+pub(crate) fn renew_kept<S: Alter>(
+    conn: &mut Connection<S>,
+    version: Version,
+    layout: &str,
+) -> Result<(), Error>
+    requires { conn.old.in_transaction ≡ false }
+    ensures idle { conn.new.in_transaction ≡ false }
+    ensures honest { HasCleanDisk (state S.Store conn.new) → HasCleanDisk (state S.Store conn.old) }
+    ensures done { (it : _) → it.version ≡ version → Keeps S.Store conn.old it → OnOk result (Keeps S.Store conn.new (renewed layout.now it)) }
+    ensures either { (it : _) → it.version ≡ version → Keeps S.Store conn.old it → KeepsEither S.Store conn.new it (renewed layout.now it) }
+    ensures undone { (it : _) → Keeps S.Store conn.old it → HasCleanDisk (state S.Store conn.new)
+        → OnErr result (IsTrue (state S.Store conn.new).is_open → ∥ Holds it (state S.Store conn.new).committed.trees ∥₁) }
+{
+    let _is_idle = conn.is_autocommit();
+    let _schema = conn.schema();
+    renew(conn, version, layout)
+}
+
+/// What a database holds in whose schema this was found, inside one transaction, which changes nothing.
+fn read_found<S: Alter>(
+    alloc: Global,
+    tx: &mut Transaction<'_, S>,
+    found: Found,
+) -> Result<Option<Content>, Unread>
+    ensures same_reference { tx.new.conn.ghost_name ≡ tx.old.conn.ghost_name }
+    ensures opened { HasCleanDisk (state S.Store tx.new.conn.now) → OnOk result (IsTrue (state S.Store tx.old.conn.now).is_open) }
+    ensures judged { HasCleanDisk (state S.Store tx.new.conn.now) → result ≡ Err Bad → IsTrue (state S.Store tx.old.conn.now).is_open }
+    ensures read { HasCleanDisk (state S.Store tx.new.conn.now) → (it : _) → found ≡ Store it.version → IsStoreOf (state S.Store tx.old.conn.now).now it
+        → IfOk result (λ content. content ≡ Some it) }
+    ensures own { HasCleanDisk (state S.Store tx.new.conn.now) → (it : _) → found ≡ Store it.version → IsStoreOf (state S.Store tx.old.conn.now).now it → IsInRange it → result ≢ Err Bad }
+    ensures blank { found ≡ Blank → IfOk result (λ content. content ≡ None) × (result ≢ Err Bad) }
+    ensures cause { result ≡ Ok None → found ≡ Blank }
+    ensures survives { Survives (state S.Store tx.old.conn.now) (state S.Store tx.new.conn.now) (λ _. ⊥) }
+{
+    check_open(tx)?;
+    match found {
+        Found::Blank => Ok(None),
+        Found::Other => Err(Unread::Bad),
+        Found::Store(version) => {
+            let content = read_all(alloc, tx, version)?;
+            Ok(Some(content))
+        }
+    }
+}
+
+/// The same, in a transaction of its own.
+fn read_whole<S: Alter>(
+    alloc: Global,
+    conn: &mut Connection<S>,
+    found: Found,
+) -> Result<Option<Content>, Unread>
+    requires { conn.old.in_transaction ≡ false }
+    ensures idle { conn.new.in_transaction ≡ false }
+    ensures opened { HasCleanDisk (state S.Store conn.new) → OnOk result (IsTrue (state S.Store conn.old).is_open) }
+    ensures judged { HasCleanDisk (state S.Store conn.new) → result ≡ Err Bad → IsTrue (state S.Store conn.old).is_open }
+    ensures read { HasCleanDisk (state S.Store conn.new) → (it : _) → found ≡ Store it.version → IsStoreOf (state S.Store conn.old).now it
+        → IfOk result (λ content. content ≡ Some it) }
+    ensures own { HasCleanDisk (state S.Store conn.new) → (it : _) → found ≡ Store it.version → IsStoreOf (state S.Store conn.old).now it → IsInRange it → result ≢ Err Bad }
+    ensures blank { found ≡ Blank → IfOk result (λ content. content ≡ None) × (result ≢ Err Bad) }
+    ensures cause { result ≡ Ok None → found ≡ Blank }
+    ensures survives { Survives (state S.Store conn.old) (state S.Store conn.new) (λ _. ⊥) }
+{
+    let mut tx = conn.transaction();
+    let content = read_found(alloc, &mut tx, found)?;
+    Ok(content)
+}
+
+/// What a database holds, by what the connection keeps.
+pub(crate) fn look_kept<S: Alter>(
+    alloc: Global,
+    conn: &mut Connection<S>,
+) -> Result<Option<Content>, Unread>
+    requires { conn.old.in_transaction ≡ false }
+    ensures idle { conn.new.in_transaction ≡ false }
+    ensures read { HasCleanDisk (state S.Store conn.new) → (it : _) → Keeps S.Store conn.old it → IfOk result (λ found. found ≡ Some it) }
+    ensures own { HasCleanDisk (state S.Store conn.new) → (it : _) → IsInRange it → Keeps S.Store conn.old it → result ≢ Err Bad }
+    ensures blank { HasCleanDisk (state S.Store conn.new) → KeepsNothing S.Store conn.old → IfOk result (λ found. found ≡ None) × (result ≢ Err Bad) }
+    ensures settles { (a : _) → (b : _) → KeepsEither S.Store conn.old a b
+        → IfOk result (λ found. ∥ (Keeps S.Store conn.new a × (HasCleanDisk (state S.Store conn.new) → found ≡ Some a)) ⊎ (Keeps S.Store conn.new b × (HasCleanDisk (state S.Store conn.new) → found ≡ Some b)) ∥₁) }
+    ensures settles_or { (it : _) → KeepsNothingOr S.Store conn.old it
+        → IfOk result (λ found. ∥ (KeepsNothing S.Store conn.new × (HasCleanDisk (state S.Store conn.new) → found ≡ None)) ⊎ (Keeps S.Store conn.new it × (HasCleanDisk (state S.Store conn.new) → found ≡ Some it)) ∥₁) }
+    ensures cause { result ≡ Ok None → found_in (state S.Store conn.old).now.schema ≡ Blank }
+    ensures fresh { (state S.Store conn.old).now.schema ≡ no_schema → OnOk result (KeepsNothing S.Store conn.new) }
+    ensures survives { Survives (state S.Store conn.old) (state S.Store conn.new) (λ _. ⊥) }
+{
+    let _is_idle = conn.is_autocommit();
+    let found = found_in(conn.schema());
+    read_whole(alloc, conn, found)
+}

@@ -1,0 +1,142 @@
+//! The tables are made, and a store of the first version becomes one of the second.
+ghost use Rattle.std.specs.Prelude.{◌≡◌, false, IsTrue, OnOk, OnErr, codes};
+ghost use Rattle.sqlite.specs.State.{HasCleanDisk, KeepsCommit, Survives};
+ghost use Rattle.sqlite.specs.Held.{state};
+ghost use Rattle.store_schema.specs.declared.Version.TheVariants.{Second};
+ghost use Rattle.store_rows.specs.Rows.{version_text};
+ghost use Rattle.store_rows.specs.Changes.{renewed};
+ghost use Rattle.store_rows.specs.Holding.{mark};
+ghost use Rattle.store_rows.specs.Steps.{Goes, Brings, Any, with_mark};
+ghost use Rattle.store_tables.specs.Transacts.{HasCommitted, MayCommit, Turns, Upgrades, BecomesEmpty, BecomesStore};
+
+use crate::commits::check_open;
+use sqlite::{Alter, Connection, Error, Transaction};
+use store_rows::Version;
+use store_rows::writes::{create_cells, create_meta, create_notices, create_sessions, put_mark};
+
+/// The text that `meta` has for a version.
+pub(crate) fn version_text(version: Version) -> &'static str
+    ensures { result.now ≡ version_text version }
+{
+    match version {
+        Version::First => "1",
+        Version::Second => "2",
+    }
+}
+
+/// The tables, always in one order, so that every store of a version has one schema.
+fn create_tables<S: Alter>(tx: &mut Transaction<'_, S>) -> Result<(), Error>
+    ensures same_reference { tx.new.conn.ghost_name ≡ tx.old.conn.ghost_name }
+    ensures goes { HasCleanDisk (state S.Store tx.new.conn.now) → IsTrue tx.old.conn.now.in_transaction
+        → OnOk result (Goes (state S.Store tx.old.conn.now) (state S.Store tx.new.conn.now) (BecomesEmpty)) }
+    ensures kept { HasCleanDisk (state S.Store tx.new.conn.now) → IsTrue tx.old.conn.now.in_transaction
+        → KeepsCommit (state S.Store tx.old.conn.now) (state S.Store tx.new.conn.now) }
+    ensures survives { Survives (state S.Store tx.old.conn.now) (state S.Store tx.new.conn.now) (λ _. ⊥) }
+{
+    create_meta(tx)?;
+    create_cells(tx)?;
+    create_sessions(tx)?;
+    create_notices(tx)
+}
+
+/// The rows of `meta`.
+fn put_marks<S: Alter>(tx: &mut Transaction<'_, S>, site: &str, layout: &str) -> Result<(), Error>
+    ensures same_reference { tx.new.conn.ghost_name ≡ tx.old.conn.ghost_name }
+    ensures goes { HasCleanDisk (state S.Store tx.new.conn.now) → IsTrue tx.old.conn.now.in_transaction
+        → OnOk result (Goes (state S.Store tx.old.conn.now) (state S.Store tx.new.conn.now) (Brings Any (λ p. with_mark (mark (codes "layout") layout.now) (with_mark (mark (codes "site") site.now) (with_mark (mark (codes "version") (version_text Second)) p))))) }
+    ensures kept { HasCleanDisk (state S.Store tx.new.conn.now) → IsTrue tx.old.conn.now.in_transaction
+        → KeepsCommit (state S.Store tx.old.conn.now) (state S.Store tx.new.conn.now) }
+    ensures survives { Survives (state S.Store tx.old.conn.now) (state S.Store tx.new.conn.now) (λ _. ⊥) }
+{
+    put_mark(tx, "version", version_text(Version::Second))?;
+    put_mark(tx, "site", site)?;
+    put_mark(tx, "layout", layout)
+}
+
+/// Makes the tables and their marks.
+fn make_all<S: Alter>(tx: &mut Transaction<'_, S>, site: &str, layout: &str) -> Result<(), Error>
+    ensures same_reference { tx.new.conn.ghost_name ≡ tx.old.conn.ghost_name }
+    ensures goes { HasCleanDisk (state S.Store tx.new.conn.now) → IsTrue tx.old.conn.now.in_transaction
+        → OnOk result (Goes (state S.Store tx.old.conn.now) (state S.Store tx.new.conn.now) (BecomesStore site.now layout.now)) }
+    ensures kept { HasCleanDisk (state S.Store tx.new.conn.now) → IsTrue tx.old.conn.now.in_transaction
+        → KeepsCommit (state S.Store tx.old.conn.now) (state S.Store tx.new.conn.now) }
+    ensures opened { HasCleanDisk (state S.Store tx.new.conn.now) → OnOk result (IsTrue (state S.Store tx.old.conn.now).is_open) }
+    ensures survives { Survives (state S.Store tx.old.conn.now) (state S.Store tx.new.conn.now) (λ _. ⊥) }
+{
+    check_open(tx)?;
+    create_tables(tx)?;
+    put_marks(tx, site, layout)
+}
+
+/// Makes an empty store of the second version, in one transaction.
+pub(crate) fn make<S: Alter>(
+    conn: &mut Connection<S>,
+    site: &str,
+    layout: &str,
+) -> Result<(), Error>
+    requires { conn.old.in_transaction ≡ false }
+    ensures idle { conn.new.in_transaction ≡ false }
+    ensures done { HasCleanDisk (state S.Store conn.new)
+        → OnOk result (HasCommitted (state S.Store conn.old) (state S.Store conn.new) (BecomesStore site.now layout.now)) }
+    ensures kept { HasCleanDisk (state S.Store conn.new) → OnErr result (KeepsCommit (state S.Store conn.old) (state S.Store conn.new)) }
+    ensures survives { Survives (state S.Store conn.old) (state S.Store conn.new) (MayCommit (state S.Store conn.old) (BecomesStore site.now layout.now)) }
+{
+    let mut tx = conn.transaction();
+    make_all(&mut tx, site, layout)?;
+    tx.commit()
+}
+
+/// Makes the table of notices and sets the version, where the store is of the first version.
+fn upgrade<S: Alter>(tx: &mut Transaction<'_, S>, version: Version) -> Result<(), Error>
+    ensures same_reference { tx.new.conn.ghost_name ≡ tx.old.conn.ghost_name }
+    ensures goes { HasCleanDisk (state S.Store tx.new.conn.now) → IsTrue tx.old.conn.now.in_transaction
+        → OnOk result (Goes (state S.Store tx.old.conn.now) (state S.Store tx.new.conn.now) (Upgrades version)) }
+    ensures kept { HasCleanDisk (state S.Store tx.new.conn.now) → IsTrue tx.old.conn.now.in_transaction
+        → KeepsCommit (state S.Store tx.old.conn.now) (state S.Store tx.new.conn.now) }
+    ensures survives { Survives (state S.Store tx.old.conn.now) (state S.Store tx.new.conn.now) (λ _. ⊥) }
+{
+    match version {
+        Version::First => {
+            create_notices(tx)?;
+            put_mark(tx, "version", version_text(Version::Second))
+        }
+        Version::Second => Ok(()),
+    }
+}
+
+/// Brings a store to the second version and to a layout line.
+fn renew_all<S: Alter>(
+    tx: &mut Transaction<'_, S>,
+    version: Version,
+    layout: &str,
+) -> Result<(), Error>
+    ensures same_reference { tx.new.conn.ghost_name ≡ tx.old.conn.ghost_name }
+    ensures goes { HasCleanDisk (state S.Store tx.new.conn.now) → IsTrue tx.old.conn.now.in_transaction
+        → OnOk result (Goes (state S.Store tx.old.conn.now) (state S.Store tx.new.conn.now) (Turns (λ it. it.version ≡ version) (renewed layout.now))) }
+    ensures kept { HasCleanDisk (state S.Store tx.new.conn.now) → IsTrue tx.old.conn.now.in_transaction
+        → KeepsCommit (state S.Store tx.old.conn.now) (state S.Store tx.new.conn.now) }
+    ensures opened { HasCleanDisk (state S.Store tx.new.conn.now) → OnOk result (IsTrue (state S.Store tx.old.conn.now).is_open) }
+    ensures survives { Survives (state S.Store tx.old.conn.now) (state S.Store tx.new.conn.now) (λ _. ⊥) }
+{
+    check_open(tx)?;
+    upgrade(tx, version)?;
+    put_mark(tx, "layout", layout)
+}
+
+/// Brings a store to the second version and to a layout line, in one transaction.
+pub(crate) fn renew<S: Alter>(
+    conn: &mut Connection<S>,
+    version: Version,
+    layout: &str,
+) -> Result<(), Error>
+    requires { conn.old.in_transaction ≡ false }
+    ensures idle { conn.new.in_transaction ≡ false }
+    ensures done { HasCleanDisk (state S.Store conn.new)
+        → OnOk result (HasCommitted (state S.Store conn.old) (state S.Store conn.new) (Turns (λ it. it.version ≡ version) (renewed layout.now))) }
+    ensures kept { HasCleanDisk (state S.Store conn.new) → OnErr result (KeepsCommit (state S.Store conn.old) (state S.Store conn.new)) }
+    ensures survives { Survives (state S.Store conn.old) (state S.Store conn.new) (MayCommit (state S.Store conn.old) (Turns (λ it. it.version ≡ version) (renewed layout.now))) }
+{
+    let mut tx = conn.transaction();
+    renew_all(&mut tx, version, layout)?;
+    tx.commit()
+}

@@ -1,0 +1,215 @@
+//! A store over a connection, which changes whole or not at all.
+ghost use Rattle.std.specs.Prelude.{◌≡◌, false};
+
+use crate::error::TableError;
+use crate::keeping::{is_unchanged, look_kept, make_kept, renew_kept, write_kept};
+use crate::reads::Unread;
+use sqlite::{Alter, Connection};
+use std::alloc::Global;
+use store_rows::{Content, SessionEdit, StoredCell, StoredNotice, Version};
+
+/// A database that is a store, or will be made one. After the first refusal of the device it stays failed, and every
+/// call answers `StoreFault`.
+pub struct Tables<S: Alter> {
+    conn: Connection<S>,
+    failed: bool,
+    ghost idle: { conn.in_transaction ≡ false },
+}
+
+impl<S: Alter + Drop> Drop for Tables<S> {
+    fn drop(self) {
+        let Tables { conn: _, failed: _ } = self;
+    }
+}
+
+impl<S: Alter> Tables<S> {
+    ghost use Rattle.std.specs.Prelude.{◌≡◌, ◌≢◌, ◌⊎◌, ◌<◌, ◌^◌, [], None, Ok, Err, false, All, Some, IsTrue, IfOk, OnOk, if◌then◌else◌};
+    ghost use Rattle.store_rows.specs.Changes.{changed, renewed};
+    ghost use Rattle.store_rows.specs.Steps.{IsStorable};
+    ghost use Rattle.store_schema.specs.Found.{found_in};
+    ghost use Rattle.store_schema.specs.declared.Found.TheVariants.{Blank};
+    ghost use Rattle.store_tables.specs.Transacts.{Takes, made};
+    ghost use Rattle.store_tables.specs.Reads.{IsInRange};
+    ghost use Rattle.store_tables.specs.Kept.{has_failed, connection_of, schema_of, IsBlank, IsHonest, KeepsStore, KeepsOneOf, KeepsBlank, KeepsBlankOr, Settles, SettlesBlank};
+    ghost use Rattle.store_tables.specs.declared.error.TableError.TheVariants.{BadStore, Memory, StoreFault};
+
+    /// The tables of a database, of which the caller shows that no transaction is open. Calls no store.
+    pub fn over(conn: Connection<S>) -> Tables<S>
+        requires { conn.in_transaction ≡ false }
+        ensures connection { connection_of result ≡ conn }
+        ensures sound { has_failed result ≡ false }
+    {
+        Tables {
+            conn,
+            failed: false,
+        }
+    }
+
+    /// The connection, as it is.
+    pub fn into_connection(self) -> Connection<S>
+        ensures { result ≡ connection_of self }
+    {
+        let Tables { conn, failed: _ } = self;
+        conn
+    }
+
+    /// 0, and 1 from the first refusal of the device on.
+    pub fn faults(&self) -> u64
+        ensures { result ≡ (if has_failed self.now then 1 else 0) }
+    {
+        if self.failed { 1 } else { 0 }
+    }
+
+    /// Stops the store: from now on every call answers `StoreFault`. What is kept stays.
+    pub fn stop(&mut self)
+        ensures connection { connection_of self.new ≡ connection_of self.old }
+        ensures stopped { IsTrue (has_failed self.new) }
+    {
+        self.failed = true;
+    }
+
+    /// Makes an empty store of the second version in a database that has none of its tables, in one transaction.
+    pub fn make(&mut self, site: &str, layout: &str) -> Result<(), TableError>
+        ensures ok { KeepsBlank self.old → OnOk result (KeepsStore self.new (made site.now layout.now)) }
+        ensures memory { KeepsBlank self.old → result ≡ Err Memory → KeepsBlank self.new }
+        ensures either { KeepsBlank self.old → result ≡ Err StoreFault → KeepsBlankOr self.new (made site.now layout.now) }
+        ensures honest { IsHonest self.new → IsHonest self.old }
+        ensures fault { result ≡ Err StoreFault → IsTrue (has_failed self.new) }
+        ensures sound { result ≢ Err StoreFault → has_failed self.new ≡ false }
+        ensures kind { result ≢ Err BadStore }
+        ensures stopped { IsTrue (has_failed self.old) → (result ≡ Err StoreFault) × (self.new ≡ self.old) }
+    {
+        if self.failed {
+            return Err(TableError::StoreFault);
+        }
+        let Err(error) = make_kept(&mut self.conn, site, layout) else {
+            return Ok(());
+        };
+        if is_unchanged(&mut self.conn, error) {
+            return Err(TableError::Memory);
+        }
+        self.failed = true;
+        Err(TableError::StoreFault)
+    }
+
+    /// Brings a store, whose version the caller knows from a look at it, to the second version and to this layout
+    /// line, in one transaction.
+    pub fn renew(&mut self, version: Version, layout: &str) -> Result<(), TableError>
+        ensures ok { (it : _) → it.version ≡ version → KeepsStore self.old it → OnOk result (KeepsStore self.new (renewed layout.now it)) }
+        ensures memory { (it : _) → it.version ≡ version → KeepsStore self.old it → result ≡ Err Memory → KeepsStore self.new it }
+        ensures either { (it : _) → it.version ≡ version → KeepsStore self.old it → result ≡ Err StoreFault → KeepsOneOf self.new it (renewed layout.now it) }
+        ensures honest { IsHonest self.new → IsHonest self.old }
+        ensures fault { result ≡ Err StoreFault → IsTrue (has_failed self.new) }
+        ensures sound { result ≢ Err StoreFault → has_failed self.new ≡ false }
+        ensures kind { result ≢ Err BadStore }
+        ensures stopped { IsTrue (has_failed self.old) → (result ≡ Err StoreFault) × (self.new ≡ self.old) }
+    {
+        if self.failed {
+            return Err(TableError::StoreFault);
+        }
+        let Err(error) = renew_kept(&mut self.conn, version, layout) else {
+            return Ok(());
+        };
+        if is_unchanged(&mut self.conn, error) {
+            return Err(TableError::Memory);
+        }
+        self.failed = true;
+        Err(TableError::StoreFault)
+    }
+
+    /// Sets counters and notices and puts or drops a session, in one transaction. Where there is nothing to do, it
+    /// calls no store.
+    pub fn commit(
+        &mut self,
+        cells: &[StoredCell],
+        notices: &[StoredNotice],
+        edit: Option<SessionEdit>,
+    ) -> Result<(), TableError>
+        requires cells { All (λ c. c.n < 2 ^ 63) cells.now }
+        requires notices { All (λ n. (n.announced < 2 ^ 63) × (n.finished < 2 ^ 63)) notices.now }
+        requires edit { IsStorable edit }
+        ensures ok { (it : _) → Takes edit it → KeepsStore self.old it → OnOk result (KeepsStore self.new (changed cells.now notices.now edit it)) }
+        ensures memory { (it : _) → Takes edit it → KeepsStore self.old it → result ≡ Err Memory → KeepsStore self.new it }
+        ensures either { (it : _) → Takes edit it → KeepsStore self.old it → result ≡ Err StoreFault → KeepsOneOf self.new it (changed cells.now notices.now edit it) }
+        ensures honest { IsHonest self.new → IsHonest self.old }
+        ensures fault { result ≡ Err StoreFault → IsTrue (has_failed self.new) }
+        ensures sound { result ≢ Err StoreFault → has_failed self.new ≡ false }
+        ensures kind { result ≢ Err BadStore }
+        ensures stopped { IsTrue (has_failed self.old) → (result ≡ Err StoreFault) × (self.new ≡ self.old) }
+        ensures nothing { cells.now ≡ [] → notices.now ≡ [] → edit ≡ None → self.new ≡ self.old }
+    {
+        if self.failed {
+            return Err(TableError::StoreFault);
+        }
+        if cells.is_empty() && notices.is_empty() && edit.is_none() {
+            return Ok(());
+        }
+        let Err(error) = write_kept(&mut self.conn, cells, notices, edit) else {
+            return Ok(());
+        };
+        if is_unchanged(&mut self.conn, error) {
+            return Err(TableError::Memory);
+        }
+        self.failed = true;
+        Err(TableError::StoreFault)
+    }
+
+    /// What the store holds, or `None` where the database has none of its tables. Refused with `BadStore` where the
+    /// tables, their columns, the rows of `meta` or a value are not those of a store. At most four calls of the store
+    /// in one transaction, which changes nothing.
+    pub fn look(&mut self, alloc: Global) -> Result<Option<Content>, TableError>
+        ensures read { (it : _) → KeepsStore self.old it → IsHonest self.new → IfOk result (λ found. found ≡ Some it) }
+        ensures own { (it : _) → IsInRange it → KeepsStore self.old it → IsHonest self.new → result ≢ Err BadStore }
+        ensures blank { KeepsBlank self.old → IsHonest self.new → IfOk result (λ found. found ≡ None) × (result ≢ Err BadStore) }
+        ensures settles { (a : _) → (b : _) → KeepsOneOf self.old a b → IfOk result (λ found. ∥ Settles self.new found a ⊎ Settles self.new found b ∥₁) }
+        ensures settles_or { (it : _) → KeepsBlankOr self.old it → IfOk result (λ found. ∥ SettlesBlank self.new found ⊎ Settles self.new found it ∥₁) }
+        ensures cause { result ≡ Ok None → found_in (schema_of self.old) ≡ Blank }
+        ensures fresh { IsBlank self.old → OnOk result (KeepsBlank self.new) }
+        ensures kept { (it : _) → KeepsStore self.old it → KeepsStore self.new it }
+        ensures either { (a : _) → (b : _) → KeepsOneOf self.old a b → KeepsOneOf self.new a b }
+        ensures bare { KeepsBlank self.old → KeepsBlank self.new }
+        ensures bare_or { (it : _) → KeepsBlankOr self.old it → KeepsBlankOr self.new it }
+        ensures honest { IsHonest self.new → IsHonest self.old }
+        ensures fault { result ≡ Err StoreFault → IsTrue (has_failed self.new) }
+        ensures sound { result ≢ Err StoreFault → has_failed self.new ≡ false }
+        ensures stopped { IsTrue (has_failed self.old) → (result ≡ Err StoreFault) × (self.new ≡ self.old) }
+    {
+        if self.failed {
+            return Err(TableError::StoreFault);
+        }
+        let error = match look_kept(alloc, &mut self.conn) {
+            Ok(found) => return Ok(found),
+            Err(Unread::Bad) => return Err(TableError::BadStore),
+            Err(Unread::Memory) => return Err(TableError::Memory),
+            Err(Unread::Failed(error)) => error,
+        };
+        if is_unchanged(&mut self.conn, error) {
+            return Err(TableError::Memory);
+        }
+        self.failed = true;
+        Err(TableError::StoreFault)
+    }
+
+    /// What the store holds, which has to be one by now. Anything else is answered with `BadStore`, and is a fault of
+    /// the device too, since it has not kept what was written.
+    pub fn load(&mut self, alloc: Global) -> Result<Content, TableError>
+        ensures read { (it : _) → KeepsStore self.old it → IsHonest self.new → IfOk result (λ found. found ≡ it) }
+        ensures own { (it : _) → IsInRange it → KeepsStore self.old it → IsHonest self.new → result ≢ Err BadStore }
+        ensures kept { (it : _) → KeepsStore self.old it → KeepsStore self.new it }
+        ensures either { (a : _) → (b : _) → KeepsOneOf self.old a b → KeepsOneOf self.new a b }
+        ensures honest { IsHonest self.new → IsHonest self.old }
+        ensures fault { result ≡ Err StoreFault → IsTrue (has_failed self.new) }
+        ensures bad { result ≡ Err BadStore → IsTrue (has_failed self.new) }
+        ensures sound { result ≢ Err StoreFault → result ≢ Err BadStore → has_failed self.new ≡ false }
+        ensures stopped { IsTrue (has_failed self.old) → (result ≡ Err StoreFault) × (self.new ≡ self.old) }
+    {
+        match self.look(alloc) {
+            Ok(Some(content)) => Ok(content),
+            Ok(None) | Err(TableError::BadStore) => {
+                self.failed = true;
+                Err(TableError::BadStore)
+            }
+            Err(error) => Err(error),
+        }
+    }
+}
