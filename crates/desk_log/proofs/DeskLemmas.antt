@@ -50,6 +50,7 @@ frozen_served g d pass call frozen = record {
   opened = refl;
   honest = λ h. h;
   told = λ e. absurd (cc);
+  in_doubt = λ serves e. absurd (clash serves);
   refused = λ refusal e. refl;
   crash = λ serves. absurd (clash serves);
 }
@@ -73,6 +74,7 @@ full_served g d pass call running full = record {
   opened = refl;
   honest = λ h. h;
   told = λ e. absurd (cc);
+  in_doubt = λ serves e. absurd (clash serves);
   refused = λ refusal e. refl;
   crash = λ serves. absurd (clash serves);
 }
@@ -104,6 +106,7 @@ module _ {K : Type 0} (g : Ghosts K) (d : DeskState K) (pass : ℕ) (call : Call
     opened = refl;
     honest = λ h. h;
     told = λ e. absurd (cc);
+    in_doubt = λ there e. absurd (cc);
     refused = λ refusal e. refl;
     crash = λ there kept. kept;
   }
@@ -124,6 +127,7 @@ module _ {K : Type 0} (g : Ghosts K) (d : DeskState K) (pass : ℕ) (call : Call
     opened = refl;
     honest = honest;
     told = λ e. absurd (cc);
+    in_doubt = λ there e. absurd (cc);
     refused = λ refusal e. un.core;
     crash = λ there kept. subst (λ (a : Account). g.keeps k (durable_of a)) (sym account) (un.kept kept);
   }
@@ -245,6 +249,7 @@ module _ {K : Type 0} (g : Ghosts K) (d : DeskState K) (pass : ℕ) (call : Call
       opened = refl;
       honest = honest;
       told = λ e. let both : false ≡ true = sym no_fault_now ∙ e in absurd (cc);
+      in_doubt = λ there e. let both : false ≡ true = sym no_fault_now ∙ e in absurd (cc);
       refused = it.refused;
       crash = λ there kept.
           subst (λ (b : Bool). Leaves g b k (account_of new) (after (account_of d) call)) (sym no_fault_now)
@@ -302,6 +307,7 @@ module _ {K : Type 0} (g : Ghosts K) (d : DeskState K) (pass : ℕ) (call : Call
       opened = refl;
       honest = honest;
       told = λ e. it.told;
+      in_doubt = λ there e. tried doubted_layout doubted_site;
       refused = λ refusal e. it.core;
       crash = λ there kept. subst (λ (b : Bool). Leaves g b k (account_of new) (after (account_of d) call)) (sym fault_now) (either kept);
     }

@@ -178,6 +178,7 @@ impl<K: Keeper> Desk<K> {
     pub fn into_keeper(self) -> K
         ensures keeper { result ≡ self.keeper }
         ensures made_for { IsMadeFor K.Keeper result self.core.layout self.core.site }
+        ensures honest { K.is_honest result → K.is_honest self.opened }
         ensures kept { K.keeps self.opened self.log.first → Leaves K.Keeper (is_frozen self) result (account_of self) (account_if_kept self) }
     {
         let Desk {

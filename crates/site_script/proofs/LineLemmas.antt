@@ -7,7 +7,7 @@ use Rattle.admission_model.specs.Account.{Account}
 use Rattle.text_input.specs.Lines.{lines_of}
 use Rattle.script_text.specs.Replies.{unread_line}
 use Rattle.desk_log.specs.declared.entry.Entry.{Entry}
-use Rattle.desk_log.specs.Desk.{DeskState, account_of, is_frozen}
+use Rattle.desk_log.specs.Desk.{DeskState, account_of, account_if_kept, is_frozen}
 use Rattle.delta_codec.specs.declared.fault.DecodeError.{DecodeError}
 use Rattle.site_script.specs.declared.lines.Said.{Said}
 use Rattle.site_script.specs.declared.lines.Said.TheVariants.{Unread}
@@ -73,12 +73,12 @@ module _ {K : Type 0} (a : Account) (left : ℕ) (d : DeskState K) (records : Li
   pub all_served : is_frozen d ≡ false → Serves a left records lines whole text (account_of d)
   all_served runs =
       weaker (HasAnswered a left d) (IsServed a left (account_of d)) records lines whole text
-      (λ said t has. (subst (λ (b : Bool). AnsweredAs b a left (account_of d) (places_of d) said t) runs has).0) all
+      (λ said t has. (subst (λ (b : Bool). AnsweredAs b a left (account_of d) (account_if_kept d) (places_of d) said t) runs has).0) all
 
-  pub all_stopped : is_frozen d ≡ true → Stops a left records lines whole text (account_of d)
+  pub all_stopped : is_frozen d ≡ true → Stops a left records lines whole text (account_of d) (account_if_kept d)
   all_stopped frozen =
-      weaker (HasAnswered a left d) (IsStopped a left (account_of d)) records lines whole text
-      (λ said t has. subst (λ (b : Bool). AnsweredAs b a left (account_of d) (places_of d) said t) frozen has) all
+      weaker (HasAnswered a left d) (IsStopped a left (account_of d) (account_if_kept d)) records lines whole text
+      (λ said t has. subst (λ (b : Bool). AnsweredAs b a left (account_of d) (account_if_kept d) (places_of d) said t) frozen has) all
 
 -- desks of one opening
 pub opening_kept : {K : Type 0} (c d e : DeskState K) → SameOpening c d → SameOpening d e → SameOpening c e

@@ -13,18 +13,18 @@ use Rattle.script_text.specs.Replies.{reply_text}
 use Rattle.site_store.specs.declared.keeper.Keeper.{Ghosts}
 use Rattle.desk_log.specs.declared.entry.Entry.{Entry}
 use Rattle.desk_log.specs.Log.{LogState, is_fault, is_logged, ends_in_fault, begun, after_entry, account_after as log_account, IsInDoubt}
-use Rattle.desk_log.specs.Desk.{DeskState, first_account, account_of, is_frozen, IsOpen, IsServing}
+use Rattle.desk_log.specs.Desk.{DeskState, first_account, account_of, account_if_kept, is_frozen, IsOpen, IsServing}
 use Rattle.desk_log.proofs.ReplyLemmas.{fault_is, model_fault, model_logged}
 use Rattle.desk_log.proofs.LogLemmas.{ends-push, after-push, after_answered, after_doubted}
 use Rattle.site_script.specs.declared.lines.Said.{Said}
 use Rattle.site_script.specs.declared.lines.Said.TheVariants.{Asked, Unread}
-use Rattle.site_script.specs.Served.{no_delta_line, answers, account_after, places_after, frozen_answers, places_of, Grows}
-use Rattle.site_script.specs.Steps.{AnsweredAs, HasAnswered}
+use Rattle.site_script.specs.Served.{no_delta_line, answers, account_after, places_after, frozen_answers, IsStopped, places_of, Grows}
+use Rattle.site_script.specs.Steps.{ServedAs, AnsweredAs, HasAnswered}
 use Rattle.site_script.proofs.AnswerLemmas.{line_of, answers_more, account_more, places_more, frozen_more}
 use Rattle.delta_codec.specs.declared.fault.DecodeError.{DecodeError}
 
 -- what is said at an account that serves
-module _ (a : Account) (left : ℕ) (b : Account) (now : ℕ) (said : List Said) (text : List ℕ) (was : AnsweredAs false a left b now said text) where
+module _ (a : Account) (left : ℕ) (b : Account) (now : ℕ) (said : List Said) (text : List ℕ) (was : ServedAs a left b now said text) where
   answers_then : (s : Said) (line : List ℕ) → answers b now (s ∷ []) ≡ line → text ++ line ≡ answers a left (said ++ s ∷ [])
   answers_then s line is =
       ap (λ (t : List ℕ). t ++ line) was.0.text_is
@@ -32,7 +32,7 @@ module _ (a : Account) (left : ℕ) (b : Account) (now : ℕ) (said : List Said)
       ∙ (((λ i. answers a left said ++ answers (was.0.account i) (was.1 i) (s ∷ []))) ∙ sym (answers_more a left said s)))
 
   -- more of it
-  pub served_more : (s : Said) (line : List ℕ) (c : Account) (next : ℕ) → answers b now (s ∷ []) ≡ line → c ≡ account_after b now (s ∷ []) → next ≡ places_after now (s ∷ []) → AnsweredAs false a left c next (said ++ s ∷ []) (text ++ line)
+  pub served_more : (s : Said) (line : List ℕ) (c : Account) (next : ℕ) → answers b now (s ∷ []) ≡ line → c ≡ account_after b now (s ∷ []) → next ≡ places_after now (s ∷ []) → ServedAs a left c next (said ++ s ∷ []) (text ++ line)
   served_more s line c next is account places = (
     record {
       text_is = answers_then s line is;
@@ -42,19 +42,20 @@ module _ (a : Account) (left : ℕ) (b : Account) (now : ℕ) (said : List Said)
   )
 
   -- the store's fault
-  pub stopped_here : (call : Call) (c : Account) (next : ℕ) → c ≡ b → AnsweredAs true a left c next (said ++ Asked call ∷ []) (text ++ line_of (Refused StoreFault))
-  stopped_here call c next account = record {
+  pub stopped_here : (call : Call) (c tried : Account) → c ≡ b → tried ≡ after b call → IsStopped a left c tried (said ++ Asked call ∷ []) (text ++ line_of (Refused StoreFault))
+  stopped_here call c tried account doubt = record {
     before = said;
     call = call;
     behind = [];
     split = refl;
     text_is = ap (λ (t : List ℕ). t ++ line_of (Refused StoreFault)) was.0.text_is;
     account = account ∙ was.0.account;
+    in_doubt = doubt ∙ ap (λ (d : Account). after d call) (sym account);
   }
 
 -- what is said where the desk has stopped
-pub stopped_more : (a : Account) (left : ℕ) (b : Account) (now : ℕ) (said : List Said) (text : List ℕ) → AnsweredAs true a left b now said text → (s : Said) (line : List ℕ) → frozen_answers (s ∷ []) ≡ line → AnsweredAs true a left b now (said ++ s ∷ []) (text ++ line)
-stopped_more a left b now said text was s line is = record {
+pub stopped_more : (a : Account) (left : ℕ) (b tried : Account) (said : List Said) (text : List ℕ) → IsStopped a left b tried said text → (s : Said) (line : List ℕ) → frozen_answers (s ∷ []) ≡ line → IsStopped a left b tried (said ++ s ∷ []) (text ++ line)
+stopped_more a left b tried said text was s line is = record {
   before = was.before;
   call = was.call;
   behind = was.behind ++ s ∷ [];
@@ -68,6 +69,7 @@ stopped_more a left b now said text was s line is = record {
       (append_assoc (codes "\n") (frozen_answers was.behind) line
       ∙ ap (λ (t : List ℕ). codes "\n" ++ t) (ap (λ (t : List ℕ). frozen_answers was.behind ++ t) (sym is) ∙ sym (frozen_more was.behind s)))));
   account = was.account;
+  in_doubt = was.in_doubt;
 }
   where
     fault : List ℕ
@@ -77,9 +79,9 @@ stopped_more a left b now said text was s line is = record {
 pub unread_more : {K : Type 0} (a : Account) (left : ℕ) (d : DeskState K) (said : List Said) (text : List ℕ) (e : DecodeError) → HasAnswered a left d said text → HasAnswered a left d (said ++ Unread e ∷ []) (text ++ no_delta_line e)
 unread_more a left d said text e was = at (is_frozen d) was
   where
-    at : (frozen : Bool) → AnsweredAs frozen a left (account_of d) (places_of d) said text → AnsweredAs frozen a left (account_of d) (places_of d) (said ++ Unread e ∷ []) (text ++ no_delta_line e)
+    at : (frozen : Bool) → AnsweredAs frozen a left (account_of d) (account_if_kept d) (places_of d) said text → AnsweredAs frozen a left (account_of d) (account_if_kept d) (places_of d) (said ++ Unread e ∷ []) (text ++ no_delta_line e)
     at false has = served_more a left (account_of d) (places_of d) said text has (Unread e) (no_delta_line e) (account_of d) (places_of d) (append-nil (no_delta_line e)) refl refl
-    at true has = stopped_more a left (account_of d) (places_of d) said text has (Unread e) (no_delta_line e) (append-nil (no_delta_line e))
+    at true has = stopped_more a left (account_of d) (account_if_kept d) said text has (Unread e) (no_delta_line e) (append-nil (no_delta_line e))
 
 -- the log grows by an entry, or stays
 pub log_grows : {K : Type 0} (g : Ghosts K) (old new : DeskState K) (pass : ℕ) (call : Call) (reply : Reply) → IsServing g old new pass call reply → Grows pass old new
@@ -126,9 +128,9 @@ module _ {K : Type 0} (g : Ghosts K) (old new : DeskState K) (pass : ℕ) (call 
 module _ {K : Type 0} (g : Ghosts K) (old new : DeskState K) (pass : ℕ) (call : Call) (reply : Reply) (is : IsServing g old new pass call reply) (found : reply ≡ Refused Memory → ⊥) (a : Account) (left : ℕ) (said : List Said) (text : List ℕ) where
   -- the goal, by how the desk stands after it
   abbrev Has : Bool → DeskState K → Type 0
-  Has b d = AnsweredAs b a left (account_of d) (places_of d) (said ++ Asked call ∷ []) (text ++ line_of reply)
+  Has b d = AnsweredAs b a left (account_of d) (account_if_kept d) (places_of d) (said ++ Asked call ∷ []) (text ++ line_of reply)
 
-  by_model : IsOpen old → AnsweredAs false a left (account_of old) (places_of old) said text → reply ≡ reply_of (view_of (account_of old)) call → Has (is_frozen new) new
+  by_model : IsOpen old → ServedAs a left (account_of old) (places_of old) said text → reply ≡ reply_of (view_of (account_of old)) call → Has (is_frozen new) new
   by_model opened was model =
       let logged : is_logged reply ≡ true = ap is_logged model ∙ model_logged (view_of (account_of old)) call in
       let one = places_now g old new pass call reply is logged opened.place in
@@ -141,25 +143,25 @@ module _ {K : Type 0} (g : Ghosts K) (old new : DeskState K) (pass : ℕ) (call 
       (account ∙ sym (ap (λ (n : ℕ). account_after (account_of old) n (Asked call ∷ [])) one))
       (sym (ap (λ (n : ℕ). places_after n (Asked call ∷ [])) one)))
 
-  by_fault : AnsweredAs false a left (account_of old) (places_of old) said text → is_fault reply ≡ true → Has (is_frozen new) new
-  by_fault was fault =
+  by_fault : IsOpen old → ServedAs a left (account_of old) (places_of old) said text → is_fault reply ≡ true → Has (is_frozen new) new
+  by_fault opened was fault =
       let told : reply ≡ Refused StoreFault = fault_is reply fault in
       let logged : is_logged reply ≡ true = ap is_logged told in
       let account : account_of new ≡ account_of old =
       account_now g old new pass call reply is logged ∙ after_doubted (account_of old) (record { pass = pass; call = call; reply = reply }) fault in
       subst (λ (b : Bool). Has b new) (sym (frozen_now g old new pass call reply is logged ∙ fault))
-      (subst (λ (r : Reply). AnsweredAs true a left (account_of new) (places_of new) (said ++ Asked call ∷ []) (text ++ line_of r)) (sym told)
-      (stopped_here a left (account_of old) (places_of old) said text was call (account_of new) (places_of new) account))
+      (subst (λ (r : Reply). IsStopped a left (account_of new) (account_if_kept new) (said ++ Asked call ∷ []) (text ++ line_of r)) (sym told)
+      (stopped_here a left (account_of old) (places_of old) said text was call (account_of new) (account_if_kept new) account (is.in_doubt opened fault)))
 
-  by_place : IsOpen old → AnsweredAs false a left (account_of old) (places_of old) said text → Has (is_frozen new) new
+  by_place : IsOpen old → ServedAs a left (account_of old) (places_of old) said text → Has (is_frozen new) new
   by_place opened was = at (is.answered opened)
     where
       at : (reply ≡ reply_of (view_of (account_of old)) call) ⊎ ((reply ≡ Refused Memory) ⊎ IsInDoubt (account_of old) call reply) → Has (is_frozen new) new
       at (inl model) = by_model opened was model
       at (inr (inl memory)) = absurd (found memory)
-      at (inr (inr doubt)) = by_fault was doubt.fault
+      at (inr (inr doubt)) = by_fault opened was doubt.fault
 
-  by_full : is_frozen old ≡ false → old.log.limit ≤ length old.log.entries → AnsweredAs false a left (account_of old) (places_of old) said text → Has (is_frozen new) new
+  by_full : is_frozen old ≡ false → old.log.limit ≤ length old.log.entries → ServedAs a left (account_of old) (places_of old) said text → Has (is_frozen new) new
   by_full runs full was =
       let none : places_of old ≡ zero = omega (arith, full) in
       let told = is.full runs full in
@@ -170,25 +172,25 @@ module _ {K : Type 0} (g : Ghosts K) (old new : DeskState K) (pass : ℕ) (call 
       (sym (ap (λ (n : ℕ). account_after (account_of old) n (Asked call ∷ [])) none))
       (none ∙ sym (ap (λ (n : ℕ). places_after n (Asked call ∷ [])) none))))
 
-  by_frozen : is_frozen old ≡ true → AnsweredAs true a left (account_of old) (places_of old) said text → Has (is_frozen new) new
+  by_frozen : is_frozen old ≡ true → IsStopped a left (account_of old) (account_if_kept old) said text → Has (is_frozen new) new
   by_frozen frozen was =
       let told = is.frozen frozen in
       subst (λ (d : DeskState K). Has (is_frozen d) d) (sym told.1)
       (subst (λ (b : Bool). Has b old) (sym frozen)
-      (stopped_more a left (account_of old) (places_of old) said text was (Asked call) (line_of reply) (ap line_of (sym told.0))))
+      (stopped_more a left (account_of old) (account_if_kept old) said text was (Asked call) (line_of reply) (ap line_of (sym told.0))))
 
   pub call_more : HasAnswered a left old said text → HasAnswered a left new (said ++ Asked call ∷ []) (text ++ line_of reply)
   call_more was = at (cases_Bool (is_frozen old))
     where
-      room : is_frozen old ≡ false → (length old.log.entries < old.log.limit) ⊎ (old.log.limit ≤ length old.log.entries) → AnsweredAs false a left (account_of old) (places_of old) said text → Has (is_frozen new) new
+      room : is_frozen old ≡ false → (length old.log.entries < old.log.limit) ⊎ (old.log.limit ≤ length old.log.entries) → ServedAs a left (account_of old) (places_of old) said text → Has (is_frozen new) new
       room runs (inl place) has = by_place (record { running = runs; place = place }) has
       room runs (inr full) has = by_full runs full has
 
       at : (is_frozen old ≡ true) ⊎ (is_frozen old ≡ false) → Has (is_frozen new) new
-      at (inl frozen) = by_frozen frozen (subst (λ (b : Bool). AnsweredAs b a left (account_of old) (places_of old) said text) frozen was)
+      at (inl frozen) = by_frozen frozen (subst (λ (b : Bool). AnsweredAs b a left (account_of old) (account_if_kept old) (places_of old) said text) frozen was)
       at (inr runs) =
           room runs (cases_lt (length old.log.entries) old.log.limit)
-          (subst (λ (b : Bool). AnsweredAs b a left (account_of old) (places_of old) said text) runs was)
+          (subst (λ (b : Bool). AnsweredAs b a left (account_of old) (account_if_kept old) (places_of old) said text) runs was)
 
 -- its reply, written with LF
 pub call_answered : {K : Type 0} (g : Ghosts K) (old new : DeskState K) (pass : ℕ) (call : Call) (reply : Reply) → IsServing g old new pass call reply → is_memory reply ≡ false

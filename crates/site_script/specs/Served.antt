@@ -61,14 +61,15 @@ pub record IsServed (a : Account) (left : ℕ) (b : Account) (said : List Said) 
   pub account : b ≡ account_after a left said
 
 -- a call met a fault of the store: the text has the answers to what was said before it, the fault, and the answers of
--- a desk that has stopped; the account is the one before that call
-pub record IsStopped (a : Account) (left : ℕ) (b : Account) (said : List Said) (text : List ℕ) : Type 0 where
+-- a desk that has stopped; the account is the one before that call, and the other one that after it
+pub record IsStopped (a : Account) (left : ℕ) (b tried : Account) (said : List Said) (text : List ℕ) : Type 0 where
   pub before : List Said
   pub call : Call
   pub behind : List Said
   pub split : said ≡ before ++ Asked call ∷ behind
   pub text_is : text ≡ answers a left before ++ (reply_text (Refused StoreFault) ++ (codes "\n" ++ frozen_answers behind))
   pub account : b ≡ account_after a left before
+  pub in_doubt : tried ≡ after b call
 
 -- every line says something, and the text answers all of that
 pub record AnswersAll (A : List Said → List ℕ → Type 0) (records : List RecordSpec) (lines : List (List ℕ)) (text : List ℕ) : Type 0 where
@@ -97,9 +98,10 @@ Answers A records lines false text = AnswersUpTo A records lines text
 abbrev pub Serves : Account → ℕ → List RecordSpec → List (List ℕ) → Bool → List ℕ → Account → Type 0
 Serves a left records lines whole text b = Answers (IsServed a left b) records lines whole text
 
--- the same where the store has failed on the way
-abbrev pub Stops : Account → ℕ → List RecordSpec → List (List ℕ) → Bool → List ℕ → Account → Type 0
-Stops a left records lines whole text b = Answers (IsStopped a left b) records lines whole text
+-- The same where the store has failed on the way: b is the account before the call that met the fault, and the last
+-- one that after it.
+abbrev pub Stops : Account → ℕ → List RecordSpec → List (List ℕ) → Bool → List ℕ → Account → Account → Type 0
+Stops a left records lines whole text b tried = Answers (IsStopped a left b tried) records lines whole text
 
 module _ {K : Type 0} where
   -- the places that are left in a desk's log

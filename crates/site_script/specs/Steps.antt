@@ -3,19 +3,23 @@ use Rattle.std.specs.Prelude.{◌≡◌, ℕ, Bool, true, false, List, [], ◌�
 use Rattle.merge_core.specs.declared.layout.RecordSpec.{RecordSpec}
 use Rattle.admission_model.specs.Account.{Account}
 use Rattle.script_text.specs.Replies.{unread_line}
-use Rattle.desk_log.specs.Desk.{DeskState, account_of, is_frozen}
+use Rattle.desk_log.specs.Desk.{DeskState, account_of, account_if_kept, is_frozen}
 use Rattle.site_script.specs.declared.lines.Said.{Said}
 use Rattle.site_script.specs.Lines.{Says}
 use Rattle.site_script.specs.Served.{places_after, places_of, IsServed, IsStopped, AnswersAll}
 
--- the answers of a desk that still serves, or has stopped, with its account b and so many places now
-abbrev pub AnsweredAs : Bool → Account → ℕ → Account → ℕ → List Said → List ℕ → Type 0
-AnsweredAs false a left b now said text = IsServed a left b said text × (now ≡ places_after left said)
-AnsweredAs true a left b now said text = IsStopped a left b said text
+-- the answers of a desk that still serves, with its account b and so many places now
+abbrev pub ServedAs : Account → ℕ → Account → ℕ → List Said → List ℕ → Type 0
+ServedAs a left b now said text = IsServed a left b said text × (now ≡ places_after left said)
+
+-- the same, or of one that has stopped, with the account where the call in doubt was kept
+abbrev pub AnsweredAs : Bool → Account → ℕ → Account → Account → ℕ → List Said → List ℕ → Type 0
+AnsweredAs false a left b tried now said text = ServedAs a left b now said text
+AnsweredAs true a left b tried now said text = IsStopped a left b tried said text
 
 -- a desk has answered what was said by this text, from an account and with so many places in the log
 abbrev pub HasAnswered : {K : Type 0} → Account → ℕ → DeskState K → List Said → List ℕ → Type 0
-HasAnswered a left d said text = AnsweredAs (is_frozen d) a left (account_of d) (places_of d) said text
+HasAnswered a left d said text = AnsweredAs (is_frozen d) a left (account_of d) (account_if_kept d) (places_of d) said text
 
 -- so many lines are answered, and the rest is still to come
 pub record AnsweredSoFar (A : List Said → List ℕ → Type 0) (records : List RecordSpec) (lines rest : List (List ℕ)) (number : ℕ) (text : List ℕ) : Type 0 where

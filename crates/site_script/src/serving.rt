@@ -3,7 +3,7 @@ ghost use Rattle.std.specs.Prelude.{◌≡◌, ◌++◌, ℕ, List, [], ◌∷�
 ghost use Rattle.admission_model.specs.Account.{Account};
 ghost use Rattle.admission_core.specs.Core.{is_memory};
 ghost use Rattle.text_input.specs.Lines.{lines_of};
-ghost use Rattle.desk_log.specs.Desk.{account_of, is_frozen};
+ghost use Rattle.desk_log.specs.Desk.{account_of, account_if_kept, is_frozen};
 ghost use Rattle.site_script.specs.declared.lines.Said.{Said as SaidThere};
 ghost use Rattle.site_script.specs.declared.lines.Said.TheVariants.{Asked};
 ghost use Rattle.site_script.specs.Served.{SameOpening, Grows, Serves, Stops, no_delta_line, places_of};
@@ -43,7 +43,7 @@ pub fn serve_script<K: Keeper>(
     ensures served { IfOk result (λ served. is_frozen desk.old ≡ false → is_frozen desk.new ≡ false
         → Serves (account_of desk.old) (places_of desk.old) desk.old.core.layout.records (lines_of script.now) served.whole (string_bytes served.text) (account_of desk.new)) }
     ensures stopped { IfOk result (λ served. is_frozen desk.old ≡ false → is_frozen desk.new ≡ true
-        → Stops (account_of desk.old) (places_of desk.old) desk.old.core.layout.records (lines_of script.now) served.whole (string_bytes served.text) (account_of desk.new)) }
+        → Stops (account_of desk.old) (places_of desk.old) desk.old.core.layout.records (lines_of script.now) served.whole (string_bytes served.text) (account_of desk.new) (account_if_kept desk.new)) }
 {
     let mut text = String::new(alloc);
     let mut rest = script;
