@@ -5,3 +5,5 @@ mod JoinLaws
 mod LayoutLemmas
 mod LineLemmas
 mod ScriptLemmas
+mod SiteLemmas
+mod StoredLemmas

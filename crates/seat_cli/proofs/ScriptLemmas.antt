@@ -7,7 +7,7 @@ use Rattle.text_input.specs.Input.{Loses, LosesSome, ReadsInput, input_limit}
 use Rattle.text_input.specs.Source.{SourceState}
 use Rattle.text_input.specs.Sink.{SinkState}
 use Rattle.seat_cli.specs.declared.status.Status.{Status}
-use Rattle.seat_cli.specs.declared.status.Status.TheVariants.{Done, Usage, NoLayout, Refused, Memory, Io}
+use Rattle.seat_cli.specs.declared.status.Status.TheVariants.{Done, Usage, NoLayout, NoStore, Fault, Refused, Memory, Io}
 use Rattle.seat_cli.specs.Plays.{AnswersScript, EndsPlay, first_sites}
 
 -- what was read is within one byte past the limit
@@ -25,3 +25,5 @@ ends_script layout first tables source source_after sink sink_after bytes Memory
 ends_script layout first tables source source_after sink sink_after bytes Io may read answers = (loses_some source source_after bytes read.0, inr answers)
 ends_script layout first tables source source_after sink sink_after bytes Usage may read answers = absurd answers
 ends_script layout first tables source source_after sink sink_after bytes (NoLayout fault) may read answers = absurd answers
+ends_script layout first tables source source_after sink sink_after bytes (NoStore refusal) may read answers = absurd answers
+ends_script layout first tables source source_after sink sink_after bytes Fault may read answers = absurd answers

@@ -5,8 +5,19 @@ use Rattle.text_input.specs.Sink.{SinkState, Writes}
 use Rattle.seat_cli.specs.declared.layout_file.LayoutFault.{LayoutFault}
 use Rattle.seat_cli.specs.declared.layout_file.LayoutFault.TheVariants as layout
 use Rattle.seat_cli.specs.declared.status.Status.{Status}
-use Rattle.seat_cli.specs.declared.status.Status.TheVariants.{Done, Usage, NoLayout, Refused, Memory, Io}
+use Rattle.seat_cli.specs.declared.status.Status.TheVariants.{Done, Usage, NoLayout, NoStore, Fault, Refused, Memory, Io}
+use Rattle.seat_cli.specs.declared.store_refusal.StoreRefusal.{StoreRefusal}
+use Rattle.seat_cli.specs.declared.store_refusal.StoreRefusal.TheVariants as store
 use Rattle.seat_cli.specs.LayoutFile.{layout_fault_name}
+
+-- the names of what a store is refused for, as the program writes them
+abbrev pub store_refusal_name : StoreRefusal → List ℕ
+store_refusal_name store.BadStore = codes "BadStore"
+store_refusal_name store.WrongSite = codes "WrongSite"
+store_refusal_name store.WrongLayout = codes "WrongLayout"
+store_refusal_name store.WrongCounters = codes "WrongCounters"
+store_refusal_name store.WrongSessions = codes "WrongSessions"
+store_refusal_name store.StoreFault = codes "StoreFault"
 
 -- the exit status
 abbrev pub status_code : Status → ℕ
@@ -14,15 +25,20 @@ status_code Done = 0
 status_code Usage = 2
 status_code (NoLayout fault) = 3
 status_code Refused = 4
+status_code (NoStore refusal) = 5
+status_code Fault = 5
 status_code Memory = 6
 status_code Io = 7
 
--- what is then said on standard error; what is wrong with the arguments was said before
+-- What is then said on standard error. What is wrong with the arguments was said before; a store that failed under
+-- way is told by the reply.
 abbrev pub status_line : Status → List ℕ
 status_line Done = []
 status_line Usage = []
 status_line (NoLayout fault) = codes "layout refused " ++ (layout_fault_name fault ++ codes "\n")
 status_line Refused = []
+status_line (NoStore refusal) = codes "store refused " ++ (store_refusal_name refusal ++ codes "\n")
+status_line Fault = []
 status_line Memory = codes "memory\n"
 status_line Io = codes "io\n"
 

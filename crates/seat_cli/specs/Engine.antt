@@ -11,7 +11,7 @@ use Rattle.text_input.specs.Lines.{lines_of}
 use Rattle.text_input.specs.Source.{HasFault, IsFailure, LacksMemory, SourceState}
 use Rattle.seat_cli.specs.declared.fault.LineFault.{LineFault}
 use Rattle.seat_cli.specs.declared.status.Status.{Status}
-use Rattle.seat_cli.specs.declared.status.Status.TheVariants.{Done, Usage, NoLayout, Refused, Memory, Io}
+use Rattle.seat_cli.specs.declared.status.Status.TheVariants.{Done, Usage, NoLayout, NoStore, Fault, Refused, Memory, Io}
 use Rattle.text_input.specs.Sink.{SinkState, Writes}
 use Rattle.seat_cli.specs.Joins.{AreTexts, IsJoinOf, IsFirstRefused}
 use Rattle.seat_cli.specs.Texts.{refusal_text, too_long_text}
@@ -44,12 +44,14 @@ AnswersInput shape bytes old new Memory = new.fault ≡ old.fault
 AnswersInput shape bytes old new Io = HasFault new.fault
 AnswersInput shape bytes old new Usage = ⊥
 AnswersInput shape bytes old new (NoLayout fault) = ⊥
+AnswersInput shape bytes old new (NoStore refusal) = ⊥
+AnswersInput shape bytes old new Fault = ⊥
 
 -- The whole engine: the bytes read are all that the source had, within the limit, and their answer was written;
 -- or there are more, and that refusal alone was written; or memory, a read or a write failed. In each case the
 -- source lost at most one byte past the limit. A failed read or write is told where the source or the sink met
 -- a fault, and there alone; a read that failed for want of memory is told as that. An engine has no word for wrong
--- arguments, or for want of a layout.
+-- arguments, for want of a layout, or for a store.
 abbrev pub EndsJoin : Shape → SourceState → SourceState → SinkState → SinkState → Status → Type 0
 EndsJoin shape source source_after sink sink_after Done =
     (bytes : List ℕ) × ReadsInput source source_after (Ok bytes) × WritesJoin shape (lines_of bytes) sink sink_after
@@ -62,3 +64,5 @@ EndsJoin shape source source_after sink sink_after Io =
     LosesSome source source_after (input_limit + 1) × (IsFailure source_after.fault ⊎ HasFault sink_after.fault)
 EndsJoin shape source source_after sink sink_after Usage = ⊥
 EndsJoin shape source source_after sink sink_after (NoLayout fault) = ⊥
+EndsJoin shape source source_after sink sink_after (NoStore refusal) = ⊥
+EndsJoin shape source source_after sink sink_after Fault = ⊥

@@ -12,7 +12,7 @@ use Rattle.text_input.specs.declared.input.InputError.TheVariants as input
 use Rattle.text_input.specs.Input.{LosesSome, ReadsUpTo}
 use Rattle.text_input.specs.Source.{SourceState}
 use Rattle.seat_cli.specs.declared.layout_file.LayoutFault.{LayoutFault}
-use Rattle.seat_cli.specs.declared.layout_file.LayoutFault.TheVariants.{NotRead, TooLong, NotToml, WrongKeys, Refused, Memory, BadGrowth}
+use Rattle.seat_cli.specs.declared.layout_file.LayoutFault.TheVariants.{NotRead, TooLong, NotToml, WrongKeys, Refused, Memory, BadGrowth, NoSite}
 
 abbrev pub count_members : Members → ℕ
 count_members no_members = 0
@@ -78,6 +78,7 @@ TellsLayout read (Err (Refused e)) =
     (layout : LayoutState) × (read ≡ Some layout) × (layout_fault layout.sites layout.records ≡ Some e)
 TellsLayout read (Err Memory) = Unit {0}
 TellsLayout read (Err BadGrowth) = ⊥
+TellsLayout read (Err NoSite) = ⊥
 
 -- What reading a layout from a file's bytes answers. They are no TOML document; or they are one, and the answer
 -- is told by its keys. Memory may run out at any time.
@@ -107,6 +108,7 @@ layout_fault_name WrongKeys = codes "WrongKeys"
 layout_fault_name (Refused e) = layout_error_name e
 layout_fault_name Memory = codes "Memory"
 layout_fault_name BadGrowth = codes "BadGrowth"
+layout_fault_name NoSite = codes "NoSite"
 
 -- the layout without a file: two sites, and one record `a` of two seats at site 0, under problem 1
 abbrev pub built_in_layout : LayoutState

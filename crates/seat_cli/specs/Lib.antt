@@ -6,5 +6,8 @@ pub mod Joins
 pub mod LayoutFile
 pub mod Plays
 pub mod Shell
+pub mod SiteSteps
+pub mod Sites
 pub mod Stops
+pub mod StoredSites
 pub mod Texts

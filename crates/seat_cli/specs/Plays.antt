@@ -17,7 +17,7 @@ use Rattle.text_input.specs.Source.{HasFault, IsFailure, LacksMemory, SourceStat
 use Rattle.text_input.specs.Sink.{SinkState, Writes}
 use Rattle.seat_cli.specs.declared.layout_file.LayoutFault.TheVariants.{BadGrowth}
 use Rattle.seat_cli.specs.declared.status.Status.{Status}
-use Rattle.seat_cli.specs.declared.status.Status.TheVariants.{Done, Usage, NoLayout, Refused, Memory, Io}
+use Rattle.seat_cli.specs.declared.status.Status.TheVariants.{Done, Usage, NoLayout, NoStore, Fault, Refused, Memory, Io}
 use Rattle.seat_cli.specs.Texts.{too_long_text}
 
 -- how many sites begin together: all, where no number is named
@@ -56,11 +56,13 @@ AnswersScript m records tables bytes old new Memory = new.fault ≡ old.fault
 AnswersScript m records tables bytes old new Io = HasFault new.fault
 AnswersScript m records tables bytes old new Usage = ⊥
 AnswersScript m records tables bytes old new (NoLayout fault) = ⊥
+AnswersScript m records tables bytes old new (NoStore refusal) = ⊥
+AnswersScript m records tables bytes old new Fault = ⊥
 
 -- The whole engine: the first sites have a layout, the bytes read are all that the source had, within the limit, and
 -- their answer was written; or there are more, and that refusal alone was written; or the first sites have none, and
 -- nothing was read or written; or memory, a read or a write failed. In each case the source lost at most one byte
--- past the limit. An engine has no word for wrong arguments.
+-- past the limit. An engine has no word for wrong arguments or a store.
 abbrev pub EndsPlay : LayoutState → Option ℕ → Bool → SourceState → SourceState → SinkState → SinkState → Status → Type 0
 EndsPlay layout first tables source source_after sink sink_after Done =
     MayBeFirst (first_sites first layout) layout × ((bytes : List ℕ) × ReadsInput source source_after (Ok bytes)
@@ -74,5 +76,7 @@ EndsPlay layout first tables source source_after sink sink_after Memory =
 EndsPlay layout first tables source source_after sink sink_after Io =
     LosesSome source source_after (input_limit + 1) × (IsFailure source_after.fault ⊎ HasFault sink_after.fault)
 EndsPlay layout first tables source source_after sink sink_after Usage = ⊥
+EndsPlay layout first tables source source_after sink sink_after (NoStore refusal) = ⊥
+EndsPlay layout first tables source source_after sink sink_after Fault = ⊥
 EndsPlay layout first tables source source_after sink sink_after (NoLayout fault) =
     (fault ≡ BadGrowth) × (¬ MayBeFirst (first_sites first layout) layout) × (source_after ≡ source) × (sink_after ≡ sink)

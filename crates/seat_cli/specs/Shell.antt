@@ -7,7 +7,7 @@ use Rattle.clap.specs.Words.{Text, IsAmong}
 use Rattle.clap.specs.declared.error.ErrorKind.{ErrorKind}
 use Rattle.clap.specs.declared.error.ErrorKind.TheVariants.{OutOfMemory, DisplayHelp, DisplayVersion}
 use Rattle.seat_cli.specs.declared.arguments.Command.{Command}
-use Rattle.seat_cli.specs.declared.arguments.Command.TheVariants.{Join, Play}
+use Rattle.seat_cli.specs.declared.arguments.Command.TheVariants.{Join, Play, Site}
 use Rattle.seat_cli.specs.declared.layout_file.LayoutFault.{LayoutFault}
 use Rattle.seat_cli.specs.declared.status.Status.{Status}
 use Rattle.seat_cli.specs.declared.status.Status.TheVariants.{Done, Memory, Io}
@@ -16,6 +16,7 @@ use Rattle.seat_cli.specs.Endings.{EndsWith, without_layout}
 use Rattle.seat_cli.specs.Engine.{EndsJoin}
 use Rattle.seat_cli.specs.LayoutFile.{FindsBuiltIn, FindsFile}
 use Rattle.seat_cli.specs.Plays.{EndsPlay}
+use Rattle.seat_cli.specs.StoredSites.{EndsStored}
 
 -- help or the version: it was printed, or the sink met a fault
 abbrev pub EndsPrinted : SinkState → SinkState → SinkState → SinkState → ℕ → Type 0
@@ -46,6 +47,7 @@ FindsLayout (Some path) answer = FindsFile answer
 abbrev pub EndsCommand : Command → LayoutState → SourceState → SourceState → SinkState → SinkState → Status → Type 0
 EndsCommand Join layout source source_after sink sink_after ended = EndsJoin (shape_of layout) source source_after sink sink_after ended
 EndsCommand (Play tables first) layout source source_after sink sink_after ended = EndsPlay layout first tables source source_after sink sink_after ended
+EndsCommand (Site site) layout source source_after sink sink_after ended = EndsStored layout site source source_after sink sink_after ended
 
 -- a command under what was found for a layout: without a layout nothing is read or written
 abbrev pub EndsUnder : Command → Result LayoutState LayoutFault → SourceState → SourceState → SinkState → SinkState → Status → Type 0

@@ -1,7 +1,7 @@
 ghost use Rattle.std.specs.Prelude.{◌≡◌, ◌≤◌, false, length, map, IfOk, IsOk, option_map, string_bytes};
 ghost use Rattle.clap.specs.Words.{FailsBy, app_of, found_of, rows_of, rule_of, subcommand_rows_of};
 ghost use Rattle.clap.specs.declared.builder.command.Command.TheViews.{out-Command as fields_of};
-ghost use Rattle.seat_cli.specs.Arguments.{asked_command, asked_layout, command_in, command_of, first_option, join_command, layout_in, layout_option, play_command, program, tables_flag, usage_errors};
+ghost use Rattle.seat_cli.specs.Arguments.{asked_command, asked_layout, asked_store, command_in, command_of, join_command, layout_in, layout_option, number_option, play_command, program, site_command, site_in, site_option, store_in, store_option, tables_flag, usage_errors};
 
 use crate::help;
 use clap::{Arg, ArgAction, ArgMatches, Command as Parser, Error, value_parser};
@@ -19,13 +19,21 @@ pub enum Command {
         /// How many sites the first sites begin with, if not with all.
         first: Option<u16>,
     },
+    /// The lines of the input are calls at one site, which are served over its store.
+    Site {
+        /// The site's number.
+        site: u16,
+    },
 }
 
-/// A command and the path of the layout file, if one is named.
+/// A command and the paths of the files that are named.
 #[derive(Clone, Copy)]
 pub struct Request<'a> {
     pub command: Command,
+    /// The layout file, if one is named.
     pub layout: Option<&'a str>,
+    /// The file of the site's store: `site` has one, and no other command.
+    pub store: Option<&'a str>,
 }
 
 /// What the arguments ask for. The first is the program's own name; without a further one it is `join`, for which no
@@ -33,6 +41,7 @@ pub struct Request<'a> {
 pub fn requested<'a>(alloc: Global, arguments: &'a [String]) -> Result<Request<'a>, Error>
     ensures command { IfOk result (λ asked. asked.command ≡ asked_command (map string_bytes arguments.now)) }
     ensures layout { IfOk result (λ asked. option_map (λ path. path.now) asked.layout ≡ asked_layout (map string_bytes arguments.now)) }
+    ensures store { IfOk result (λ asked. option_map (λ path. path.now) asked.store ≡ asked_store (map string_bytes arguments.now)) }
     // An error comes just where clap's rules find one, and is of a kind that they give, or memory ran out.
     ensures refused { FailsBy (usage_errors (map string_bytes arguments.now)) result }
     ensures bare { length arguments.now ≤ 1 → IsOk result }
@@ -41,6 +50,7 @@ pub fn requested<'a>(alloc: Global, arguments: &'a [String]) -> Result<Request<'
         return Ok(Request {
             command: Command::Join,
             layout: None,
+            store: None,
         });
     }
     let matches = parser(alloc)?.try_get_matches_from(arguments)?;
@@ -51,16 +61,19 @@ pub fn requested<'a>(alloc: Global, arguments: &'a [String]) -> Result<Request<'
 fn request_in<'a>(matches: &ArgMatches<'a>) -> Request<'a>
     ensures command { result.command ≡ command_in (subcommand_rows_of matches.now) }
     ensures layout { option_map (λ path. path.now) result.layout ≡ layout_in (subcommand_rows_of matches.now) }
+    ensures store { option_map (λ path. path.now) result.store ≡ store_in (subcommand_rows_of matches.now) }
 {
     let Some((name, found)) = matches.subcommand() else {
         return Request {
             command: Command::Join,
             layout: None,
+            store: None,
         };
     };
     Request {
         command: command_of(name, found),
         layout: found.get_str("layout"),
+        store: found.get_str("store"),
     }
 }
 
@@ -74,7 +87,19 @@ fn command_of(name: &str, found: &ArgMatches) -> Command
             first: found.get_one::<u16>("from"),
         };
     }
+    if name == "site" {
+        return Command::Site {
+            site: site_in(found),
+        };
+    }
     Command::Join
+}
+
+// The number of the site; 0 where there is none, which clap refuses.
+fn site_in(found: &ArgMatches) -> u16
+    ensures { result ≡ site_in (rows_of (found_of found.now)) }
+{
+    found.get_one::<u16>("site").unwrap_or(0)
 }
 
 // The program as clap is told of it.
@@ -83,6 +108,7 @@ fn parser<'a>(alloc: Global) -> Result<Parser<'a>, AllocError>
 {
     let join = join_parser(alloc)?;
     let play = play_parser(alloc)?;
+    let site = site_parser(alloc)?;
     Parser::new(alloc, "seat_cli")
         .version("0.1.0")
         .override_usage("seat_cli [COMMAND]")
@@ -91,7 +117,8 @@ fn parser<'a>(alloc: Global) -> Result<Parser<'a>, AllocError>
         .subcommand_required(true)
         .disable_help_subcommand(true)
         .subcommand(join)?
-        .subcommand(play)
+        .subcommand(play)?
+        .subcommand(site)
 }
 
 // The command `join`.
@@ -111,7 +138,7 @@ fn play_parser<'a>(alloc: Global) -> Result<Parser<'a>, AllocError>
     ensures { IfOk result (λ built. (app_of built ≡ play_command) × ((fields_of built).has_globals ≡ false)) }
 {
     let tables = tables_flag(alloc);
-    let first = first_option(alloc);
+    let first = number_option(alloc, "from", "M", help::FIRST);
     let layout = layout_option(alloc);
     Parser::new(alloc, "play")
         .override_usage("seat_cli play [--tables] [--from M] [--layout FILE]")
@@ -119,6 +146,22 @@ fn play_parser<'a>(alloc: Global) -> Result<Parser<'a>, AllocError>
         .after_help(help::PLAY_NOTES)
         .arg(tables)?
         .arg(first)?
+        .arg(layout)
+}
+
+// The command `site`.
+fn site_parser<'a>(alloc: Global) -> Result<Parser<'a>, AllocError>
+    ensures { IfOk result (λ built. (app_of built ≡ site_command) × ((fields_of built).has_globals ≡ false)) }
+{
+    let site = site_option(alloc);
+    let store = store_option(alloc);
+    let layout = layout_option(alloc);
+    Parser::new(alloc, "site")
+        .override_usage("seat_cli site --site I --store FILE [--layout FILE]")
+        .about(help::SITE)
+        .after_help(help::SITE_NOTES)
+        .arg(site)?
+        .arg(store)?
         .arg(layout)
 }
 
@@ -145,15 +188,36 @@ fn tables_flag<'a>(alloc: Global) -> Arg<'a>
         .action(ArgAction::SetTrue)
 }
 
-// The option `--from M`.
-fn first_option<'a>(alloc: Global) -> Arg<'a>
-    ensures rule { rule_of result ≡ first_option }
+// The option `--site I`, which is needed.
+fn site_option<'a>(alloc: Global) -> Arg<'a>
+    ensures rule { rule_of result ≡ site_option }
     ensures local { result.global ≡ false }
 {
-    let option = Arg::new(alloc, "from")
-        .long("from")
-        .value_name("M")
-        .help(help::FIRST)
+    number_option(alloc, "site", "I", help::SITE_NUMBER).required(true)
+}
+
+// The option `--store FILE`, which is needed.
+fn store_option<'a>(alloc: Global) -> Arg<'a>
+    ensures rule { rule_of result ≡ store_option }
+    ensures local { result.global ≡ false }
+{
+    Arg::new(alloc, "store")
+        .long("store")
+        .value_name("FILE")
+        .help(help::STORE)
+        .required(true)
+        .action(ArgAction::Set)
+}
+
+// An option whose value is a number from 0 to 65,535.
+fn number_option<'a>(alloc: Global, name: &'a str, value: &'a str, about: &'a str) -> Arg<'a>
+    ensures rule { rule_of result ≡ number_option name.now }
+    ensures local { result.global ≡ false }
+{
+    let option = Arg::new(alloc, name)
+        .long(name)
+        .value_name(value)
+        .help(about)
         .action(ArgAction::Set);
     option.value_parser(value_parser!(u16))
 }

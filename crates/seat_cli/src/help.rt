@@ -2,7 +2,7 @@
 
 /// What the program is for.
 pub const PROGRAM: &str =
-    "Joins deltas of the seats of shared records into one book, and plays scripts of several sites";
+    "Joins deltas of the seats of shared records, plays scripts of several sites, and serves one site";
 
 /// What stands behind the program's options.
 pub const PROGRAM_NOTES: &str = "\
@@ -11,8 +11,10 @@ Without a command it is `join`. The input is standard input, the answer goes to 
 Exit status:
   0  all lines were carried out; help or the version was printed
   2  the arguments are wrong
-  3  there is no layout: `layout refused NAME` on standard error
+  3  there is no layout, or no such site in it: `layout refused NAME` on standard error
   4  the input or a line of it was refused, which is the answer
+  5  the store could not be opened: `store refused NAME` on standard error; or it failed: `refused StoreFault` was the
+     reply to a line
   6  memory ran out: `memory` on standard error
   7  a read or a write failed: `io` on standard error
 
@@ -59,6 +61,33 @@ status 3.
 Example:
   printf '0 give a 1 1\\n0 send\\n1 take 0\\n1 read a 8\\n' | seat_cli play --tables";
 
+/// What `site` does.
+pub const SITE: &str =
+    "Serves one site over its store, one call a line, and writes one line of reply to each";
+
+/// What stands behind the options of `site`.
+pub const SITE_NOTES: &str = "\
+A line of the input is one of these, with one space between words:
+  read NAME H      holder H enters record NAME as a reader
+  announce NAME H  H announces that it will write
+  write NAME H     H, who announced it, enters as the writer, who needs all seats
+  leave NAME H     H leaves, or withdraws what it announced
+  give NAME J N    the site gives N of its seats to site J
+  help NAME        the site gives seats to the site of an announced writer, or its excess to the next site
+  send             the reply is the text of what the site knows, a delta
+  take TEXT        the site joins the delta of this text; TEXT is the rest of the line
+J is a site, from 0; H is any number that stands for a holder. Numbers are decimal, without a leading zero.
+Each line gets one line of reply, as `admitted` or `refused NoSeat 0`; a refused call changes nothing, and the script
+goes on. The first line that can't be read ends it, with `line K refused BadWord` and status 4.
+
+FILE is an SQLite database, which is made where there is none. What a reply tells is kept there, so the next run of the
+same site goes on from it. A store that was made for another site or layout is refused, as is a file that is no
+database: `store refused NAME` and status 5. Where a change can't be kept, the reply is `refused StoreFault`, to each
+later call `refused Frozen`, and the status is 5.
+
+Example:
+  printf 'read a 7\\nleave a 7\\n' | seat_cli site --site 0 --store site_0.db";
+
 /// What `--layout` names.
 pub const LAYOUT: &str =
     "A TOML file with the sites and records [default: two sites, record a of two seats at site 0]";
@@ -70,3 +99,9 @@ pub const TABLES: &str =
 /// What `--from` does.
 pub const FIRST: &str =
     "The first M sites begin with the layout of M sites, the others with all [default: all sites]";
+
+/// What `--site` says.
+pub const SITE_NUMBER: &str = "The number of the site in the layout, from 0";
+
+/// What `--store` names.
+pub const STORE: &str = "The file of the site's store, which is made where it is new";

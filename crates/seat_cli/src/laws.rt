@@ -11,13 +11,13 @@ ghost use Rattle.merge_core.specs.Tests.{is_placed, first_failing};
 ghost use Rattle.delta_codec.specs.DeltaText.{delta_text};
 ghost use Rattle.text_input.specs.Lines.{lines_of};
 ghost use Rattle.clap.specs.Words.{fault_of};
-ghost use Rattle.clap.specs.declared.error.ErrorKind.TheVariants.{ArgumentConflict, InvalidSubcommand, InvalidValue, TooManyValues, UnknownArgument, ValueValidation};
+ghost use Rattle.clap.specs.declared.error.ErrorKind.TheVariants.{ArgumentConflict, InvalidSubcommand, InvalidValue, MissingRequiredArgument, TooManyValues, UnknownArgument, ValueValidation};
 ghost use Rattle.seat_cli.specs.declared.fault.LineFault.TheVariants.{Unfit};
 ghost use Rattle.seat_cli.specs.Engine.{book_line};
 ghost use Rattle.seat_cli.specs.Joins.{IsJoinOf, SameDeltas};
 ghost use Rattle.seat_cli.specs.Texts.{refusal_text};
-ghost use Rattle.seat_cli.specs.Arguments.{called_with, named_command, named_layout, program};
-ghost use Rattle.seat_cli.specs.declared.arguments.Command.TheVariants.{Join, Play};
+ghost use Rattle.seat_cli.specs.Arguments.{called_with, named_command, named_layout, named_store, program};
+ghost use Rattle.seat_cli.specs.declared.arguments.Command.TheVariants.{Join, Play, Site};
 ghost use Rattle.seat_cli.specs.Examples.{joined_rows, two_sites, seat_given, seat_given_text, writer_waits, given_and_waiting, three_sites, announced, two_sent, three_sent, three_sent_text, three_sent_book, told_alone, told_by_both, lacks_its_own, told_of_three};
 
 /// The same deltas join to one book, in whatever order and however often they come: so a text that is
@@ -75,4 +75,23 @@ pub fn play_arguments_read()
     ensures missing_number { fault_of program (called_with (codes "play" ∷ codes "--from" ∷ [])) ≡ InvalidValue ∷ [] }
     ensures two_numbers { fault_of program (called_with (codes "play" ∷ codes "--from=1" ∷ codes "--from=2" ∷ [])) ≡ ArgumentConflict ∷ [] }
     ensures flag_with_value { fault_of program (called_with (codes "play" ∷ codes "--tables=1" ∷ [])) ≡ TooManyValues ∷ [] }
+{}
+
+/// The same of the command `site`: the site's number and the store's file, both of which are needed.
+#[tactic(auto, unfolding(clap::proofs::OnLiterals::clap_on_literals))]
+pub fn site_arguments_read()
+    ensures plain { named_command (called_with (codes "site" ∷ codes "--site" ∷ codes "1" ∷ codes "--store" ∷ codes "a" ∷ [])) ≡ Site 1 }
+    ensures store { named_store (called_with (codes "site" ∷ codes "--site" ∷ codes "1" ∷ codes "--store" ∷ codes "a" ∷ [])) ≡ Some (codes "a") }
+    ensures behind_equals { named_command (called_with (codes "site" ∷ codes "--store=a" ∷ codes "--site=65535" ∷ [])) ≡ Site 65535 }
+    ensures store_behind_equals { named_store (called_with (codes "site" ∷ codes "--store=a" ∷ codes "--site=65535" ∷ [])) ≡ Some (codes "a") }
+    ensures layout { named_layout (called_with (codes "site" ∷ codes "--store=a" ∷ codes "--layout=b" ∷ codes "--site=0" ∷ [])) ≡ Some (codes "b") }
+    ensures no_error { fault_of program (called_with (codes "site" ∷ codes "--site" ∷ codes "0" ∷ codes "--store" ∷ codes "a" ∷ [])) ≡ [] }
+    ensures no_site { fault_of program (called_with (codes "site" ∷ codes "--store" ∷ codes "a" ∷ [])) ≡ MissingRequiredArgument ∷ [] }
+    ensures no_store { fault_of program (called_with (codes "site" ∷ codes "--site" ∷ codes "0" ∷ [])) ≡ MissingRequiredArgument ∷ [] }
+    ensures no_number { fault_of program (called_with (codes "site" ∷ codes "--site" ∷ codes "x" ∷ codes "--store" ∷ codes "a" ∷ [])) ≡ ValueValidation ∷ [] }
+    ensures too_great { fault_of program (called_with (codes "site" ∷ codes "--site" ∷ codes "65536" ∷ codes "--store" ∷ codes "a" ∷ [])) ≡ ValueValidation ∷ [] }
+    ensures two_sites { fault_of program (called_with (codes "site" ∷ codes "--site=0" ∷ codes "--site=1" ∷ codes "--store=a" ∷ [])) ≡ ArgumentConflict ∷ [] }
+    ensures two_stores { fault_of program (called_with (codes "site" ∷ codes "--site=0" ∷ codes "--store=a" ∷ codes "--store=b" ∷ [])) ≡ ArgumentConflict ∷ [] }
+    ensures stray_argument { fault_of program (called_with (codes "site" ∷ codes "--site=0" ∷ codes "--store=a" ∷ codes "b" ∷ [])) ≡ UnknownArgument ∷ [] }
+    ensures store_of_play { fault_of program (called_with (codes "play" ∷ codes "--store=a" ∷ [])) ≡ UnknownArgument ∷ [] }
 {}

@@ -38,6 +38,9 @@ pub enum LayoutFault {
     /// is not among them. No layout file is refused so.
     #[error("the first sites are no earlier layout")]
     BadGrowth,
+    /// The layout has no site of the number that is to be served. No layout file is refused so.
+    #[error("the layout has no such site")]
+    NoSite,
 }
 
 impl LayoutFault {
@@ -56,6 +59,7 @@ impl LayoutFault {
             LayoutFault::Refused(error) => error_name(error),
             LayoutFault::Memory => "Memory",
             LayoutFault::BadGrowth => "BadGrowth",
+            LayoutFault::NoSite => "NoSite",
         }
     }
 }

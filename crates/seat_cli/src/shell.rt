@@ -4,21 +4,22 @@ ghost use Rattle.seat_cli.specs.LayoutFile.{FindsBuiltIn, FindsFile};
 ghost use Rattle.seat_cli.specs.Shell.{EndsCommand, EndsUnasked, RunsProgram};
 
 use crate::arguments::{Command, requested};
+use crate::databases::Databases;
 use crate::engine::join_engine;
 use crate::layout_file::{LayoutFault, built_in, read_layout_file};
 use crate::scripts::play_engine;
 use crate::standard_error::StandardError;
 use crate::status::Status;
+use crate::stored_sites::serve_stored;
 use clap::error::ErrorKind as UsageKind;
 use merge_core::Layout;
-use std::alloc::Global;
 use std::io::{ErrorKind, Read, Write};
 use std::rt::{Env, Files};
 use std::{env, fs, io};
 use text_input::{Sink, Source};
 
 /// Runs the program on a runtime's arguments, files and standard streams, and gives the exit status.
-pub fn run<R: Env + Files + Input + Print + Eprint + AllocGlobal>(rt: &R) -> u8 {
+pub fn run<R: Env + Files + Databases + Input + Print + Eprint + AllocGlobal>(rt: &R) -> u8 {
     let mut errors = Sink::new(StandardError::of(rt));
     match all_arguments(rt) {
         Ok(arguments) => run_with(
@@ -45,7 +46,7 @@ fn all_arguments<R: Env + AllocGlobal>(rt: &R) -> io::Result<Vec<String>> {
 }
 
 /// Carries out the command that the arguments ask for, or says what is to be said of them. Gives the exit status.
-pub fn run_with<R: Files + AllocGlobal, I: Read, O: Write, E: Write>(
+pub fn run_with<R: Files + Databases + AllocGlobal, I: Read, O: Write, E: Write>(
     rt: &R,
     arguments: &[String],
     source: &mut Source<I>,
@@ -62,14 +63,15 @@ pub fn run_with<R: Files + AllocGlobal, I: Read, O: Write, E: Write>(
         Ok(layout) => layout,
         Err(fault) => return fault.status().end(errors),
     };
-    let ended = carry_out(rt.alloc(), asked.command, layout, source, sink);
+    let ended = carry_out(rt, asked.command, asked.store, layout, source, sink);
     ended.end(errors)
 }
 
-// Carries out a command under a layout.
-fn carry_out<I: Read, O: Write>(
-    alloc: Global,
+// Carries out the command that is asked for under a layout.
+fn carry_out<R: Databases + AllocGlobal, I: Read, O: Write>(
+    rt: &R,
     command: Command,
+    store: Option<&str>,
     layout: Layout,
     source: &mut Source<I>,
     sink: &mut Sink<O>,
@@ -77,8 +79,14 @@ fn carry_out<I: Read, O: Write>(
     ensures { EndsCommand command layout source.old source.new sink.old sink.new result }
 {
     match command {
-        Command::Join => join_engine(alloc, &layout, source, sink),
-        Command::Play { tables, first } => play_engine(alloc, layout, first, tables, source, sink),
+        Command::Join => join_engine(rt.alloc(), &layout, source, sink),
+        Command::Play { tables, first } => {
+            play_engine(rt.alloc(), layout, first, tables, source, sink)
+        }
+        Command::Site { site } => {
+            let path = store.unwrap_or(""); // clap has refused arguments without one
+            serve_stored(rt, path, layout, site, source, sink)
+        }
     }
 }
 

@@ -4,6 +4,7 @@ ghost use Rattle.text_input.specs.Sink.{Writes};
 ghost use Rattle.seat_cli.specs.Endings.{Says, status_code, status_line};
 
 use crate::layout_file::LayoutFault;
+use crate::store_refusal::StoreRefusal;
 use std::io::Write;
 use text_input::Sink;
 
@@ -14,8 +15,12 @@ pub enum Status {
     Done,
     /// The arguments are wrong, which was told.
     Usage,
-    /// There is no layout, or none for the first sites of a script.
+    /// There is no layout, or none for the first sites of a script, or no such site in it.
     NoLayout(LayoutFault),
+    /// The site's store can't be used.
+    NoStore(StoreRefusal),
+    /// The site's store failed while the lines were carried out, which was the reply to one.
+    Fault,
     /// The input, or a line of it, was refused.
     Refused,
     /// Memory ran out.
@@ -34,6 +39,7 @@ impl Status {
             Status::Usage => 2,
             Status::NoLayout(_) => 3,
             Status::Refused => 4,
+            Status::NoStore(_) | Status::Fault => 5,
             Status::Memory => 6,
             Status::Io => 7,
         }
@@ -45,9 +51,12 @@ impl Status {
         ensures said { Says errors.old errors.new (status_line self) }
     {
         match self {
-            Status::Done | Status::Usage | Status::Refused => {}
+            Status::Done | Status::Usage | Status::Refused | Status::Fault => {}
             Status::NoLayout(fault) => {
-                let _ = write_refusal(errors, fault.name());
+                let _ = write_layout_refusal(errors, fault.name());
+            }
+            Status::NoStore(refusal) => {
+                let _ = write_store_refusal(errors, refusal.name());
             }
             Status::Memory => {
                 let _ = errors.write_and_flush("memory\n");
@@ -75,10 +84,19 @@ impl LayoutFault {
 }
 
 // Writes the line that names a fault of the layout. Whether that succeeded.
-fn write_refusal<E: Write>(errors: &mut Sink<E>, name: &str) -> bool
+fn write_layout_refusal<E: Write>(errors: &mut Sink<E>, name: &str) -> bool
     ensures { MatchBool result
         (Writes errors.old errors.new (codes "layout refused " ++ (name.now ++ codes "\n")))
         (HasFault errors.new.fault) }
 {
     errors.write("layout refused ") && errors.write(name) && errors.write_and_flush("\n")
+}
+
+// Writes the line that names why a store is refused. Whether that succeeded.
+fn write_store_refusal<E: Write>(errors: &mut Sink<E>, name: &str) -> bool
+    ensures { MatchBool result
+        (Writes errors.old errors.new (codes "store refused " ++ (name.now ++ codes "\n")))
+        (HasFault errors.new.fault) }
+{
+    errors.write("store refused ") && errors.write(name) && errors.write_and_flush("\n")
 }

@@ -1,12 +1,18 @@
 //! The engine with fake readers and writers; in the modules below arguments, hostile bytes, layout files, and the
 //! whole program on a fake runtime.
+mod failed_runs;
 mod fakes;
 mod hostile_bytes;
+mod keepers;
 mod layout_files;
 mod limits;
 mod programs;
 mod runtime;
 mod scripts;
+mod site_programs;
+mod sites;
+mod stopped_stores;
+mod stored_sites;
 
 use crate::layout_file::{built_in, read_layout};
 use crate::status::Status;

@@ -61,20 +61,20 @@ static FILES: [(&str, Text); 6] = [
     ),
 ];
 
-// What the program is to do: its exit status, standard output, standard error, and the files that it opens.
-type Run = (u8, &'static str, &'static str, &'static str);
+/// What the program is to do: its exit status, standard output, standard error, and the files that it opens.
+pub type Run = (u8, &'static str, &'static str, &'static str);
 
-// The read of the input and the writes of the two streams that are answered with a fault of a kind.
+/// The read of the input and the writes of the two streams that are answered with a fault of a kind.
 #[derive(Clone, Copy, Drop)]
-struct Faults {
-    read: usize,
-    output: usize,
-    errors: usize,
-    kind: ErrorKind,
+pub struct Faults {
+    pub read: usize,
+    pub output: usize,
+    pub errors: usize,
+    pub kind: ErrorKind,
 }
 
-// Whether the program does so.
-fn does(
+/// Whether the program does so.
+pub fn does(
     alloc: Global,
     arguments: &'static [&'static [u8]],
     input: &'static str,
@@ -100,8 +100,8 @@ fn does(
         && opened.bytes() == wanted.3.as_bytes()
 }
 
-// The same where no call fails but those of the files.
-fn answers(
+/// The same where no call fails but those of the files.
+pub fn answers(
     alloc: Global,
     arguments: &'static [&'static [u8]],
     input: &'static str,
@@ -117,13 +117,14 @@ fn answers(
 }
 
 const HELP: &str = "\
-Joins deltas of the seats of shared records into one book, and plays scripts of several sites
+Joins deltas of the seats of shared records, plays scripts of several sites, and serves one site
 
 Usage: seat_cli [COMMAND]
 
 Commands:
   join  Joins the delta texts of the input, one a line, and writes the text of the joined book
   play  Plays a script of several sites, one event a line, and writes one line of reply to each
+  site  Serves one site over its store, one call a line, and writes one line of reply to each
 
 Options:
   -h, --help     Print help
@@ -134,8 +135,10 @@ Without a command it is `join`. The input is standard input, the answer goes to 
 Exit status:
   0  all lines were carried out; help or the version was printed
   2  the arguments are wrong
-  3  there is no layout: `layout refused NAME` on standard error
+  3  there is no layout, or no such site in it: `layout refused NAME` on standard error
   4  the input or a line of it was refused, which is the answer
+  5  the store could not be opened: `store refused NAME` on standard error; or it failed: `refused StoreFault` was the
+     reply to a line
   6  memory ran out: `memory` on standard error
   7  a read or a write failed: `io` on standard error
 
@@ -248,7 +251,7 @@ const WRONG: [(&[&[u8]], &str); 14] = [
     ),
     (
         &[b"seat_cli", b"--"],
-        "error: 'seat_cli' requires a subcommand but one was not provided\n  [subcommands: join, play]\n\nUsage: seat_cli [COMMAND]\n\nFor more information, try '--help'.\n",
+        "error: 'seat_cli' requires a subcommand but one was not provided\n  [subcommands: join, play, site]\n\nUsage: seat_cli [COMMAND]\n\nFor more information, try '--help'.\n",
     ),
     (
         &[b"seat_cli", b"play", b"--from", b"x"],

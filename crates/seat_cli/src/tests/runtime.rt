@@ -1,5 +1,11 @@
 //! A runtime whose arguments, files and standard streams the test chooses.
 use super::fakes::{Giving, Keeping};
+use crate::databases::Databases;
+use crate::status::Status;
+use crate::store_refusal::StoreRefusal;
+use crate::stored_sites::serve_over;
+use merge_core::Layout;
+use sqlite::Connection;
 use std::alloc::{Allocator, Global};
 use std::cell::RefCell;
 use std::env::FillError;
@@ -8,6 +14,7 @@ use std::fs::{Metadata, OpenFile, OpenOptions};
 use std::io;
 use std::io::{BufRead, Error, ErrorKind, Lines, Read, Seek, SeekFrom, Write};
 use std::rt::{Env, Files};
+use text_input::{Sink, Source};
 
 /// A text to read, how many LF follow it, and the read that is answered with a fault.
 #[derive(Clone, Copy, Drop)]
@@ -264,5 +271,29 @@ impl Files for Fake {
 
     fn remove_dir_all<B: Allocator>(&self, _alloc: B, _path: &str) -> io::Result<()> {
         Err(unsupported())
+    }
+}
+
+impl Databases for Fake {
+    // An empty database in memory at one path, and none at another.
+    fn serve_database<I: Read, O: Write>(
+        &self,
+        path: &str,
+        layout: Layout,
+        site: u16,
+        source: &mut Source<I>,
+        sink: &mut Sink<O>,
+    ) -> Status {
+        if kept(&self.opened, path).is_err() || kept(&self.opened, "\n").is_err() {
+            return Status::Memory;
+        }
+        if path != "new.db" {
+            return Status::NoStore(StoreRefusal::StoreFault);
+        }
+        let Ok(connection) = Connection::open_in_memory(self.alloc) else {
+            return Status::Memory;
+        };
+        let (ended, _connection) = serve_over(self.alloc, connection, layout, site, source, sink);
+        ended
     }
 }

@@ -12,7 +12,9 @@ use std::io::{Error, ErrorKind, Write};
 use text_input::{Sink, Source};
 use world_script::play;
 
-const TWO_SITES: &str = "sites = 2\n[[record]]\nname = \"a\"\nseats = 2\nhome = 0\nproblem = 1\n";
+/// Two sites, of which the first has the two seats of record a, under problem 1.
+pub const TWO_SITES: &str =
+    "sites = 2\n[[record]]\nname = \"a\"\nseats = 2\nhome = 0\nproblem = 1\n";
 // As three sites, under problem 1.
 const PROBLEM_1: &str = "sites = 3\n[[record]]\nname = \"a\"\nseats = 3\nhome = 0\nproblem = 1\n";
 

@@ -12,5 +12,7 @@ returns c =
     (ap (on_top with_settings) c.new.ensures.app) in
     let with_join = c.in_ok-subcommand.ensures.shape c.in_ok-join.ensures.1
     ∙ ap₂ with_subcommand named_is (ap (λ (a : App). a.top) c.in_ok-join.ensures.0) in
-    IfOk-weaker c.subcommand-2.result _ _ (λ built added. added.shape c.in_ok-play.ensures.1
-    ∙ ap₂ with_subcommand with_join (ap (λ (a : App). a.top) c.in_ok-play.ensures.0)) c.subcommand-2.ensures
+    let with_play = c.in_ok-subcommand-2.ensures.shape c.in_ok-play.ensures.1
+    ∙ ap₂ with_subcommand with_join (ap (λ (a : App). a.top) c.in_ok-play.ensures.0) in
+    IfOk-weaker c.subcommand-3.result _ _ (λ built added. added.shape c.in_ok-site.ensures.1
+    ∙ ap₂ with_subcommand with_play (ap (λ (a : App). a.top) c.in_ok-site.ensures.0)) c.subcommand-3.ensures

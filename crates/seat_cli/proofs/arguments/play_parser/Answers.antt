@@ -8,7 +8,7 @@ use Rattle.seat_cli.proofs.arguments.play_parser.Goals as goal
 pub returns : goal.returns
 returns c =
     let tables = c.tables_flag-tables.ensures in
-    let first = c.first_option-first.ensures in
+    let first = c.number_option-first.ensures in
     let layout = c.layout_option-layout.ensures in
     let none_before : (out-Command c.after_help.result).has_globals ≡ false = search rules in
     let either : Bool → Bool → Bool = λ (a : Bool) (b : Bool). a || b in

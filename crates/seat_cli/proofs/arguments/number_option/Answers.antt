@@ -3,13 +3,13 @@ use Rattle.std.specs.Prelude.{pos}
 use Rattle.clap.specs.Words.{Rule, rule_of}
 use Rattle.clap.specs.declared.builder.value_parser.ValueParser.{ValueParser}
 use Rattle.clap.specs.declared.builder.value_parser.ValueParser.TheVariants.{Signed}
-use Rattle.seat_cli.specs.Arguments.{first_option}
-use Rattle.seat_cli.proofs.arguments.first_option.Goals as goal
+use Rattle.seat_cli.specs.Arguments.{number_option}
+use Rattle.seat_cli.proofs.arguments.number_option.Goals as goal
 
 pub returns-clause-rule : goal.returns-clause-rule
 returns-clause-rule c =
     let given = c.value_parser-2.ensures.given in
     let parser_is : c.value_parser-2.result.value_parser ≡ Some (Signed (pos 0) (pos 65535)) =
     given.1 ∙ ap (λ (q : ValueParser). Some q) (given.2 ∙ c.value_parser.ensures) in
-    let before : rule_of c.action-option.result ≡ record first_option { parser = None } = search rules in
+    let before : rule_of c.action-option.result ≡ record (number_option c.args.name.now) { parser = None } = search rules in
     ap rule_of c.value_parser-2.ensures.others ∙ ap₂ (λ (r : Rule) (p : Option ValueParser). record r { parser = p }) before parser_is
