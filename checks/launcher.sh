@@ -2,7 +2,7 @@
 # Tries the launcher, the README's commands, the examples and the built program, all in a fresh clone.
 #
 #   checks/launcher.sh           takes as long as a build from nothing, and some minutes more
-#   checks/launcher.sh --gate    runs the README's second command, rt ci, as well: half an hour more
+#   checks/launcher.sh --gate    runs the README's last command, rt ci, as well: half an hour more
 #   checks/launcher.sh --quick   takes along what the checks of this folder kept, and so builds faster
 #
 # Prints a line for each thing tried, and ends with 0 where all of them went well.
@@ -47,6 +47,10 @@ plays
 tell $? "the README's first command builds the program and prints examples/maintenance.txt"
 [ "$(builds)" = 1 ] && [ "$(wc -l <"$work/errors")" = 1 ] && grep -q "2.5 GB" "$work/errors"
 tell $? "the build is told in one line"
+checks/examples.sh >"$work/output" 2>&1 && [ "$(builds)" = 0 ]
+tell $? "every example prints what stands beside it, without a build"
+printf 'read a 7\nsend\n' | ./seat_cli site --site 0 --store "$work/site_0.db" >"$work/output" 2>&1 && [ "$(head -1 "$work/output")" = admitted ]
+tell $? "the README's second command makes a store and lets a reader in"
 cat examples/site_1.deltas examples/site_0.deltas | joins && [ ! -s "$work/errors" ] && [ "$(builds)" = 0 ]
 tell $? "the deltas of the examples join to examples/joined.txt, without a build"
 cat examples/site_0.deltas examples/site_1.deltas examples/site_0.deltas | joins && [ ! -s "$work/errors" ] && [ "$(builds)" = 0 ]
@@ -106,10 +110,16 @@ ends 3 "" "layout refused TooLong" join --layout /dev/zero </dev/null
 tell $? "3 for a device that never ends, in place of a layout file"
 ends 3 "" "layout refused BadGrowth" play --from 3 </dev/null
 tell $? "3 for first sites that have no layout"
+ends 3 "" "layout refused NoSite" site --site 2 --store "$work/site_2.db" </dev/null && [ ! -e "$work/site_2.db" ]
+tell $? "3 for a site that the layout has not, and no store is made"
 echo "0 reed a 7" | ends 4 "line 1 refused BadWord" "" play
 tell $? "4 and the line that says no event"
 echo | ends 4 "line 1 refused NotJson" ""
 tell $? "4 and the refusal on standard output"
+ends 5 "" "store refused WrongSite" site --site 1 --store "$work/site_0.db" </dev/null
+tell $? "5 for the store of another site"
+ends 5 "" "store refused StoreFault" site --site 0 --store examples </dev/null
+tell $? "5 for a folder in place of a store"
 ends 7 "" "io" <examples
 tell $? "7 for a folder in place of the input"
 if [ -w /dev/full ]; then
@@ -127,9 +137,9 @@ tell $? "the second reader of the format agrees: $(tail -1 "$work/output")"
 if [ "${1:-}" = --gate ]; then
     rt ci >"$work/output" 2>&1
     tail -1 "$work/output" | grep -q " 0 failed"
-    tell $? "the README's second command: $(tail -1 "$work/output")"
+    tell $? "the README's last command: $(tail -1 "$work/output")"
 else
-    echo "left out: the README's second command, rt ci (--gate)"
+    echo "left out: the README's last command, rt ci (--gate)"
 fi
 [ "$failed" = 0 ] && echo "all went well" && exit 0
 echo "$failed failed"

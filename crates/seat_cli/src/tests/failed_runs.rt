@@ -8,16 +8,9 @@ use sqlite::{Connection, MemStore};
 use std::alloc::Global;
 use text_input::{Sink, Source};
 
-// A script and so many blanks behind it, the calls of the reader and of the writer that fail, and what that comes to.
-#[derive(Clone, Copy, Drop)]
-struct Attempt {
-    script: &'static [u8],
-    blanks: usize,
-    read: usize,
-    write: usize,
-    status: Status,
-    output: &'static str,
-}
+// A script and how many blanks stand behind it, the calls of the reader and of the writer that fail, how the run ends,
+// and what it writes.
+type Attempt = (&'static [u8], usize, usize, usize, Status, &'static str);
 
 // Carries it out at site 0 of two, and gives the database back where it came to what it was to.
 fn attempt(
@@ -25,12 +18,13 @@ fn attempt(
     connection: Connection<MemStore>,
     it: Attempt,
 ) -> Option<Connection<MemStore>> {
+    let (script, blanks, read, write, status, output) = it;
     let layout = read_layout(alloc, TWO_SITES.as_bytes()).ok()?;
     if !connection.is_autocommit() {
         return None;
     }
-    let mut reader = Giving::new(it.script, it.read).followed_by(b' ', it.blanks);
-    let mut writer = Keeping::new(alloc, it.write);
+    let mut reader = Giving::new(script, read).followed_by(b' ', blanks);
+    let mut writer = Keeping::new(alloc, write);
     let (ended, connection) = serve_over(
         alloc,
         connection,
@@ -39,43 +33,30 @@ fn attempt(
         &mut Source::new(&mut reader),
         &mut Sink::new(&mut writer),
     );
-    if ended != it.status || writer.bytes() != it.output.as_bytes() {
+    if ended != status || writer.bytes() != output.as_bytes() {
         return None;
     }
     Some(connection)
 }
 
-// A run in which nothing fails.
-const fn whole(script: &'static [u8], output: &'static str) -> Attempt {
-    Attempt {
-        script,
-        blanks: 0,
-        read: NEVER,
-        write: NEVER,
-        status: Status::Done,
-        output,
-    }
-}
-
-// A run whose reader or writer fails at these calls.
-const fn broken(script: &'static [u8], read: usize, write: usize, output: &'static str) -> Attempt {
-    Attempt {
-        script,
-        blanks: 0,
-        read,
-        write,
-        status: Status::Io,
-        output,
-    }
-}
-
 // Reader 7 comes; then both ask, and either is there or not.
-const COMES: Attempt = whole(b"read a 7\n", "admitted\n");
+const COMES: Attempt = (b"read a 7\n", 0, NEVER, NEVER, Status::Done, "admitted\n");
 
-const ONE_IS_THERE: Attempt = whole(b"read a 7\nread a 8\n", "refused AlreadyHere\nadmitted\n");
-
-const BOTH_ARE_THERE: Attempt = whole(
+const ONE_IS_THERE: Attempt = (
     b"read a 7\nread a 8\n",
+    0,
+    NEVER,
+    NEVER,
+    Status::Done,
+    "refused AlreadyHere\nadmitted\n",
+);
+
+const BOTH_ARE_THERE: Attempt = (
+    b"read a 7\nread a 8\n",
+    0,
+    NEVER,
+    NEVER,
+    Status::Done,
     "refused AlreadyHere\nrefused AlreadyHere\n",
 );
 
@@ -89,23 +70,33 @@ const SHORT: &[u8] = b"read a 8\nread a 9\n";
 // carried out; where the answer can't be written, every line was.
 const FAILS: [(Attempt, Attempt); 7] = [
     (
-        Attempt {
-            script: b"read a 8\n",
-            blanks: 16_777_208,
-            read: NEVER,
-            write: NEVER,
-            status: Status::Refused,
-            output: "input refused TooLong\n",
-        },
+        (
+            b"read a 8\n",
+            16_777_208,
+            NEVER,
+            NEVER,
+            Status::Refused,
+            "input refused TooLong\n",
+        ),
         ONE_IS_THERE,
     ),
-    (broken(LONG, 0, NEVER, ""), ONE_IS_THERE),
-    (broken(LONG, 1, NEVER, ""), ONE_IS_THERE),
-    (broken(LONG, 2, NEVER, ""), ONE_IS_THERE),
-    (broken(SHORT, NEVER, 0, ""), BOTH_ARE_THERE),
-    (broken(SHORT, NEVER, 2, "admitted\nrefus"), BOTH_ARE_THERE),
+    ((LONG, 0, 0, NEVER, Status::Io, ""), ONE_IS_THERE),
+    ((LONG, 0, 1, NEVER, Status::Io, ""), ONE_IS_THERE),
+    ((LONG, 0, 2, NEVER, Status::Io, ""), ONE_IS_THERE),
+    ((SHORT, 0, NEVER, 0, Status::Io, ""), BOTH_ARE_THERE),
     (
-        broken(SHORT, NEVER, 4, "admitted\nrefused NoSeat 0\n"),
+        (SHORT, 0, NEVER, 2, Status::Io, "admitted\nrefus"),
+        BOTH_ARE_THERE,
+    ),
+    (
+        (
+            SHORT,
+            0,
+            NEVER,
+            4,
+            Status::Io,
+            "admitted\nrefused NoSeat 0\n",
+        ),
         BOTH_ARE_THERE,
     ),
 ];
@@ -128,32 +119,43 @@ fn three_runs(alloc: Global, first: Attempt, second: Attempt, third: Attempt) ->
 fn a_run_that_fails_leaves_the_store_unharmed(rt: HostRuntime) {
     let alloc = rt.alloc();
     for (fails, then) in FAILS {
-        let output = fails.output;
-        assert!(&rt; three_runs(alloc, COMES, fails, then), "{output}");
+        assert!(&rt; three_runs(alloc, COMES, fails, then), "{fails:?}");
     }
 }
 
-// What a site tells once it has given a seat, as its text and as a line that takes it.
-const TELLS: Attempt = whole(
+// A seat is given, and that is told.
+const TELLS: Attempt = (
     b"give a 1 1\nsend\n",
+    0,
+    NEVER,
+    NEVER,
+    Status::Done,
     "given\n{\"from\":0,\"rows\":[{\"ann\":0,\"fin\":0,\"out\":[2,1],\"r\":0,\"s\":0,\"taken\":1}],\"v\":1}\n",
 );
 
-const IS_TOLD: Attempt = whole(
+// The site takes this text: it tells nothing to the one that gave the seat, and more than it did to one that did not.
+const KNOWS_IT: Attempt = (
     b"take {\"from\":0,\"rows\":[{\"ann\":0,\"fin\":0,\"out\":[2,1],\"r\":0,\"s\":0,\"taken\":1}],\"v\":1}\nread a 8\n",
+    0,
+    NEVER,
+    NEVER,
+    Status::Done,
+    "merged 0\nrefused NoSeat 0\n",
+);
+
+const KNOWS_IT_NOT: Attempt = (
+    b"take {\"from\":0,\"rows\":[{\"ann\":0,\"fin\":0,\"out\":[2,1],\"r\":0,\"s\":0,\"taken\":1}],\"v\":1}\nread a 8\n",
+    0,
+    NEVER,
+    NEVER,
+    Status::Done,
     "refused OwnRowAhead 0\nadmitted\n",
 );
 
-// The store after `COMES` stands for a copy that was made then and is put back behind `TELLS`.
+// What stands after `COMES` is what a copy from before `TELLS` holds.
 #[test]
 fn a_store_that_was_put_back_does_not_take_what_it_no_longer_knows(rt: HostRuntime) {
     let alloc = rt.alloc();
-    assert!(&rt; three_runs(alloc, COMES, TELLS, BOTH_KNOWN));
-    assert!(&rt; three_runs(alloc, COMES, IS_TOLD, BOTH_ARE_THERE));
+    assert!(&rt; three_runs(alloc, COMES, TELLS, KNOWS_IT));
+    assert!(&rt; three_runs(alloc, COMES, KNOWS_IT_NOT, BOTH_ARE_THERE));
 }
-
-// The site that was not put back takes its own text, which tells it nothing.
-const BOTH_KNOWN: Attempt = whole(
-    b"take {\"from\":0,\"rows\":[{\"ann\":0,\"fin\":0,\"out\":[2,1],\"r\":0,\"s\":0,\"taken\":1}],\"v\":1}\nread a 7\nread a 8\n",
-    "merged 0\nrefused AlreadyHere\nrefused NoSeat 0\n",
-);

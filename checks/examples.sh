@@ -1,0 +1,25 @@
+#!/bin/sh
+# Runs each example, and compares what it prints with what stands beside it.
+#
+#   checks/examples.sh    builds the program where it is not built
+#
+# Prints a line for each, and ends with 0 where all of them print what they are to.
+set -u
+top=$(CDPATH='' cd -- "$(dirname -- "$0")/.." && pwd -P) || exit 1
+cd "$top" || exit 1
+work=$(mktemp -d "${TMPDIR:-/tmp}/seat_cli_examples.XXXXXX") || exit 1
+trap 'rm -rf "$work"' EXIT
+failed=0
+
+prints() { # whether what was written is what a file of the examples has
+    if [ "$1" = 0 ] && cmp -s "$work/out" "examples/$2"; then echo "ok      $3"; else echo "FAILED  $3"; failed=$((failed + 1)); fi
+}
+
+cat examples/site_1.deltas examples/site_0.deltas | ./seat_cli join --layout examples/three_sites.toml >"$work/out"
+prints $? joined.txt "the deltas of two sites are joined"
+./seat_cli play --tables --layout examples/three_sites.toml <examples/maintenance.script >"$work/out"
+prints $? maintenance.txt "the script of a maintenance job is played"
+examples/two_sites.sh >"$work/out"
+prints $? two_sites.txt "two sites, with a store each, serve a writer"
+
+[ "$failed" = 0 ]
