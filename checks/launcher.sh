@@ -45,7 +45,7 @@ plays() { # whether the script of the examples is answered as they say
 echo "building the program in $work/clone"
 plays
 tell $? "the README's first command builds the program and prints examples/maintenance.txt"
-[ "$(builds)" = 1 ] && [ "$(wc -l <"$work/errors")" = 1 ] && grep -q "2.5 GB" "$work/errors"
+[ "$(builds)" = 1 ] && [ "$(wc -l <"$work/errors")" = 1 ] && grep -q "7 GB" "$work/errors"
 tell $? "the build is told in one line"
 checks/examples.sh >"$work/output" 2>&1 && [ "$(builds)" = 0 ]
 tell $? "every example prints what stands beside it, without a build"
