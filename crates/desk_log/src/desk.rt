@@ -197,6 +197,8 @@ impl<K: Keeper> Desk<K> {
         ensures entries { result.1 ≡ self.log.entries }
         ensures keeper { result.2 ≡ self.keeper }
         ensures made_for { IsMadeFor K.Keeper result.2 self.core.layout self.core.site }
+        ensures kept { K.keeps self.opened self.log.first → Leaves K.Keeper (is_frozen self) result.2 (account_of self) (account_if_kept self) }
+        ensures honest { K.is_honest result.2 → K.is_honest self.opened }
         ensures legal { IsLegal (first_account self) self.log.entries }
         ensures within { length self.log.entries ≤ self.log.limit }
     {

@@ -1,0 +1,3 @@
+pub mod PassLemmas
+pub mod SiteLemmas
+pub mod LockedLemmas

@@ -1,0 +1,174 @@
+//! Closing a site: what its passes hold is compared with the log, and the log is given away.
+ghost use Rattle.std.specs.Prelude.{◌≡◌, ◌≢◌, ◌+◌, ◌<◌, ◌≤◌, ◌++◌, ◌↔◌, [], ◌∷◌, All, IsTrue, IfOk, IfErr, IfSome, None, false, length, take, vec_capacity};
+ghost use Rattle.desk_log.specs.Log.{ends_in_fault};
+ghost use Rattle.session_book.specs.declared.error.CloseError.TheVariants.{PassMissing};
+ghost use Rattle.session_book.specs.Passes.{receipts_of, receipts_in};
+ghost use Rattle.session_book.specs.Sites.{AreAll, BearsOut, has_number, IsSameOpening};
+
+use crate::error::CloseError;
+use crate::pass::{Pass, Receipt};
+use admission_core::Durable;
+use desk_log::same::{same_call, same_durable, same_layout, same_reply};
+use desk_log::{Desk, Entry, Run, Runs, Transcript};
+use merge_core::Layout;
+use site_store::Keeper;
+use std::alloc::Global;
+use std::sync::ledger::{Ledger, Share};
+
+// Whether each number below the count stands at one of as many passes.
+pub(crate) fn are_all<L: Ledger>(passes: &[Pass<L>], count: u16) -> bool
+    ensures { IsTrue result ↔ AreAll count passes.now }
+{
+    if passes.len() != usize::from(count) {
+        return false;
+    }
+    'numbers: for n in 0..count {
+        if !has_number(passes, n) {
+            return false;
+        }
+    }
+    true
+}
+
+// Whether a pass has this number.
+fn has_number<L: Ledger>(passes: &[Pass<L>], n: u16) -> bool
+    ensures { result ≡ has_number n passes.now }
+{
+    passes.iter().any(|pass| pass.number() == n)
+}
+
+// Room for the one run, where the desk is that of the opening and its log bears each pass out.
+pub(crate) fn checked<K: Keeper, L: Ledger>(
+    alloc: Global,
+    desk: &Desk<K>,
+    layout: &Layout,
+    site: u16,
+    first: &Durable,
+    limit: usize,
+    passes: &[Pass<L>],
+) -> Result<Vec<Run>, CloseError>
+    ensures opening { IfOk result (λ _. IsSameOpening desk.now layout.now site first.now limit) }
+    ensures each { IfOk result (λ _. All (BearsOut limit desk.now.log.entries) passes.now) }
+    ensures room { IfOk result (λ runs. (runs.items ≡ []) × (1 ≤ vec_capacity runs)) }
+    ensures all_there { IfErr result (λ e. e ≢ PassMissing) }
+{
+    if !is_same_opening(desk, layout, site, first, limit) {
+        return Err(CloseError::Mismatch { pass: 0, at: 0 });
+    }
+    let entries = desk.entries();
+    let frozen = desk.is_frozen();
+    'passes: for i in 0..passes.len() {
+        if let Some(at) = astray(entries, frozen, limit, &passes[i]) {
+            return Err(CloseError::Mismatch {
+                pass: passes[i].number(),
+                at,
+            });
+        }
+    }
+    Vec::with_capacity(alloc, 1).map_err(|_| CloseError::Memory)
+}
+
+// Whether a desk is that of an opening.
+fn is_same_opening<K: Keeper>(
+    desk: &Desk<K>,
+    layout: &Layout,
+    site: u16,
+    first: &Durable,
+    limit: usize,
+) -> bool
+    ensures { IsTrue result → IsSameOpening desk.now layout.now site first.now limit }
+{
+    let core = desk.core();
+    core.site() == site
+        && desk.limit() == limit
+        && same_layout(core.layout(), layout)
+        && same_durable(desk.first(), first)
+}
+
+// The first receipt of a pass that a log does not bear out, or the number of its receipts, where that is a mark.
+fn astray<L: Ledger>(entries: &[Entry], frozen: bool, limit: usize, pass: &Pass<L>) -> Option<usize>
+    requires { frozen ≡ ends_in_fault false entries.now }
+    ensures { result ≡ None → BearsOut limit entries.now pass.now }
+{
+    if let Some(at) = first_other(entries, pass.number(), pass.receipts()) {
+        return Some(at);
+    }
+    if pass.was_frozen() && !frozen {
+        return Some(pass.receipts().len());
+    }
+    if pass.was_full() && entries.len() != limit {
+        return Some(pass.receipts().len());
+    }
+    None
+}
+
+// The first receipt that is not the log's, of the pass with this number.
+fn first_other(entries: &[Entry], number: u16, receipts: &[Receipt]) -> Option<usize>
+    ensures { result ≡ None → receipts_of number entries.now ≡ receipts.now }
+{
+    let mut next = 0;
+    'entries: for i in 0..entries.len() {
+        let Some(after) = followed(&entries[i], number, receipts, next) else {
+            return Some(next);
+        };
+        next = after;
+    }
+    if next != receipts.len() {
+        return Some(next);
+    }
+    None
+}
+
+// How many receipts are borne out with one more entry, if it is no other than the next of them.
+fn followed(entry: &Entry, number: u16, receipts: &[Receipt], next: usize) -> Option<usize>
+    requires { next ≤ length receipts.now }
+    ensures { IfSome result (λ after. (after ≤ length receipts.now)
+        × (take after receipts.now ≡ take next receipts.now ++ receipts_of number (entry.now ∷ []))) }
+{
+    if entry.pass != number {
+        return Some(next);
+    }
+    if next >= receipts.len() {
+        return None;
+    }
+    if is_receipt(entry, &receipts[next]) {
+        return Some(next + 1);
+    }
+    None
+}
+
+// Whether a receipt is that of an entry.
+fn is_receipt(entry: &Entry, receipt: &Receipt) -> bool
+    ensures { IsTrue result → receipt.now ≡ record { call = entry.now.call; reply = entry.now.reply } }
+{
+    same_call(&receipt.call, &entry.call) && same_reply(&receipt.reply, &entry.reply)
+}
+
+// The shares of all passes as one, which has counted all receipts.
+pub(crate) fn gathered<L: Ledger>(rest: Share<L>, passes: Vec<Pass<L>>) -> Share<L>
+    requires parts { rest.parts ≡ 0 }
+    requires amount { rest.amount ≡ 0 }
+    ensures parts { result.parts ≡ length passes.items }
+    ensures amount { result.amount ≡ receipts_in passes.items }
+{
+    let mut all = rest;
+    let mut passes = passes;
+    'passes: while let Some(pass) = passes.pop() {
+        all.merge(pass.into_share());
+    }
+    all
+}
+
+// The transcript of a run, for which there is room.
+pub(crate) fn transcript_of(site: u16, runs: Vec<Run>, run: Run) -> Transcript
+    requires none { runs.items ≡ [] }
+    requires room { 1 ≤ vec_capacity runs }
+    ensures { result ≡ record { site = site; runs = run ∷ [] } }
+{
+    let mut runs = runs;
+    runs.push_reserved(run);
+    Transcript {
+        site,
+        runs: Runs::from_vec(runs),
+    }
+}
