@@ -1,3 +1,4 @@
 pub mod PassLemmas
 pub mod SiteLemmas
 pub mod LockedLemmas
+pub mod Sharing

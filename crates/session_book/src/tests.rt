@@ -3,6 +3,8 @@
 
 mod calls;
 mod fakes;
+mod growths;
+mod sites;
 mod stops;
 mod threads;
 

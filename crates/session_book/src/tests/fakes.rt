@@ -1,10 +1,14 @@
-//! A keeper whose device fails at a chosen commit.
+//! Keepers of which one fails, one waits, and one keeps nothing.
 ghost use Rattle.std.specs.Prelude.{◌≡◌, ◌⊎◌, if◌then◌else◌};
 ghost use Rattle.site_store.specs.Memory.{kept_by, layout_of, site_of};
 
 use admission_core::{Change, Durable};
+use merge_core::Layout;
 use site_store::{Keeper, KeeperError, MemoryKeeper};
 use std::alloc::Global;
+use std::sync::Arc;
+use std::sync::atomic::{AtomicU64, Ordering};
+use std::thread;
 
 /// It keeps in memory, until so many changes are kept. The next one fails, and is kept all the same where `keeps` says so.
 #[derive(Drop)]
@@ -55,5 +59,92 @@ impl Keeper for Failing {
 
     fn faults(&self) -> u64 {
         u64::from(self.failed)
+    }
+}
+
+/// It keeps in memory. A commit after so many others waits until another site was answered, if that comes soon.
+#[derive(Drop)]
+pub struct Holding {
+    pub kept: MemoryKeeper,
+    pub left: u64,
+    pub answered: Arc<AtomicU64, Global>,
+    pub saw: bool,
+}
+
+// Whether the mark is set within so many turns.
+fn is_set_soon(mark: &AtomicU64) -> bool {
+    for _ in 0..1_000_000_000u64 {
+        if mark.load(Ordering::SeqCst) == 1 {
+            return true;
+        }
+        thread::yield_now();
+    }
+    false
+}
+
+impl Keeper for Holding {
+    ghost layout = { λ k. layout_of k.kept };
+
+    ghost site = { λ k. site_of k.kept };
+
+    ghost keeps = { λ k d. d ≡ kept_by k.kept };
+
+    ghost keeps_either = { λ k d e. (d ≡ kept_by k.kept) ⊎ (e ≡ kept_by k.kept) };
+
+    ghost is_honest = { λ _. Unit {0} };
+
+    ghost faults_of = { λ _. 0 };
+
+    fn commit(&mut self, change: &Change) -> Result<(), KeeperError> {
+        if change.is_empty() {
+            return Ok(());
+        }
+        if self.left == 0 {
+            self.saw = is_set_soon(&self.answered);
+        }
+        self.left = self.left.saturating_sub(1);
+        self.kept.commit(change)
+    }
+
+    fn load(&mut self, alloc: Global) -> Result<Durable, KeeperError> {
+        self.kept.load(alloc)
+    }
+
+    fn faults(&self) -> u64 {
+        0
+    }
+}
+
+/// It gives back what it was made with and promises to keep nothing.
+#[derive(Drop)]
+pub struct Given {
+    pub layout: Layout,
+    pub site: u16,
+    pub first: Durable,
+}
+
+impl Keeper for Given {
+    ghost layout = { λ k. k.layout };
+
+    ghost site = { λ k. k.site };
+
+    ghost keeps = { λ _ _. ⊥ };
+
+    ghost keeps_either = { λ _ _ _. ⊥ };
+
+    ghost is_honest = { λ _. Unit {0} };
+
+    ghost faults_of = { λ _. 0 };
+
+    fn commit(&mut self, _change: &Change) -> Result<(), KeeperError> {
+        Ok(())
+    }
+
+    fn load(&mut self, alloc: Global) -> Result<Durable, KeeperError> {
+        Ok(self.first.try_copy(alloc)?)
+    }
+
+    fn faults(&self) -> u64 {
+        0
     }
 }

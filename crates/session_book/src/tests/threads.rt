@@ -1,5 +1,6 @@
 //! Callers on several threads.
 ghost use Rattle.std.specs.Prelude.{◌≡◌, IfSome};
+ghost use Rattle.admission_core.specs.Kept.{DurableState};
 
 use super::{layout_of, numbers, read};
 use crate::*;
@@ -8,12 +9,12 @@ use site_store::{Keeper, MemoryKeeper};
 use std::alloc::Global;
 use std::marker::Brand;
 use std::sync::Wait;
-use std::sync::ledger::{Blank, Ledger};
+use std::sync::ledger::Blank;
 use std::thread;
 use std::thread::Threads;
 
 // Eight readers of one thread.
-fn read_eight<K: Keeper, L: Ledger, R: Wait>(
+fn read_eight<K: Keeper, L: Opening, R: Wait>(
     rt: &R,
     site: &Site<K, L>,
     from: u16,
@@ -25,7 +26,7 @@ fn read_eight<K: Keeper, L: Ledger, R: Wait>(
 }
 
 // Eight readers of each pass, in threads of their own.
-fn read_in_threads<K: Keeper + Send, L: Ledger + Send + Sync, R: Threads + Wait + Sync>(
+fn read_in_threads<K: Keeper + Send, L: Opening + Send + Sync, R: Threads + Wait + Sync>(
     rt: &R,
     site: &Site<K, L>,
     passes: &mut [Pass<L>],
@@ -39,7 +40,7 @@ fn read_in_threads<K: Keeper + Send, L: Ledger + Send + Sync, R: Threads + Wait 
 }
 
 // How many receipts of passes have this reply.
-fn told<L: Ledger>(passes: &[Pass<L>], reply: (u8, u64, u64)) -> usize {
+fn told<L: Opening>(passes: &[Pass<L>], reply: (u8, u64, u64)) -> usize {
     let mut count = 0usize;
     for pass in passes {
         for receipt in pass.receipts() {
@@ -84,13 +85,14 @@ struct Outcome {
     second: u64,
 }
 
-fn two_threads_over<L: Ledger + Send + Sync, R: Threads + Wait + Sync>(
+fn two_threads_over<L: Opening + Send + Sync, R: Threads + Wait + Sync>(
     rt: &R,
     alloc: Global,
     blank: Blank,
 ) -> Option<Outcome>
     requires name { blank.name ≡ L.name }
     requires parts { blank.parts ≡ L.parts }
+    requires unknown { (d : DurableState) → ¬ L.kept d }
     requires two { blank.parts ≡ 2 }
 {
     let (site, mut passes) = open_over::<L>(alloc, blank, 2, 16)?;
@@ -114,7 +116,7 @@ fn two_threads_over<L: Ledger + Send + Sync, R: Threads + Wait + Sync>(
 }
 
 // Site 0 over a new keeper in memory, with so many passes.
-fn open_over<L: Ledger>(
+fn open_over<L: Opening>(
     alloc: Global,
     blank: Blank,
     passes: u16,
@@ -122,6 +124,7 @@ fn open_over<L: Ledger>(
 ) -> Option<(Site<MemoryKeeper, L>, Vec<Pass<L>>)>
     requires name { blank.name ≡ L.name }
     requires parts { blank.parts ≡ L.parts }
+    requires unknown { (d : DurableState) → ¬ L.kept d }
     requires one_each { blank.parts ≡ passes }
     ensures { IfSome result (λ p. p.0.passes ≡ L.parts) }
 {
@@ -133,7 +136,7 @@ fn open_over<L: Ledger>(
 }
 
 // What closing without one pass meets, and the transcript that closing with all leaves.
-fn close_twice<L: Ledger, R: Wait>(
+fn close_twice<L: Opening, R: Wait>(
     rt: &R,
     site: Site<MemoryKeeper, L>,
     passes: Vec<Pass<L>>,
@@ -169,20 +172,21 @@ fn two_seats_admit_two_of_sixteen_readers(rt: HostRuntime) {
 }
 
 // Calls of one pass that each leave an entry: a holder that is not there leaves.
-fn leave_often<L: Ledger, R: Wait>(rt: &R, site: &Site<MemoryKeeper, L>, pass: &mut Pass<L>) {
+fn leave_often<L: Opening, R: Wait>(rt: &R, site: &Site<MemoryKeeper, L>, pass: &mut Pass<L>) {
     for h in 0..1024u64 {
         let _ = site.call(rt, pass, Call::Ask(Ask::Leave { r: 0, h }));
     }
 }
 
 // How many entries the longest log has, what comes then, and why a pass with a false mark is not borne out.
-fn longest_over<L: Ledger, R: Wait>(
+fn longest_over<L: Opening, R: Wait>(
     rt: &R,
     alloc: Global,
     blank: Blank,
 ) -> Option<(usize, (u8, u64, u64), CloseError)>
     requires name { blank.name ≡ L.name }
     requires parts { blank.parts ≡ L.parts }
+    requires unknown { (d : DurableState) → ¬ L.kept d }
     requires most { blank.parts ≡ 64 }
 {
     let (site, mut passes) = open_over::<L>(alloc, blank, 64, 65_536)?;
@@ -196,7 +200,7 @@ fn longest_over<L: Ledger, R: Wait>(
 }
 
 // What closing with a false mark meets, and how many entries closing without it leaves.
-fn close_marked<L: Ledger, R: Wait>(
+fn close_marked<L: Opening, R: Wait>(
     rt: &R,
     site: Site<MemoryKeeper, L>,
     passes: Vec<Pass<L>>,
@@ -213,7 +217,7 @@ fn close_marked<L: Ledger, R: Wait>(
 }
 
 // Sets the mark of the last pass, as if it had met a stopped site.
-fn mark<L: Ledger>(passes: &mut [Pass<L>], frozen: bool) {
+fn mark<L: Opening>(passes: &mut [Pass<L>], frozen: bool) {
     if let Some(pass) = passes.last_mut() {
         pass.frozen = frozen;
     }
@@ -233,9 +237,10 @@ fn the_longest_log_is_closed_by_all_passes(rt: HostRuntime) {
 }
 
 // Why a site is not opened with so many passes.
-fn refused_over<L: Ledger>(alloc: Global, blank: Blank, passes: u16) -> Option<OpenError>
+fn refused_over<L: Opening>(alloc: Global, blank: Blank, passes: u16) -> Option<OpenError>
     requires name { blank.name ≡ L.name }
     requires parts { blank.parts ≡ L.parts }
+    requires unknown { (d : DurableState) → ¬ L.kept d }
     requires one_each { blank.parts ≡ passes }
 {
     let layout = layout_of(alloc, 2, 2, 1)?;

@@ -1,0 +1,294 @@
+//! Sites that work at the same time, and sites that are opened again.
+ghost use Rattle.std.specs.Prelude.{◌≡◌, IfSome};
+ghost use Rattle.admission_core.specs.Kept.{DurableState};
+ghost use Rattle.site_store.specs.Memory.{layout_of, site_of};
+
+use super::fakes::{Failing, Given, Holding};
+use super::{layout_of, numbers, read};
+use crate::*;
+use admission_core::{Ask, Call, Durable, Reply};
+use merge_core::{Delta, Layout};
+use site_store::MemoryKeeper;
+use std::alloc::Global;
+use std::marker::Brand;
+use std::sync::atomic::{AtomicU64, Ordering};
+use std::sync::ledger::Blank;
+use std::sync::{Arc, Wait};
+use std::thread;
+use std::thread::Threads;
+
+// What site 0 tells after it has given one of its two seats to site 1.
+fn told_by_giver(alloc: Global) -> Option<Delta> {
+    let layout = layout_of(alloc, 2, 2, 1)?;
+    let Ok(keeper) = MemoryKeeper::new(alloc, &layout, 0) else {
+        return None;
+    };
+    let mut desk = Desk::open(alloc, keeper, layout, 0, 16).ok()?;
+    let _ = desk.serve(0, &give());
+    match desk.serve(0, &Call::Snapshot) {
+        Reply::Snapshot(delta) => Some(delta),
+        _ => None,
+    }
+}
+
+// One seat for site 1.
+fn give() -> Call {
+    Call::Ask(Ask::Give {
+        r: 0,
+        to: 1,
+        seats: 1,
+    })
+}
+
+// What one of two sites at work answered, and whether its keeper saw that the other one had answered.
+#[derive(Clone, Copy, Debug, PartialEq, Eq)]
+struct AtWork {
+    first: (u8, u64, u64),
+    second: (u8, u64, u64),
+    saw: bool,
+    entries: usize,
+}
+
+// A site with a seat that came or was given, and a reader. Site 1 tells when it has answered its reader.
+fn work_over<L: Opening, R: Wait>(
+    rt: &R,
+    alloc: Global,
+    blank: Blank,
+    site: u16,
+    answered: Arc<AtomicU64, Global>,
+) -> Option<AtWork>
+    requires name { blank.name ≡ L.name }
+    requires parts { blank.parts ≡ L.parts }
+    requires unknown { (d : DurableState) → ¬ L.kept d }
+    requires one { blank.parts ≡ 1 }
+{
+    let layout = layout_of(alloc, 2, 2, 1)?;
+    let Ok(kept) = MemoryKeeper::new(alloc, &layout, site) else {
+        return None;
+    };
+    let mark = Arc::try_clone(&answered).ok()?;
+    let keeper = Holding {
+        kept,
+        left: if site == 0 { 1 } else { u64::MAX },
+        answered: mark,
+        saw: false,
+    };
+    let (shared, mut passes) = Site::<Holding, L>::open(
+        alloc, blank, keeper, layout, site, 1, 16,
+    ).ok()?;
+    let before = if site == 0 {
+        give()
+    } else {
+        Call::Merge(told_by_giver(alloc)?)
+    };
+    let pass = passes.first_mut()?;
+    let first = numbers(&shared.call(rt, pass, before));
+    let second = numbers(&shared.call(rt, pass, read(7 + u64::from(site))));
+    if site == 1 {
+        answered.store(1, Ordering::SeqCst);
+    }
+    let (transcript, keeper) = shared.close(rt, passes).ok()?;
+    let run = transcript.runs.as_slice().first()?;
+    Some(AtWork {
+        first,
+        second,
+        saw: keeper.saw,
+        entries: run.entries.len(),
+    })
+}
+
+fn work<R: Wait>(
+    rt: &R,
+    alloc: Global,
+    site: u16,
+    answered: &Arc<AtomicU64, Global>,
+) -> Option<AtWork> {
+    let answered = Arc::try_clone(answered).ok()?;
+    work_over::<Brand, R>(rt, alloc, Blank::new(1), site, answered)
+}
+
+// Both sites, each in a thread of its own.
+fn work_at_once<R: Threads + Wait + Sync>(
+    rt: &R,
+    alloc: Global,
+) -> Option<(Option<AtWork>, Option<AtWork>)> {
+    let answered = Arc::new(alloc, AtomicU64::new(0)).ok()?;
+    let all = thread::map_indices(
+        rt,
+        alloc,
+        2,
+        &|i| { work(rt, alloc, if i == 0 { 0 } else { 1 }, &answered) },
+    )
+    .ok()?;
+    let first = *all.first()?;
+    let second = *all.last()?;
+    Some((first, second))
+}
+
+#[test]
+fn a_site_that_waits_for_its_store_holds_up_no_other(rt: HostRuntime) {
+    let waiting = AtWork {
+        first: (4, 0, 0),
+        second: (1, 0, 0),
+        saw: true,
+        entries: 2,
+    };
+    let other = AtWork {
+        first: (6, 1, 0),
+        second: (1, 0, 0),
+        saw: false,
+        entries: 2,
+    };
+    assert_eq!(&rt;
+        work_at_once(&rt, rt.alloc()),
+        Some((Some(waiting), Some(other)))
+    );
+}
+
+// What three readers are answered by an opening over a keeper that fails after so many changes; its transcript, and what
+// was kept.
+fn opened_over<L: Opening, R: Wait>(
+    rt: &R,
+    alloc: Global,
+    blank: Blank,
+    layout: &Layout,
+    kept: MemoryKeeper,
+    left: u64,
+    keeps: bool,
+) -> Option<([(u8, u64, u64); 3], Transcript, MemoryKeeper)>
+    requires name { blank.name ≡ L.name }
+    requires parts { blank.parts ≡ L.parts }
+    requires unknown { (d : DurableState) → ¬ L.kept d }
+    requires one { blank.parts ≡ 1 }
+    requires layout { layout_of kept ≡ layout.now }
+    requires site { site_of kept ≡ 0 }
+    ensures layout { IfSome result (λ p. layout_of p.2 ≡ layout.now) }
+    ensures site { IfSome result (λ p. site_of p.2 ≡ 0) }
+{
+    let keeper = Failing {
+        kept,
+        left,
+        keeps,
+        failed: false,
+    };
+    let copy = layout.try_copy(alloc).ok()?;
+    let (site, mut passes) = Site::<Failing, L>::open(alloc, blank, keeper, copy, 0, 1, 16).ok()?;
+    let told = read_three(rt, &site, passes.first_mut()?);
+    let (transcript, keeper) = site.close(rt, passes).ok()?;
+    Some((told, transcript, keeper.kept))
+}
+
+// Readers 7, 8 and 9.
+fn read_three<L: Opening, R: Wait>(
+    rt: &R,
+    site: &Site<Failing, L>,
+    pass: &mut Pass<L>,
+) -> [(u8, u64, u64); 3] {
+    let seven = numbers(&site.call(rt, pass, read(7)));
+    let eight = numbers(&site.call(rt, pass, read(8)));
+    let nine = numbers(&site.call(rt, pass, read(9)));
+    [seven, eight, nine]
+}
+
+// Two openings, of which the first one's store fails at reader 8; how many runs and entries they leave.
+fn opened_again<R: Wait>(
+    rt: &R,
+    alloc: Global,
+    keeps: bool,
+) -> Option<([(u8, u64, u64); 3], [(u8, u64, u64); 3], usize, usize)> {
+    let layout = layout_of(alloc, 2, 2, 1)?;
+    let Ok(new) = MemoryKeeper::new(alloc, &layout, 0) else {
+        return None;
+    };
+    let (first, mut all, left) = opened_over::<Brand, R>(
+        rt,
+        alloc,
+        Blank::new(1),
+        &layout,
+        new,
+        1,
+        keeps,
+    )?;
+    let (second, later, _kept) = opened_over::<Brand, R>(
+        rt,
+        alloc,
+        Blank::new(1),
+        &layout,
+        left,
+        9,
+        keeps,
+    )?;
+    all.append(later).ok()?;
+    let runs = all.runs.as_slice();
+    let entries = runs
+        .first()?
+        .entries
+        .len()
+        .saturating_add(runs.last()?.entries.len());
+    Some((first, second, runs.len(), entries))
+}
+
+const STOPPED: [(u8, u64, u64); 3] = [(1, 0, 0), (23, 0, 0), (21, 0, 0)];
+
+#[test]
+fn a_site_whose_store_failed_goes_on_with_what_was_kept(rt: HostRuntime) {
+    let alloc = rt.alloc();
+    let old = [(14, 0, 0), (1, 0, 0), (8, 0, 0)];
+    let new = [(14, 0, 0), (14, 0, 0), (8, 0, 0)];
+    assert_eq!(&rt; opened_again(&rt, alloc, false), Some((STOPPED, old, 2, 5)));
+    assert_eq!(&rt; opened_again(&rt, alloc, true), Some((STOPPED, new, 2, 5)));
+}
+
+// What a reader is answered by a site that knows so many sites, after this beginning; and the number in its run.
+fn known_over<L: Opening, R: Wait>(
+    rt: &R,
+    alloc: Global,
+    blank: Blank,
+    sites: u16,
+    first: Durable,
+) -> Option<((u8, u64, u64), u16)>
+    requires name { blank.name ≡ L.name }
+    requires parts { blank.parts ≡ L.parts }
+    requires unknown { (d : DurableState) → ¬ L.kept d }
+    requires one { blank.parts ≡ 1 }
+{
+    let layout = layout_of(alloc, sites, 2, 1)?;
+    let copy = layout.try_copy(alloc).ok()?;
+    let keeper = Given {
+        layout: copy,
+        site: 0,
+        first,
+    };
+    let (site, mut passes) = Site::<Given, L>::open(alloc, blank, keeper, layout, 0, 1, 16).ok()?;
+    let told = numbers(&site.call(rt, passes.first_mut()?, read(7)));
+    let (transcript, _keeper) = site.close(rt, passes).ok()?;
+    let run = transcript.runs.as_slice().first()?;
+    Some((told, run.sites))
+}
+
+// What a site of two has kept after it admitted reader 7.
+fn kept_of_two(alloc: Global) -> Option<Durable> {
+    let layout = layout_of(alloc, 2, 2, 1)?;
+    let Ok(keeper) = MemoryKeeper::new(alloc, &layout, 0) else {
+        return None;
+    };
+    let mut desk = Desk::open(alloc, keeper, layout, 0, 16).ok()?;
+    let _ = desk.serve(0, &read(7));
+    desk.core().durable().ok()
+}
+
+fn known<R: Wait>(rt: &R, alloc: Global, sites: u16) -> Option<((u8, u64, u64), u16)> {
+    known_over::<Brand, R>(rt, alloc, Blank::new(1), sites, kept_of_two(alloc)?)
+}
+
+#[test]
+fn a_run_tells_how_many_sites_its_opening_knew(rt: HostRuntime) {
+    let alloc = rt.alloc();
+    assert_eq!(&rt; known(&rt, alloc, 2), Some(((14, 0, 0), 2)));
+    assert_eq!(&rt; known(&rt, alloc, 3), Some(((14, 0, 0), 3)));
+}
+
+#[test]
+fn a_story_of_a_site_is_logged(rt: HostRuntime) {
+    assert_eq!(&rt; super::growths::story(&rt, rt.alloc()), Some(true));
+}
