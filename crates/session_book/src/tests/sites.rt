@@ -2,13 +2,14 @@
 ghost use Rattle.std.specs.Prelude.{◌≡◌, IfSome};
 ghost use Rattle.admission_core.specs.Kept.{DurableState};
 ghost use Rattle.site_store.specs.Memory.{layout_of, site_of};
+ghost use Rattle.desk_log.specs.Desk.{IsMadeFor};
 
 use super::fakes::{Failing, Given, Holding};
 use super::{layout_of, numbers, read};
 use crate::*;
 use admission_core::{Ask, Call, Durable, Reply};
 use merge_core::{Delta, Layout};
-use site_store::MemoryKeeper;
+use site_store::{Keeper, MemoryKeeper};
 use std::alloc::Global;
 use std::marker::Brand;
 use std::sync::atomic::{AtomicU64, Ordering};
@@ -49,13 +50,73 @@ struct AtWork {
     entries: usize,
 }
 
-// A site with a seat that came or was given, and a reader. Site 1 tells when it has answered its reader.
+// A site over this keeper, with one pass.
+fn open_with<K: Keeper + Drop, L: Opening>(
+    alloc: Global,
+    blank: Blank,
+    keeper: K,
+    layout: Layout,
+    site: u16,
+) -> Option<(Site<K, L>, Vec<Pass<L>>)>
+    requires name { blank.name ≡ L.name }
+    requires parts { blank.parts ≡ L.parts }
+    requires unknown { (d : DurableState) → ¬ L.kept d }
+    requires one { blank.parts ≡ 1 }
+    requires made_for { IsMadeFor K.Keeper keeper layout site }
+    ensures all { IfSome result (λ p. p.0.passes ≡ L.parts) }
+    ensures layout { IfSome result (λ p. p.0.layout ≡ layout) }
+    ensures site { IfSome result (λ p. p.0.site ≡ site) }
+{
+    Site::<K, L>::open(alloc, blank, keeper, layout, site, 1, 16).ok()
+}
+
+// A keeper that holds its second commit at site 0.
+fn holding(
+    alloc: Global,
+    layout: &Layout,
+    site: u16,
+    answered: &Arc<AtomicU64, Global>,
+) -> Option<Holding>
+    ensures layout { IfSome result (λ k. layout_of k.kept ≡ layout.now) }
+    ensures site { IfSome result (λ k. site_of k.kept ≡ site) }
+{
+    let kept = MemoryKeeper::new(alloc, layout, site).ok()?;
+    let answered = Arc::try_clone(answered).ok()?;
+    let left = if site == 0 { 1 } else { u64::MAX };
+    Some(Holding {
+        kept,
+        left,
+        answered,
+        saw: false,
+    })
+}
+
+// Site 0 gives a seat, site 1 hears of it; then each admits a reader. Site 1 tells when it has answered its reader.
+fn answers<L: Opening, R: Wait>(
+    rt: &R,
+    alloc: Global,
+    site: &Site<Holding, L>,
+    pass: &mut Pass<L>,
+    answered: &AtomicU64,
+) -> Option<((u8, u64, u64), (u8, u64, u64))> {
+    if site.site() == 0 {
+        let first = numbers(&site.call(rt, pass, give()));
+        return Some((first, numbers(&site.call(rt, pass, read(7)))));
+    }
+    let told = told_by_giver(alloc)?;
+    let first = numbers(&site.call(rt, pass, Call::Merge(told)));
+    let second = numbers(&site.call(rt, pass, read(8)));
+    answered.store(1, Ordering::SeqCst);
+    Some((first, second))
+}
+
+// A site at work, closed.
 fn work_over<L: Opening, R: Wait>(
     rt: &R,
     alloc: Global,
     blank: Blank,
     site: u16,
-    answered: Arc<AtomicU64, Global>,
+    answered: &Arc<AtomicU64, Global>,
 ) -> Option<AtWork>
     requires name { blank.name ≡ L.name }
     requires parts { blank.parts ≡ L.parts }
@@ -63,30 +124,9 @@ fn work_over<L: Opening, R: Wait>(
     requires one { blank.parts ≡ 1 }
 {
     let layout = layout_of(alloc, 2, 2, 1)?;
-    let Ok(kept) = MemoryKeeper::new(alloc, &layout, site) else {
-        return None;
-    };
-    let mark = Arc::try_clone(&answered).ok()?;
-    let keeper = Holding {
-        kept,
-        left: if site == 0 { 1 } else { u64::MAX },
-        answered: mark,
-        saw: false,
-    };
-    let (shared, mut passes) = Site::<Holding, L>::open(
-        alloc, blank, keeper, layout, site, 1, 16,
-    ).ok()?;
-    let before = if site == 0 {
-        give()
-    } else {
-        Call::Merge(told_by_giver(alloc)?)
-    };
-    let pass = passes.first_mut()?;
-    let first = numbers(&shared.call(rt, pass, before));
-    let second = numbers(&shared.call(rt, pass, read(7 + u64::from(site))));
-    if site == 1 {
-        answered.store(1, Ordering::SeqCst);
-    }
+    let keeper = holding(alloc, &layout, site, answered)?;
+    let (shared, mut passes) = open_with::<Holding, L>(alloc, blank, keeper, layout, site)?;
+    let (first, second) = answers(rt, alloc, &shared, passes.first_mut()?, answered)?;
     let (transcript, keeper) = shared.close(rt, passes).ok()?;
     let run = transcript.runs.as_slice().first()?;
     Some(AtWork {
@@ -103,7 +143,6 @@ fn work<R: Wait>(
     site: u16,
     answered: &Arc<AtomicU64, Global>,
 ) -> Option<AtWork> {
-    let answered = Arc::try_clone(answered).ok()?;
     work_over::<Brand, R>(rt, alloc, Blank::new(1), site, answered)
 }
 
@@ -171,11 +210,32 @@ fn opened_over<L: Opening, R: Wait>(
         keeps,
         failed: false,
     };
-    let copy = layout.try_copy(alloc).ok()?;
-    let (site, mut passes) = Site::<Failing, L>::open(alloc, blank, keeper, copy, 0, 1, 16).ok()?;
+    let copy = copied(alloc, layout)?;
+    let (site, mut passes) = open_with::<Failing, L>(alloc, blank, keeper, copy, 0)?;
     let told = read_three(rt, &site, passes.first_mut()?);
+    let (transcript, kept) = closed(rt, site, passes)?;
+    Some((told, transcript, kept))
+}
+
+// An equal layout.
+fn copied(alloc: Global, layout: &Layout) -> Option<Layout>
+    ensures { IfSome result (λ copy. copy ≡ layout.now) }
+{
+    layout.try_copy(alloc).ok()
+}
+
+// The transcript, and what was kept.
+fn closed<L: Opening, R: Wait>(
+    rt: &R,
+    site: Site<Failing, L>,
+    passes: Vec<Pass<L>>,
+) -> Option<(Transcript, MemoryKeeper)>
+    requires { site.passes ≡ L.parts }
+    ensures layout { IfSome result (λ p. layout_of p.1 ≡ site.layout) }
+    ensures site { IfSome result (λ p. site_of p.1 ≡ site.site) }
+{
     let (transcript, keeper) = site.close(rt, passes).ok()?;
-    Some((told, transcript, keeper.kept))
+    Some((transcript, keeper.kept))
 }
 
 // Readers 7, 8 and 9.
@@ -259,7 +319,7 @@ fn known_over<L: Opening, R: Wait>(
         site: 0,
         first,
     };
-    let (site, mut passes) = Site::<Given, L>::open(alloc, blank, keeper, layout, 0, 1, 16).ok()?;
+    let (site, mut passes) = open_with::<Given, L>(alloc, blank, keeper, layout, 0)?;
     let told = numbers(&site.call(rt, passes.first_mut()?, read(7)));
     let (transcript, _keeper) = site.close(rt, passes).ok()?;
     let run = transcript.runs.as_slice().first()?;
