@@ -1,5 +1,5 @@
 //! Sites that work at the same time, and sites that are opened again.
-ghost use Rattle.std.specs.Prelude.{◌≡◌, IfSome};
+ghost use Rattle.std.specs.Prelude.{◌≡◌, IfSome, length};
 ghost use Rattle.admission_core.specs.Kept.{DurableState};
 ghost use Rattle.site_store.specs.Memory.{layout_of, site_of};
 ghost use Rattle.desk_log.specs.Desk.{IsMadeFor};
@@ -346,6 +346,48 @@ fn a_run_tells_how_many_sites_its_opening_knew(rt: HostRuntime) {
     let alloc = rt.alloc();
     assert_eq!(&rt; known(&rt, alloc, 2), Some(((14, 0, 0), 2)));
     assert_eq!(&rt; known(&rt, alloc, 3), Some(((14, 0, 0), 3)));
+}
+
+// Changes the reply in the second receipt.
+fn change(receipts: &mut Vec<Receipt>)
+    ensures { length receipts.new.items ≡ length receipts.old.items }
+{
+    if let Some(receipt) = receipts.get_mut(1) {
+        receipt.reply = Reply::Given;
+    }
+}
+
+// Why a site of three readers is not closed by a pass whose second receipt was changed.
+fn changed_over<L: Opening, R: Wait>(rt: &R, alloc: Global, blank: Blank) -> Option<CloseError>
+    requires name { blank.name ≡ L.name }
+    requires parts { blank.parts ≡ L.parts }
+    requires unknown { (d : DurableState) → ¬ L.kept d }
+    requires one { blank.parts ≡ 1 }
+{
+    let layout = layout_of(alloc, 2, 2, 1)?;
+    let kept = MemoryKeeper::new(alloc, &layout, 0).ok()?;
+    let keeper = Failing {
+        kept,
+        left: 9,
+        keeps: true,
+        failed: false,
+    };
+    let (site, mut passes) = open_with::<Failing, L>(alloc, blank, keeper, layout, 0)?;
+    let pass = passes.first_mut()?;
+    let _told = read_three(rt, &site, pass);
+    change(&mut pass.receipts);
+    let refused = site.close(rt, passes).err();
+    refused.map(|(error, _site, _passes)| error)
+}
+
+fn changed<R: Wait>(rt: &R, alloc: Global) -> Option<CloseError> {
+    changed_over::<Brand, R>(rt, alloc, Blank::new(1))
+}
+
+#[test]
+fn a_receipt_that_is_not_the_logs_is_told_by_its_number(rt: HostRuntime) {
+    let mismatch = CloseError::Mismatch { pass: 0, at: 1 };
+    assert_eq!(&rt; changed(&rt, rt.alloc()), Some(mismatch));
 }
 
 #[test]
