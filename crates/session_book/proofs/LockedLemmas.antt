@@ -8,7 +8,7 @@ use Rattle.admission_model.specs.declared.reply.Reply.{Reply}
 use Rattle.admission_core.specs.Kept.{DurableState}
 use Rattle.site_store.specs.declared.keeper.Keeper.{Ghosts}
 use Rattle.desk_log.specs.declared.entry.Entry.{Entry}
-use Rattle.desk_log.specs.Log.{LogState, is_logged, log_with}
+use Rattle.desk_log.specs.Log.{LogState, is_logged}
 use Rattle.desk_log.specs.Desk.{DeskState, IsFresh, IsServing, Leaves, receipt_of, account_of, account_if_kept, is_frozen}
 use Rattle.session_book.specs.Sites.{IsLocked, KeepsOf}
 

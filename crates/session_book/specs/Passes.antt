@@ -1,5 +1,5 @@
 -- What a caller of a site holds: its receipts, and whether it was told that the site has stopped or that its log is full.
-use Rattle.std.specs.Prelude.{◌≡◌, ℕ, ◌+◌, ◌==◌, ◌||◌, Bool, true, false, List, [], ◌∷◌, ◌++◌, length, if◌then◌else◌}
+use Rattle.std.specs.Prelude.{ℕ, ◌+◌, ◌==◌, ◌||◌, Bool, true, false, List, [], ◌∷◌, ◌++◌, length, if◌then◌else◌}
 use Rattle.admission_model.specs.declared.ask.Call.{Call}
 use Rattle.admission_model.specs.declared.reply.Refusal.TheVariants.{Frozen, LogFull}
 use Rattle.admission_model.specs.declared.reply.Reply.{Reply}

@@ -1,5 +1,5 @@
 use Rattle.std.proofs.Common.{◌≡◌, ◌++◌, ◌∷◌, [], length, ap, ◌∙◌, arith, length-append}
-use Rattle.session_book.specs.Passes.{PassState, receipts_in}
+use Rattle.session_book.specs.Passes.{receipts_in}
 use Rattle.session_book.proofs.PassLemmas.{receipts_in-push}
 use Rattle.session_book.proofs.closing.gathered.Goals as goal
 

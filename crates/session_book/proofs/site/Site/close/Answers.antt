@@ -1,4 +1,4 @@
-use Rattle.std.proofs.Common.{◌≡◌, List, [], ◌∷◌, refl, sym, ap, subst, ◌∙◌}
+use Rattle.std.proofs.Common.{List, [], ◌∷◌, refl, sym, ap, subst}
 use Rattle.std.specs.Prelude.{All}
 use Rattle.desk_log.specs.Desk.{DeskState}
 use Rattle.desk_log.specs.declared.transcript.Transcript.{Transcript}
