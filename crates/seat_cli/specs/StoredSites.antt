@@ -43,7 +43,8 @@ module _ {S : Type 0} (g : Device S) where
     pub blank : KeepsNothing g c → OpensBlank {g = g} layout i opened
 
   -- the store was opened, the engine ended over it, and the database below is handed back
-  pub record RunsOver (k : Ghosts (SqlKeeper S g)) (layout : LayoutState) (i : ℕ) (c after : Held S) (source source_after : SourceState) (sink sink_after : SinkState) (ended : Status) : Type 0 where
+  pub record RunsOver (k : Ghosts (SqlKeeper S g)) (layout : LayoutState) (i : ℕ) (c after : Held S)
+      (source source_after : SourceState) (sink sink_after : SinkState) (ended : Status) : Type 0 where
     pub keeper : SqlKeeper S g
     pub keeper_after : SqlKeeper S g
     pub opened : OpensStore layout i c (Ok keeper)
