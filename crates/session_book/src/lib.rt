@@ -1,5 +1,5 @@
-//! A site behind its lock: callers on any number of threads hold passes, and what they were answered is compared with the
-//! log when the site is closed.
+//! A site behind its lock: callers on any number of threads hold passes, and what they were answered is compared with
+//! the log when the site is closed.
 #![tactic(auto)]
 
 pub use desk_log::{AppendError, Desk, Entries, Entry, OpenError, Run, Runs, Transcript, same};

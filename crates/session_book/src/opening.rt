@@ -1,8 +1,8 @@
 use std::marker::Brand;
 use std::sync::ledger::Ledger;
 
-/// Names one opening of a site: the ledger of its passes, and what its keeper kept then. Whoever opens a site is generic
-/// in it and called at [`Brand`], where the proof of the call picks both.
+/// Names one opening of a site: the ledger of its passes, and what its keeper kept then. Whoever opens a site is
+/// generic in it and called at [`Brand`], where the proof of the call picks both.
 pub trait Opening: Ledger {
     ghost use Rattle.admission_core.specs.Kept.{DurableState};
 

@@ -15,8 +15,8 @@ use std::sync::{Mutex, Wait};
 /// The most passes that a site may give out.
 pub const MOST_PASSES: u16 = 64;
 
-/// One site that callers on any number of threads share, where its keeper may go to another thread. `L` names this opening
-/// of it.
+/// One site that callers on any number of threads share, where its keeper may go to another thread. `L` names this
+/// opening of it.
 pub struct Site<K: Keeper, L: Opening> {
     alloc: Global,
     layout: Layout,
@@ -57,12 +57,12 @@ impl<K: Keeper, L: Opening> Site<K, L> {
     ghost use Rattle.session_book.specs.Passes.{pass_after};
     ghost use Rattle.session_book.specs.Sites.{IsSiteOpened, IsClosing};
 
-    /// Opens a site of a layout with 1 to 64 passes and a log of 16 to 65,536 entries, from what the keeper gives back. The
-    /// passes are numbered from 0 in the list's order. The caller shows that the blank is that of `L`, with a part for each
-    /// pass, that the keeper keeps what `L` says, and where there is such a site, that it was made for it with an equal
-    /// layout. Refused, in this order:
-    /// `BadSite`; `BadPasses`; `BadLimit`; `StoreFault`; `WrongCounters`; `WrongSessions`; `Memory`. With each refusal the
-    /// keeper is handed back. Linear in the layout's slots and in what was kept.
+    /// Opens a site of a layout with 1 to 64 passes and a log of 16 to 65,536 entries, from what the keeper gives back.
+    /// The passes are numbered from 0 in the list's order. The caller shows that the blank is that of `L`, with a part
+    /// for each pass, that the keeper keeps what `L` says, and where there is such a site, that it was made for it with
+    /// an equal layout. Refused, in this order: `BadSite`; `BadPasses`; `BadLimit`; `StoreFault`; `WrongCounters`;
+    /// `WrongSessions`; `Memory`. With each refusal the keeper is handed back. Linear in the layout's slots and in what
+    /// was kept.
     pub fn open(
         alloc: Global,
         blank: Blank,
@@ -127,9 +127,9 @@ impl<K: Keeper, L: Opening> Site<K, L> {
         &self.layout
     }
 
-    /// Serves a call of a pass: makes room for its receipt, takes the lock, and answers as [`Desk::serve`] does. `Memory`
-    /// may come first, for that room. A reply that is logged leaves a receipt in the pass, `Frozen` and `LogFull` a mark.
-    /// May wait for the lock.
+    /// Serves a call of a pass: makes room for its receipt, takes the lock, and answers as [`Desk::serve`] does.
+    /// `Memory` may come first, for that room. A reply that is logged leaves a receipt in the pass, `Frozen` and
+    /// `LogFull` a mark. May wait for the lock.
     pub fn call<R: Wait>(&self, rt: &R, pass: &mut Pass<L>, call: Call) -> Reply
         ensures { pass.new ≡ pass_after pass.old call result }
     {
@@ -152,10 +152,10 @@ impl<K: Keeper, L: Opening> Site<K, L> {
         reply
     }
 
-    /// Ends the opening: the transcript of its one run, and the keeper as it is. All passes that `open` gave out are handed
-    /// in, in any order. Refused, in this order: `PassMissing`, where a number is missing or stands twice; `Mismatch`, where
-    /// the log does not have a pass's receipts in their order, or does not bear out a mark; `Memory`. With each refusal the
-    /// site and the passes are handed back. Linear in the log for each pass.
+    /// Ends the opening: the transcript of its one run, and the keeper as it is. All passes that `open` gave out are
+    /// handed in, in any order. Refused, in this order: `PassMissing`, where a number is missing or stands twice;
+    /// `Mismatch`, where the log does not have a pass's receipts in their order, or does not bear out a mark; `Memory`.
+    /// With each refusal the site and the passes are handed back. Linear in the log for each pass.
     pub fn close<R: Wait>(
         self,
         _rt: &R,

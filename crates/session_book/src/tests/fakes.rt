@@ -10,7 +10,8 @@ use std::sync::Arc;
 use std::sync::atomic::{AtomicU64, Ordering};
 use std::thread;
 
-/// It keeps in memory, until so many changes are kept. The next one fails, and is kept all the same where `keeps` says so.
+/// It keeps in memory, until so many changes are kept. The next one fails, and is kept all the same where `keeps` says
+/// so.
 #[derive(Drop)]
 pub struct Failing {
     pub kept: MemoryKeeper,

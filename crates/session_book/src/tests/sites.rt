@@ -184,8 +184,8 @@ fn a_site_that_waits_for_its_store_holds_up_no_other(rt: HostRuntime) {
     );
 }
 
-// What three readers are answered by an opening over a keeper that fails after so many changes; its transcript, and what
-// was kept.
+// What three readers are answered by an opening over a keeper that fails after so many changes; its transcript, and
+// what was kept.
 fn opened_over<L: Opening, R: Wait>(
     rt: &R,
     alloc: Global,
