@@ -14,12 +14,11 @@ pub struct Failing {
 
 impl Failing {
     ghost use Rattle.std.specs.Prelude.{◌≡◌, IfOk};
-    ghost use Rattle.site_store.specs.Memory.{layout_of, site_of};
 
     /// So many changes are kept before the one that is refused.
     pub fn new(alloc: Global, layout: &Layout, site: u16, left: u64) -> Result<Failing, AllocError>
-        ensures layout { IfOk result (λ k. layout_of k.keeper ≡ layout.now) }
-        ensures site { IfOk result (λ k. site_of k.keeper ≡ site) }
+        ensures layout { IfOk result (λ k. k.keeper.layout ≡ layout.now) }
+        ensures site { IfOk result (λ k. k.keeper.site ≡ site) }
     {
         let keeper = MemoryKeeper::new(alloc, layout, site)?;
         Ok(Failing {
@@ -32,11 +31,10 @@ impl Failing {
 
 impl Keeper for Failing {
     ghost use Rattle.std.specs.Prelude.{if◌then◌else◌};
-    ghost use Rattle.site_store.specs.Memory.{layout_of, site_of};
 
-    ghost layout = { λ k. layout_of k.keeper };
+    ghost layout = { λ k. k.keeper.layout };
 
-    ghost site = { λ k. site_of k.keeper };
+    ghost site = { λ k. k.keeper.site };
 
     // It promises to keep nothing.
     ghost keeps = { λ k d. ⊥ };

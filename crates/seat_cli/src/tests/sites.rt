@@ -1,6 +1,5 @@
 //! The engine of `site` over keepers in memory: scripts of one site, openings one after another, and faults.
 ghost use Rattle.std.specs.Prelude.{◌≡◌, IfSome};
-ghost use Rattle.site_store.specs.Memory.{layout_of, site_of};
 
 use super::fakes::{Giving, Keeping, NEVER};
 use super::keepers::Failing;
@@ -29,10 +28,10 @@ fn opening(
     keeper: MemoryKeeper,
     run: Run,
 ) -> Option<MemoryKeeper>
-    requires layout { layout_of keeper ≡ layout.now }
-    requires site { site_of keeper ≡ site }
-    ensures layout { IfSome result (λ k. layout_of k ≡ layout.now) }
-    ensures site { IfSome result (λ k. site_of k ≡ site) }
+    requires layout { keeper.layout ≡ layout.now }
+    requires site { keeper.site ≡ site }
+    ensures layout { IfSome result (λ k. k.layout ≡ layout.now) }
+    ensures site { IfSome result (λ k. k.site ≡ site) }
 {
     let (script, status, output) = run;
     let copy = layout.try_copy(alloc).ok()?;

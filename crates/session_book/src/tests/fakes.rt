@@ -1,6 +1,5 @@
 //! Keepers of which one fails, one waits, and one keeps nothing.
 ghost use Rattle.std.specs.Prelude.{◌≡◌, ◌⊎◌, if◌then◌else◌};
-ghost use Rattle.site_store.specs.Memory.{kept_by, layout_of, site_of};
 
 use admission_core::{Change, Durable};
 use merge_core::Layout;
@@ -21,13 +20,13 @@ pub struct Failing {
 }
 
 impl Keeper for Failing {
-    ghost layout = { λ k. layout_of k.kept };
+    ghost layout = { λ k. k.kept.layout };
 
-    ghost site = { λ k. site_of k.kept };
+    ghost site = { λ k. k.kept.site };
 
-    ghost keeps = { λ k d. d ≡ kept_by k.kept };
+    ghost keeps = { λ k d. d ≡ k.kept.part };
 
-    ghost keeps_either = { λ k d e. (d ≡ kept_by k.kept) ⊎ (e ≡ kept_by k.kept) };
+    ghost keeps_either = { λ k d e. (d ≡ k.kept.part) ⊎ (e ≡ k.kept.part) };
 
     ghost is_honest = { λ _. Unit {0} };
 
@@ -84,13 +83,13 @@ fn is_set_soon(mark: &AtomicU64) -> bool {
 }
 
 impl Keeper for Holding {
-    ghost layout = { λ k. layout_of k.kept };
+    ghost layout = { λ k. k.kept.layout };
 
-    ghost site = { λ k. site_of k.kept };
+    ghost site = { λ k. k.kept.site };
 
-    ghost keeps = { λ k d. d ≡ kept_by k.kept };
+    ghost keeps = { λ k d. d ≡ k.kept.part };
 
-    ghost keeps_either = { λ k d e. (d ≡ kept_by k.kept) ⊎ (e ≡ kept_by k.kept) };
+    ghost keeps_either = { λ k d e. (d ≡ k.kept.part) ⊎ (e ≡ k.kept.part) };
 
     ghost is_honest = { λ _. Unit {0} };
 

@@ -1,7 +1,6 @@
 //! Sites that work at the same time, and sites that are opened again.
 ghost use Rattle.std.specs.Prelude.{◌≡◌, IfSome, length};
 ghost use Rattle.admission_core.specs.Kept.{DurableState};
-ghost use Rattle.site_store.specs.Memory.{layout_of, site_of};
 ghost use Rattle.desk_log.specs.Desk.{IsMadeFor};
 
 use super::fakes::{Failing, Given, Holding};
@@ -77,8 +76,8 @@ fn holding(
     site: u16,
     answered: &Arc<AtomicU64, Global>,
 ) -> Option<Holding>
-    ensures layout { IfSome result (λ k. layout_of k.kept ≡ layout.now) }
-    ensures site { IfSome result (λ k. site_of k.kept ≡ site) }
+    ensures layout { IfSome result (λ k. k.kept.layout ≡ layout.now) }
+    ensures site { IfSome result (λ k. k.kept.site ≡ site) }
 {
     let kept = MemoryKeeper::new(alloc, layout, site).ok()?;
     let answered = Arc::try_clone(answered).ok()?;
@@ -199,10 +198,10 @@ fn opened_over<L: Opening, R: Wait>(
     requires parts { blank.parts ≡ L.parts }
     requires unknown { (d : DurableState) → ¬ L.kept d }
     requires one { blank.parts ≡ 1 }
-    requires layout { layout_of kept ≡ layout.now }
-    requires site { site_of kept ≡ 0 }
-    ensures layout { IfSome result (λ p. layout_of p.2 ≡ layout.now) }
-    ensures site { IfSome result (λ p. site_of p.2 ≡ 0) }
+    requires layout { kept.layout ≡ layout.now }
+    requires site { kept.site ≡ 0 }
+    ensures layout { IfSome result (λ p. p.2.layout ≡ layout.now) }
+    ensures site { IfSome result (λ p. p.2.site ≡ 0) }
 {
     let keeper = Failing {
         kept,
@@ -231,8 +230,8 @@ fn closed<L: Opening, R: Wait>(
     passes: Vec<Pass<L>>,
 ) -> Option<(Transcript, MemoryKeeper)>
     requires { site.passes ≡ L.parts }
-    ensures layout { IfSome result (λ p. layout_of p.1 ≡ site.layout) }
-    ensures site { IfSome result (λ p. site_of p.1 ≡ site.site) }
+    ensures layout { IfSome result (λ p. p.1.layout ≡ site.layout) }
+    ensures site { IfSome result (λ p. p.1.site ≡ site.site) }
 {
     let (transcript, keeper) = site.close(rt, passes).ok()?;
     Some((transcript, keeper.kept))
