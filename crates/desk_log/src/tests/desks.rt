@@ -77,11 +77,22 @@ pub fn leave(h: u64) -> Call {
     Call::Ask(Ask::Leave { r: 0, h })
 }
 
+/// The call with which a site gives a seat of record `a` to site 1.
+pub fn give() -> Call {
+    Call::Ask(Ask::Give {
+        r: 0,
+        to: 1,
+        seats: 1,
+    })
+}
+
 /// A reply, as far as these stories tell them apart.
 #[derive(Clone, Copy, Debug, PartialEq, Eq)]
 pub enum Told {
     Admitted,
     Left,
+    Given,
+    NoSite,
     NoSeat,
     AlreadyHere,
     Memory,
@@ -96,6 +107,8 @@ pub fn told_by(reply: &Reply) -> Told {
     match reply {
         Reply::Admitted => Told::Admitted,
         Reply::Left(_) => Told::Left,
+        Reply::Given => Told::Given,
+        Reply::Refused(Refusal::NoSite) => Told::NoSite,
         Reply::Refused(Refusal::NoSeat { rights: 0 }) => Told::NoSeat,
         Reply::Refused(Refusal::AlreadyHere) => Told::AlreadyHere,
         Reply::Refused(Refusal::Memory) => Told::Memory,

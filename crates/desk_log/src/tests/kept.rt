@@ -1,8 +1,8 @@
 //! What desks leave in their keepers, and what a store without a place for one more session does.
-use crate::Desk;
 use crate::tests::desks::{
-    Told, ask, cell, database, in_memory, is_part, layout, leave, over, read, reader,
+    Told, ask, cell, database, give, in_memory, is_part, layout, leave, over, read, reader,
 };
+use crate::{Desk, Run, Runs, Transcript};
 use site_store::{Keeper, OpenError, SqlKeeper};
 use sqlite::{Connection, MemStore};
 use std::alloc::Global;
@@ -115,5 +115,58 @@ fn a_session_without_a_place_stops_the_desk(rt: HostRuntime) {
     assert_eq!(rt;
         at_place(alloc, "UPDATE sessions SET place = 4611686018427387904"),
         Some((Told::StoreFault, Told::Frozen, 7))
+    );
+}
+
+/// What a desk leaves of its opening, and its connection.
+fn closed(
+    alloc: Global,
+    desk: Desk<SqlKeeper<MemStore>>,
+) -> Option<(Transcript, Connection<MemStore>)> {
+    let sites = desk.core().layout().sites();
+    let (first, entries, keeper) = desk.into_parts();
+    let mut runs = Vec::new(alloc);
+    let run = Run {
+        sites,
+        first,
+        entries,
+    };
+    runs.push(run).ok()?;
+    let runs = Runs::from_vec(runs);
+    Some((Transcript { site: 0, runs }, keeper.into_connection()))
+}
+
+/// The numbers of sites and of entries of a transcript's runs.
+fn sizes(transcript: &Transcript) -> (u16, usize, u16, usize) {
+    match transcript.runs.as_slice() {
+        [first, second] => (
+            first.sites,
+            first.entries.len(),
+            second.sites,
+            second.entries.len(),
+        ),
+        _ => (0, 0, 0, 0),
+    }
+}
+
+/// What a site that is alone answers to a reader and to a gift, what it answers to the gift once it has a second site
+/// beside it, and the numbers of both openings.
+fn grown(alloc: Global) -> Option<([Told; 3], (u16, usize, u16, usize))> {
+    let mut alone = over(alloc, database(alloc)?, 1)?;
+    let first = ask(&mut alone, read(7));
+    let second = ask(&mut alone, give());
+    let (mut all, connection) = closed(alloc, alone)?;
+    let mut desk = over(alloc, connection, 2)?;
+    let third = ask(&mut desk, give());
+    let (later, _) = closed(alloc, desk)?;
+    all.append(later).ok()?;
+    Some(([first, second, third], sizes(&all)))
+}
+
+#[test]
+fn a_site_goes_on_under_a_layout_that_has_grown(rt: HostRuntime) {
+    assert_eq!(rt;
+        grown(rt.alloc()),
+        Some(([Told::Admitted, Told::NoSite, Told::Given], (1, 2, 2, 1)))
     );
 }
