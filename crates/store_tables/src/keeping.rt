@@ -68,6 +68,7 @@ pub(crate) fn write_kept<S: Alter>(
     ensures undone { (it : _) → Keeps S.Store conn.old it → HasCleanDisk (state S.Store conn.new)
         → OnErr result (IsTrue (state S.Store conn.new).is_open → ∥ Holds it (state S.Store conn.new).committed.trees ∥₁) }
 {
+    // what these two ensure of a connection, the transaction is proved with
     let _is_idle = conn.is_autocommit();
     let _schema = conn.schema();
     write(conn, cells, notices, edit)
@@ -87,6 +88,7 @@ pub(crate) fn make_kept<S: Alter>(
     ensures undone { KeepsNothing S.Store conn.old → HasCleanDisk (state S.Store conn.new)
         → OnErr result (IsTrue (state S.Store conn.new).is_open → ∥ HoldsNothing (state S.Store conn.new).committed.trees ∥₁) }
 {
+    // what these two ensure of a connection, the transaction is proved with
     let _is_idle = conn.is_autocommit();
     let _schema = conn.schema();
     make(conn, site, layout)
@@ -106,6 +108,7 @@ pub(crate) fn renew_kept<S: Alter>(
     ensures undone { (it : _) → Keeps S.Store conn.old it → HasCleanDisk (state S.Store conn.new)
         → OnErr result (IsTrue (state S.Store conn.new).is_open → ∥ Holds it (state S.Store conn.new).committed.trees ∥₁) }
 {
+    // what these two ensure of a connection, the transaction is proved with
     let _is_idle = conn.is_autocommit();
     let _schema = conn.schema();
     renew(conn, version, layout)
