@@ -40,7 +40,11 @@ row_1 = row_by 1 0 3 1 refl (omega arith) (omega arith) (omega arith) (omega ari
 row_2 : seat_row writer_there 0 2 ≡ line_by (50 ∷ []) (48 ∷ []) (48 ∷ []) (48 ∷ [])
 row_2 = row_by 2 0 0 0 refl (omega arith) (omega arith) (omega arith) (omega arith)
 
-pub seats_shown : seat_table writer_there ≡ codes "record           site  rights  inside  unfinished\na                   0       0       0           0\na                   1       0       3           1\na                   2       0       0           0\n"
+pub seats_shown : seat_table writer_there
+    ≡ codes "record           site  rights  inside  unfinished\n"
+    ++ (codes "a                   0       0       0           0\n"
+    ++ (codes "a                   1       0       3           1\n"
+    ++ codes "a                   2       0       0           0\n"))
 seats_shown =
     ap (λ (a : List ℕ). seats_by a (seat_row writer_there 0 1) (seat_row writer_there 0 2)) row_0
     ∙ (ap (λ (b : List ℕ). seats_by (line_by (48 ∷ []) (48 ∷ []) (48 ∷ []) (48 ∷ [])) b (seat_row writer_there 0 2)) row_1

@@ -5,6 +5,10 @@ ghost use Rattle.audit_report.specs.Tables.{seat_table, session_table};
 
 /// Both tables by computation, after a writer at site 1 was helped to all seats of the one record.
 pub fn examples()
-    ensures seats { seat_table writer_there ≡ codes "record           site  rights  inside  unfinished\na                   0       0       0           0\na                   1       0       3           1\na                   2       0       0           0\n" }
+    ensures seats { seat_table writer_there
+        ≡ codes "record           site  rights  inside  unfinished\n"
+        ++ (codes "a                   0       0       0           0\n"
+        ++ (codes "a                   1       0       3           1\n"
+        ++ codes "a                   2       0       0           0\n")) }
     ensures sessions { session_table writer_there ≡ codes "record           site         holder  phase\na                   1              5  writer\n" }
 {}

@@ -21,20 +21,25 @@ pub fn join_laws()
     ensures idempotent { (a : BookState) → IsJoin a a a }
     ensures least { (a b j k : BookState) → IsJoin a b j → IsJoin a b k → NamesSame j k }
     ensures union { (a b j : BookState) → IsUnion a b j → IsJoin a b j }
-    ensures told { (a b j : BookState) (rows : List Row) → book_shape b ≡ book_shape a → ((r s : ℕ) (cell : Cell) → shown_by (book_shape b) rows r s cell ≡ counter_of b r s cell) → JoinsRows a j rows → IsJoin a b j }
-    ensures equal_books { (a b x y : BookState) (ds es : List DeltaState) → IsBook x → IsBook y → book_shape y ≡ book_shape x → NamesKnown a ds x → NamesKnown b es y → KnowsSame a ds b es → x ≡ y }
+    ensures told { (a b j : BookState) (rows : List Row) → book_shape b ≡ book_shape a
+        → ((r s : ℕ) (cell : Cell) → shown_by (book_shape b) rows r s cell ≡ counter_of b r s cell) → JoinsRows a j rows → IsJoin a b j }
+    ensures equal_books { (a b x y : BookState) (ds es : List DeltaState) → IsBook x → IsBook y → book_shape y ≡ book_shape x
+        → NamesKnown a ds x → NamesKnown b es y → KnowsSame a ds b es → x ≡ y }
 {}
 
 /// A thin delta does as well as the whole one at a book that took the delta before it.
 pub fn thin_law()
-    ensures { (b x y z : BookState) (last d : DeltaState) → IsBook b → IsBook y → IsBook z → IsDelta last → IsDelta d → JoinsRows b x last.rows → JoinsRows x y d.rows → JoinsRows x z (thin_rows d.rows last.rows) → y ≡ z }
+    ensures { (b x y z : BookState) (last d : DeltaState) → IsBook b → IsBook y → IsBook z → IsDelta last → IsDelta d
+        → JoinsRows b x last.rows → JoinsRows x y d.rows → JoinsRows x z (thin_rows d.rows last.rows) → y ≡ z }
 {}
 
 /// To widen a book names nothing new and forgets nothing, and it makes no difference whether books are joined
 /// and then widened, or widened and then joined; a book that is widened takes every delta that it took before.
 pub fn widen_laws()
     ensures names { (shape : Shape) (a wide : BookState) → IsWidened shape a wide → NamesSame wide a }
-    ensures rows { (shape : Shape) (a j wide wide_j : BookState) (rows : List Row) → IsEarlierShape (book_shape a) shape → IsWidened shape a wide → IsWidened shape j wide_j → JoinsRows a j rows → JoinsRows wide wide_j rows }
-    ensures joins { (shape : Shape) (a b j wide_a wide_b wide_j : BookState) → IsWidened shape a wide_a → IsWidened shape b wide_b → IsWidened shape j wide_j → IsJoin a b j → IsJoin wide_a wide_b wide_j }
+    ensures rows { (shape : Shape) (a j wide wide_j : BookState) (rows : List Row) → IsEarlierShape (book_shape a) shape
+        → IsWidened shape a wide → IsWidened shape j wide_j → JoinsRows a j rows → JoinsRows wide wide_j rows }
+    ensures joins { (shape : Shape) (a b j wide_a wide_b wide_j : BookState) → IsWidened shape a wide_a
+        → IsWidened shape b wide_b → IsWidened shape j wide_j → IsJoin a b j → IsJoin wide_a wide_b wide_j }
     ensures checked { (old new : Shape) (rows : List Row) → IsEarlierShape old new → IsChecked old rows → IsChecked new rows }
 {}

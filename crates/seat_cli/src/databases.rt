@@ -42,7 +42,7 @@ impl Databases for HostRuntime {
             Err(_) => return Status::NoStore(StoreRefusal::StoreFault),
         };
         let (ended, connection) = serve_over(self.alloc(), connection, layout, site, source, sink);
-        let _ = connection.close();
+        let _ = connection.close(); // what was answered is in the log, if not in the file
         ended
     }
 }

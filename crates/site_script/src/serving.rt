@@ -41,9 +41,11 @@ pub fn serve_script<K: Keeper>(
     ensures opening { SameOpening desk.old desk.new }
     ensures grown { Grows pass desk.old desk.new }
     ensures served { IfOk result (λ served. is_frozen desk.old ≡ false → is_frozen desk.new ≡ false
-        → Serves (account_of desk.old) (places_of desk.old) desk.old.core.layout.records (lines_of script.now) served.whole (string_bytes served.text) (account_of desk.new)) }
+        → Serves (account_of desk.old) (places_of desk.old) desk.old.core.layout.records (lines_of script.now)
+        served.whole (string_bytes served.text) (account_of desk.new)) }
     ensures stopped { IfOk result (λ served. is_frozen desk.old ≡ false → is_frozen desk.new ≡ true
-        → Stops (account_of desk.old) (places_of desk.old) desk.old.core.layout.records (lines_of script.now) served.whole (string_bytes served.text) (account_of desk.new) (account_if_kept desk.new)) }
+        → Stops (account_of desk.old) (places_of desk.old) desk.old.core.layout.records (lines_of script.now)
+        served.whole (string_bytes served.text) (account_of desk.new) (account_if_kept desk.new)) }
 {
     let mut text = String::new(alloc);
     let mut rest = script;

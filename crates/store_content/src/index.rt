@@ -223,7 +223,8 @@ impl Index {
 
     fn put_session(&mut self, session: StoredSession)
         requires { 1 ≤ spare self.old.places }
-        ensures places { (r h : ℕ) → lookup (same_key (r, h)) self.new.places.entries ≡ (if same_key (session.r, session.h) (r, h) then Some session.place else lookup (same_key (r, h)) self.old.places.entries) }
+        ensures places { (r h : ℕ) → lookup (same_key (r, h)) self.new.places.entries
+            ≡ (if same_key (session.r, session.h) (r, h) then Some session.place else lookup (same_key (r, h)) self.old.places.entries) }
         ensures unique { IsDistinct same_key (keys_of self.new.places.entries) }
         ensures greatest { self.new.greatest ≡ max self.old.greatest session.place }
         ensures notices { self.new.notices ≡ self.old.notices }

@@ -193,7 +193,8 @@ fn put_session<S: Alter>(tx: &mut Transaction<'_, S>, session: StoredSession) ->
     requires place { session.place < 2 ^ 63 }
     ensures same_reference { tx.new.conn.ghost_name ≡ tx.old.conn.ghost_name }
     ensures goes { HasCleanDisk (state S.Store tx.new.conn.now) → IsTrue tx.old.conn.now.in_transaction
-        → OnOk result (Goes (state S.Store tx.old.conn.now) (state S.Store tx.new.conn.now) (Brings (λ p. HasFreePlace (Some (SessionEdit.Put session)) p.sessions) (with_edit (Some (SessionEdit.Put session))))) }
+        → OnOk result (Goes (state S.Store tx.old.conn.now) (state S.Store tx.new.conn.now)
+        (Brings (λ p. HasFreePlace (Some (SessionEdit.Put session)) p.sessions) (with_edit (Some (SessionEdit.Put session))))) }
     ensures kept { HasCleanDisk (state S.Store tx.new.conn.now) → IsTrue tx.old.conn.now.in_transaction
         → KeepsCommit (state S.Store tx.old.conn.now) (state S.Store tx.new.conn.now) }
     ensures survives { Survives (state S.Store tx.old.conn.now) (state S.Store tx.new.conn.now) (λ _. ⊥) }

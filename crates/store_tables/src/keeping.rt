@@ -70,7 +70,7 @@ pub(crate) fn write_kept<S: Alter>(
 {
     // what these two ensure of a connection, the transaction is proved with
     let _is_idle = conn.is_autocommit();
-    let _schema = conn.schema();
+    let _schema = conn.schema(); // the second
     write(conn, cells, notices, edit)
 }
 
@@ -90,7 +90,7 @@ pub(crate) fn make_kept<S: Alter>(
 {
     // what these two ensure of a connection, the transaction is proved with
     let _is_idle = conn.is_autocommit();
-    let _schema = conn.schema();
+    let _schema = conn.schema(); // the second
     make(conn, site, layout)
 }
 
@@ -110,7 +110,7 @@ pub(crate) fn renew_kept<S: Alter>(
 {
     // what these two ensure of a connection, the transaction is proved with
     let _is_idle = conn.is_autocommit();
-    let _schema = conn.schema();
+    let _schema = conn.schema(); // the second
     renew(conn, version, layout)
 }
 
@@ -174,13 +174,16 @@ pub(crate) fn look_kept<S: Alter>(
     ensures own { HasCleanDisk (state S.Store conn.new) → (it : _) → IsInRange it → Keeps S.Store conn.old it → result ≢ Err Bad }
     ensures blank { HasCleanDisk (state S.Store conn.new) → KeepsNothing S.Store conn.old → IfOk result (λ found. found ≡ None) × (result ≢ Err Bad) }
     ensures settles { (a : _) → (b : _) → KeepsEither S.Store conn.old a b
-        → IfOk result (λ found. ∥ (Keeps S.Store conn.new a × (HasCleanDisk (state S.Store conn.new) → found ≡ Some a)) ⊎ (Keeps S.Store conn.new b × (HasCleanDisk (state S.Store conn.new) → found ≡ Some b)) ∥₁) }
+        → IfOk result (λ found. ∥ (Keeps S.Store conn.new a × (HasCleanDisk (state S.Store conn.new) → found ≡ Some a))
+        ⊎ (Keeps S.Store conn.new b × (HasCleanDisk (state S.Store conn.new) → found ≡ Some b)) ∥₁) }
     ensures settles_or { (it : _) → KeepsNothingOr S.Store conn.old it
-        → IfOk result (λ found. ∥ (KeepsNothing S.Store conn.new × (HasCleanDisk (state S.Store conn.new) → found ≡ None)) ⊎ (Keeps S.Store conn.new it × (HasCleanDisk (state S.Store conn.new) → found ≡ Some it)) ∥₁) }
+        → IfOk result (λ found. ∥ (KeepsNothing S.Store conn.new × (HasCleanDisk (state S.Store conn.new) → found ≡ None))
+        ⊎ (Keeps S.Store conn.new it × (HasCleanDisk (state S.Store conn.new) → found ≡ Some it)) ∥₁) }
     ensures cause { result ≡ Ok None → found_in (state S.Store conn.old).now.schema ≡ Blank }
     ensures fresh { (state S.Store conn.old).now.schema ≡ no_schema → OnOk result (KeepsNothing S.Store conn.new) }
     ensures survives { Survives (state S.Store conn.old) (state S.Store conn.new) (λ _. ⊥) }
 {
+    // what it ensures of a connection, the transaction is read with
     let _is_idle = conn.is_autocommit();
     let found = found_in(conn.schema());
     read_whole(alloc, conn, found)

@@ -43,7 +43,8 @@ fn create_tables<S: Alter>(tx: &mut Transaction<'_, S>) -> Result<(), Error>
 fn put_marks<S: Alter>(tx: &mut Transaction<'_, S>, site: &str, layout: &str) -> Result<(), Error>
     ensures same_reference { tx.new.conn.ghost_name ≡ tx.old.conn.ghost_name }
     ensures goes { HasCleanDisk (state S.Store tx.new.conn.now) → IsTrue tx.old.conn.now.in_transaction
-        → OnOk result (Goes (state S.Store tx.old.conn.now) (state S.Store tx.new.conn.now) (Brings Any (λ p. with_mark (mark (codes "layout") layout.now) (with_mark (mark (codes "site") site.now) (with_mark (mark (codes "version") (version_text Second)) p))))) }
+        → OnOk result (Goes (state S.Store tx.old.conn.now) (state S.Store tx.new.conn.now) (Brings Any
+        (λ p. with_mark (mark (codes "layout") layout.now) (with_mark (mark (codes "site") site.now) (with_mark (mark (codes "version") (version_text Second)) p))))) }
     ensures kept { HasCleanDisk (state S.Store tx.new.conn.now) → IsTrue tx.old.conn.now.in_transaction
         → KeepsCommit (state S.Store tx.old.conn.now) (state S.Store tx.new.conn.now) }
     ensures survives { Survives (state S.Store tx.old.conn.now) (state S.Store tx.new.conn.now) (λ _. ⊥) }

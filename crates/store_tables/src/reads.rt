@@ -251,7 +251,8 @@ fn read_notices<S: Alter>(
     ensures same_reference { tx.new.conn.ghost_name ≡ tx.old.conn.ghost_name }
     ensures read { HasCleanDisk (state S.Store tx.new.conn.now) → (p : _) → p.tables ≡ Version.Second → HoldsParts p (state S.Store tx.old.conn.now).now
         → IfOk result (λ all. (all.items ≡ p.notices) × ((state S.Store tx.new.conn.now).now ≡ (state S.Store tx.old.conn.now).now)) }
-    ensures own { HasCleanDisk (state S.Store tx.new.conn.now) → (p : _) → p.tables ≡ Version.Second → HoldsParts p (state S.Store tx.old.conn.now).now → All IsNoticeInRange p.notices → result ≢ Err Bad }
+    ensures own { HasCleanDisk (state S.Store tx.new.conn.now) → (p : _) → p.tables ≡ Version.Second
+        → HoldsParts p (state S.Store tx.old.conn.now).now → All IsNoticeInRange p.notices → result ≢ Err Bad }
     ensures survives { Survives (state S.Store tx.old.conn.now) (state S.Store tx.new.conn.now) (λ _. ⊥) }
 {
     let rows = tx.query_all(

@@ -37,55 +37,85 @@ fn all_seen(alloc: Global, changes: &[&str], wanted: u64) -> bool {
     true
 }
 
+// Statements that the tables of a store refuse.
+const UNWRITABLE: [&str; 5] = [
+    "SELECT_NOTHING",
+    "INSERT INTO sessions VALUES (0, 7, 1, 5), (0, 8, 1, 5)",
+    "INSERT INTO cells VALUES (0, 0, -1)",
+    "INSERT INTO notices VALUES (0, 0, -1, 0)",
+    "INSERT INTO notices VALUES (0, 0, 0, -1)",
+];
+
+// Changes that leave a store.
+const HARMLESS: [&str; 3] = [
+    "",
+    "CREATE TABLE other (x INTEGER); INSERT INTO other VALUES (1)",
+    "INSERT INTO meta VALUES ('more', 'x')",
+];
+
+// Changes after which a table, a column or a row of `meta` is missing or wrong.
+const MISSING: [&str; 15] = [
+    "DROP TABLE meta",
+    "DROP TABLE cells",
+    "DROP TABLE sessions",
+    "DROP TABLE notices",
+    "DROP TABLE cells; CREATE TABLE cells (record INTEGER, slot INTEGER)",
+    "DROP TABLE sessions; CREATE TABLE sessions (record INTEGER, holder INTEGER, phase INTEGER)",
+    "DROP TABLE notices; CREATE TABLE notices (record INTEGER, site INTEGER, ann INTEGER)",
+    "DROP TABLE meta; CREATE TABLE meta (name TEXT)",
+    "DELETE FROM meta WHERE name = 'version'",
+    "DELETE FROM meta WHERE name = 'site'",
+    "DELETE FROM meta WHERE name = 'layout'",
+    "UPDATE meta SET value = '1' WHERE name = 'version'",
+    "UPDATE meta SET value = '9' WHERE name = 'version'",
+    "UPDATE meta SET value = '' WHERE name = 'version'",
+    "UPDATE meta SET value = x'32' WHERE name = 'version'",
+];
+
+// Rows with a value outside its range.
+const OUTSIDE: [&str; 28] = [
+    "INSERT INTO cells VALUES ('x', 0, 1)",
+    "INSERT INTO cells VALUES (-1, 0, 1)",
+    "INSERT INTO cells VALUES (65536, 0, 1)",
+    "INSERT INTO cells VALUES (0, 'x', 1)",
+    "INSERT INTO cells VALUES (0, -1, 1)",
+    "INSERT INTO cells VALUES (0, 65536, 1)",
+    "INSERT INTO cells VALUES (0, 0, 'x')",
+    "INSERT INTO cells VALUES (0, 0, 1.5)",
+    "INSERT INTO sessions VALUES ('x', 7, 1, 1)",
+    "INSERT INTO sessions VALUES (-1, 7, 1, 1)",
+    "INSERT INTO sessions VALUES (65536, 7, 1, 1)",
+    "INSERT INTO sessions VALUES (0, 'x', 1, 1)",
+    "INSERT INTO sessions VALUES (0, -1, 1, 1)",
+    "INSERT INTO sessions VALUES (0, 7, 0, 1)",
+    "INSERT INTO sessions VALUES (0, 7, 4, 1)",
+    "INSERT INTO sessions VALUES (0, 7, 'x', 1)",
+    "INSERT INTO sessions VALUES (0, 7, 1, 0)",
+    "INSERT INTO sessions VALUES (0, 7, 1, -1)",
+    "INSERT INTO sessions VALUES (0, 7, 1, 4611686018427387905)",
+    "INSERT INTO sessions VALUES (0, 7, 1, 'x')",
+    "INSERT INTO notices VALUES ('x', 0, 1, 1)",
+    "INSERT INTO notices VALUES (-1, 0, 1, 1)",
+    "INSERT INTO notices VALUES (65536, 0, 1, 1)",
+    "INSERT INTO notices VALUES (0, 'x', 1, 1)",
+    "INSERT INTO notices VALUES (0, -1, 1, 1)",
+    "INSERT INTO notices VALUES (0, 16, 1, 1)",
+    "INSERT INTO notices VALUES (0, 0, 'x', 1)",
+    "INSERT INTO notices VALUES (0, 0, 1, 'x')",
+];
+
+// Rows whose values are the greatest.
+const AT_LIMITS: [&str; 3] = [
+    "INSERT INTO cells VALUES (65535, 65535, 9223372036854775807)",
+    "INSERT INTO sessions VALUES (65535, 9223372036854775807, 3, 4611686018427387904)",
+    "INSERT INTO notices VALUES (65535, 15, 9223372036854775807, 9223372036854775807)",
+];
+
 #[test]
 fn tables_and_marks_are_judged(rt: HostRuntime) {
-    assert!(rt;
-        all_seen(
-            rt.alloc(),
-            &[
-                "SELECT_NOTHING",
-                "INSERT INTO sessions VALUES (0, 7, 1, 5), (0, 8, 1, 5)",
-                "INSERT INTO cells VALUES (0, 0, -1)",
-                "INSERT INTO notices VALUES (0, 0, -1, 0)",
-                "INSERT INTO notices VALUES (0, 0, 0, -1)",
-            ],
-            4
-        )
-    );
-    assert!(rt;
-        all_seen(
-            rt.alloc(),
-            &[
-                "",
-                "CREATE TABLE other (x INTEGER); INSERT INTO other VALUES (1)",
-                "INSERT INTO meta VALUES ('more', 'x')",
-            ],
-            1
-        )
-    );
-    assert!(rt;
-        all_seen(
-            rt.alloc(),
-            &[
-                "DROP TABLE meta",
-                "DROP TABLE cells",
-                "DROP TABLE sessions",
-                "DROP TABLE notices",
-                "DROP TABLE cells; CREATE TABLE cells (record INTEGER, slot INTEGER)",
-                "DROP TABLE sessions; CREATE TABLE sessions (record INTEGER, holder INTEGER, phase INTEGER)",
-                "DROP TABLE notices; CREATE TABLE notices (record INTEGER, site INTEGER, ann INTEGER)",
-                "DROP TABLE meta; CREATE TABLE meta (name TEXT)",
-                "DELETE FROM meta WHERE name = 'version'",
-                "DELETE FROM meta WHERE name = 'site'",
-                "DELETE FROM meta WHERE name = 'layout'",
-                "UPDATE meta SET value = '1' WHERE name = 'version'",
-                "UPDATE meta SET value = '9' WHERE name = 'version'",
-                "UPDATE meta SET value = '' WHERE name = 'version'",
-                "UPDATE meta SET value = x'32' WHERE name = 'version'",
-            ],
-            2
-        )
-    );
+    assert!(rt; all_seen(rt.alloc(), &UNWRITABLE, 4));
+    assert!(rt; all_seen(rt.alloc(), &HARMLESS, 1));
+    assert!(rt; all_seen(rt.alloc(), &MISSING, 2));
     assert_eq!(rt; seen_after(rt.alloc(), FIRST, "", ""), Some(1));
     assert_eq!(rt; seen_after(rt.alloc(), "", "", ""), Some(0));
     assert_eq!(rt;
@@ -100,53 +130,8 @@ fn tables_and_marks_are_judged(rt: HostRuntime) {
 
 #[test]
 fn values_are_judged(rt: HostRuntime) {
-    assert!(rt;
-        all_seen(
-            rt.alloc(),
-            &[
-                "INSERT INTO cells VALUES ('x', 0, 1)",
-                "INSERT INTO cells VALUES (-1, 0, 1)",
-                "INSERT INTO cells VALUES (65536, 0, 1)",
-                "INSERT INTO cells VALUES (0, 'x', 1)",
-                "INSERT INTO cells VALUES (0, -1, 1)",
-                "INSERT INTO cells VALUES (0, 65536, 1)",
-                "INSERT INTO cells VALUES (0, 0, 'x')",
-                "INSERT INTO cells VALUES (0, 0, 1.5)",
-                "INSERT INTO sessions VALUES ('x', 7, 1, 1)",
-                "INSERT INTO sessions VALUES (-1, 7, 1, 1)",
-                "INSERT INTO sessions VALUES (65536, 7, 1, 1)",
-                "INSERT INTO sessions VALUES (0, 'x', 1, 1)",
-                "INSERT INTO sessions VALUES (0, -1, 1, 1)",
-                "INSERT INTO sessions VALUES (0, 7, 0, 1)",
-                "INSERT INTO sessions VALUES (0, 7, 4, 1)",
-                "INSERT INTO sessions VALUES (0, 7, 'x', 1)",
-                "INSERT INTO sessions VALUES (0, 7, 1, 0)",
-                "INSERT INTO sessions VALUES (0, 7, 1, -1)",
-                "INSERT INTO sessions VALUES (0, 7, 1, 4611686018427387905)",
-                "INSERT INTO sessions VALUES (0, 7, 1, 'x')",
-                "INSERT INTO notices VALUES ('x', 0, 1, 1)",
-                "INSERT INTO notices VALUES (-1, 0, 1, 1)",
-                "INSERT INTO notices VALUES (65536, 0, 1, 1)",
-                "INSERT INTO notices VALUES (0, 'x', 1, 1)",
-                "INSERT INTO notices VALUES (0, -1, 1, 1)",
-                "INSERT INTO notices VALUES (0, 16, 1, 1)",
-                "INSERT INTO notices VALUES (0, 0, 'x', 1)",
-                "INSERT INTO notices VALUES (0, 0, 1, 'x')",
-            ],
-            2
-        )
-    );
-    assert!(rt;
-        all_seen(
-            rt.alloc(),
-            &[
-                "INSERT INTO cells VALUES (65535, 65535, 9223372036854775807)",
-                "INSERT INTO sessions VALUES (65535, 9223372036854775807, 3, 4611686018427387904)",
-                "INSERT INTO notices VALUES (65535, 15, 9223372036854775807, 9223372036854775807)",
-            ],
-            1
-        )
-    );
+    assert!(rt; all_seen(rt.alloc(), &OUTSIDE, 2));
+    assert!(rt; all_seen(rt.alloc(), &AT_LIMITS, 1));
 }
 
 // ---- beside another table, and at the limits
