@@ -6,7 +6,7 @@ use crate::tests::desks::{
 };
 use admission_core::Durable;
 use site_store::{Keeper, KeeperError, OpenError};
-use sqlite::{Connection, MemStore};
+use sqlite::{Alter, Connection};
 use std::alloc::Global;
 
 /// What a keeper keeps, asked once more where it finds no memory; nothing where its store has failed.
@@ -31,7 +31,11 @@ fn admits_or_keeps_nothing<K: Keeper + Drop>(alloc: Global, desk: Desk<K>) -> bo
 }
 
 /// Whether a connection is opened as a store, or for want of memory not, and is opened then.
-fn opens_now_or_then(alloc: Global, connection: Connection<MemStore>, sites: u16) -> Option<bool> {
+fn opens_now_or_then<S: Alter + Drop>(
+    alloc: Global,
+    connection: Connection<S>,
+    sites: u16,
+) -> Option<bool> {
     match keeper_over(alloc, connection, sites)? {
         Ok(_) => Some(true),
         Err((OpenError::Memory, back)) => Some(keeper_over(alloc, back, sites)?.is_ok()),
@@ -39,13 +43,23 @@ fn opens_now_or_then(alloc: Global, connection: Connection<MemStore>, sites: u16
     }
 }
 
-/// The connection of a store with one reader.
-fn with_reader(alloc: Global) -> Option<Connection<MemStore>> {
-    let mut desk = over(alloc, database(alloc)?, 2)?;
+/// The connection of a store with one reader, made over an empty database.
+fn with_reader<S: Alter + Drop>(alloc: Global, empty: Connection<S>) -> Option<Connection<S>> {
+    let mut desk = over(alloc, empty, 2)?;
     match ask(&mut desk, read(7)) {
         Told::Admitted => Some(desk.into_keeper().into_connection()),
         _ => None,
     }
+}
+
+/// Whether a store with one reader is opened, now or then, at so many sites.
+fn finds_reader(alloc: Global, sites: u16) -> Option<bool> {
+    opens_now_or_then(alloc, with_reader(alloc, database(alloc)?)?, sites)
+}
+
+/// Whether a desk over an empty database admits a reader or keeps nothing.
+fn admits_over<S: Alter + Drop>(alloc: Global, empty: Connection<S>) -> Option<bool> {
+    Some(admits_or_keeps_nothing(alloc, over(alloc, empty, 2)?))
 }
 
 #[test]
@@ -57,11 +71,8 @@ fn a_store_is_made_or_not_for_want_of_memory(rt: HostRuntime) {
 
 #[test]
 fn a_store_is_found_or_not_for_want_of_memory(rt: HostRuntime) {
-    let alloc = rt.alloc();
-    let same = with_reader(alloc).and_then(|connection| opens_now_or_then(alloc, connection, 2));
-    assert_ne!(rt; same, Some(false));
-    let grown = with_reader(alloc).and_then(|connection| opens_now_or_then(alloc, connection, 3));
-    assert_ne!(rt; grown, Some(false));
+    assert_ne!(rt; finds_reader(rt.alloc(), 2), Some(false));
+    assert_ne!(rt; finds_reader(rt.alloc(), 3), Some(false));
 }
 
 #[test]
@@ -69,8 +80,6 @@ fn a_reader_is_admitted_or_not_for_want_of_memory(rt: HostRuntime) {
     let alloc = rt.alloc();
     let memory = in_memory(alloc).map(|desk| admits_or_keeps_nothing(alloc, desk));
     assert_ne!(rt; memory, Some(false));
-    let stored = database(alloc)
-        .and_then(|connection| over(alloc, connection, 2))
-        .map(|desk| admits_or_keeps_nothing(alloc, desk));
+    let stored = database(alloc).and_then(|connection| admits_over(alloc, connection));
     assert_ne!(rt; stored, Some(false));
 }

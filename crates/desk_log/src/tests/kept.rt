@@ -3,8 +3,9 @@ use crate::tests::desks::{
     Told, ask, cell, database, give, in_memory, is_part, layout, leave, over, read, reader,
 };
 use crate::{Desk, Run, Runs, Transcript};
+use admission_core::Durable;
 use site_store::{Keeper, OpenError, SqlKeeper};
-use sqlite::{Connection, MemStore};
+use sqlite::{Alter, Connection, MemStore};
 use std::alloc::Global;
 
 /// Whether a keeper keeps one reader and the count of one seat taken.
@@ -21,19 +22,25 @@ fn one_read<K: Keeper + Drop>(alloc: Global, mut desk: Desk<K>) -> Option<(bool,
     Some((admitted && kept && keeper.faults() == 0, keeper))
 }
 
-/// The store of a site with one reader.
-fn one_reader(alloc: Global) -> Option<Connection<MemStore>> {
-    let (kept, keeper) = one_read(alloc, over(alloc, database(alloc)?, 2)?)?;
-    if kept {
-        Some(keeper.into_connection())
-    } else {
-        None
-    }
+/// The store of a site with one reader, made over an empty database.
+fn with_reader<S: Alter + Drop>(alloc: Global, empty: Connection<S>) -> Option<Connection<S>> {
+    let (kept, keeper) = one_read(alloc, over(alloc, empty, 2)?)?;
+    kept.then_some(keeper.into_connection())
 }
 
-/// Why that store is refused after a statement, at this site and with this many sites; `None` where it is opened.
-fn refusal_after(alloc: Global, text: &str, sites: u16, site: u16) -> Option<Option<OpenError>> {
-    let mut connection = one_reader(alloc)?;
+fn one_reader(alloc: Global) -> Option<Connection<MemStore>> {
+    with_reader(alloc, database(alloc)?)
+}
+
+/// Why a store is refused after a statement, at this site and with this many sites; `None` where it is opened.
+fn refusal_of<S: Alter + Drop>(
+    alloc: Global,
+    store: Connection<S>,
+    text: &str,
+    sites: u16,
+    site: u16,
+) -> Option<Option<OpenError>> {
+    let mut connection = store;
     connection.execute_batch(text).ok()?;
     let layout = layout(alloc, sites, 1)?;
     if !connection.is_autocommit() {
@@ -43,6 +50,11 @@ fn refusal_after(alloc: Global, text: &str, sites: u16, site: u16) -> Option<Opt
         Ok(_) => None,
         Err((error, _)) => Some(error),
     })
+}
+
+/// The same of the store with one reader.
+fn refusal_after(alloc: Global, text: &str, sites: u16, site: u16) -> Option<Option<OpenError>> {
+    refusal_of(alloc, one_reader(alloc)?, text, sites, site)
 }
 
 #[test]
@@ -92,48 +104,70 @@ fn a_store_with_a_reader_is_judged(rt: HostRuntime) {
 
 /// What a desk answers to a second reader and to the first one's leave, where the first one's place is set so, and who is
 /// inside once the store is opened again.
-fn at_place(alloc: Global, place: &str) -> Option<(Told, Told, u64)> {
-    let mut connection = one_reader(alloc)?;
+fn at_place<S: Alter + Drop>(
+    alloc: Global,
+    store: Connection<S>,
+    place: &str,
+) -> Option<(Told, Told, u64)> {
+    let mut connection = store;
     connection.execute_batch(place).ok()?;
     let mut desk = over(alloc, connection, 2)?;
     let entered = ask(&mut desk, read(8));
     let left = ask(&mut desk, leave(7));
     let again = over(alloc, desk.into_keeper().into_connection(), 2)?;
-    match again.first().sessions() {
-        [session] => Some((entered, left, session.h)),
+    let inside = only_holder(again.first())?;
+    Some((entered, left, inside))
+}
+
+/// The holder of the one session that is there.
+fn only_holder(durable: &Durable) -> Option<u64> {
+    match durable.sessions() {
+        [session] => Some(session.h),
         _ => None,
     }
+}
+
+fn of_reader_at(alloc: Global, place: &str) -> Option<(Told, Told, u64)> {
+    at_place(alloc, one_reader(alloc)?, place)
 }
 
 #[test]
 fn a_session_without_a_place_stops_the_desk(rt: HostRuntime) {
     let alloc = rt.alloc();
     assert_eq!(rt;
-        at_place(alloc, "UPDATE sessions SET place = 4611686018427387903"),
+        of_reader_at(alloc, "UPDATE sessions SET place = 4611686018427387903"),
         Some((Told::Admitted, Told::Left, 8))
     );
     assert_eq!(rt;
-        at_place(alloc, "UPDATE sessions SET place = 4611686018427387904"),
+        of_reader_at(alloc, "UPDATE sessions SET place = 4611686018427387904"),
         Some((Told::StoreFault, Told::Frozen, 7))
     );
 }
 
 /// What a desk leaves of its opening, and its connection.
-fn closed(
+fn closed<S: Alter + Drop>(
     alloc: Global,
-    desk: Desk<SqlKeeper<MemStore>>,
-) -> Option<(Transcript, Connection<MemStore>)> {
+    desk: Desk<SqlKeeper<S>>,
+) -> Option<(Transcript, Connection<S>)> {
     let sites = desk.core().layout().sites();
     let (first, entries, keeper) = desk.into_parts();
-    let mut runs = Vec::new(alloc);
     let run = Run {
         sites,
         first,
         entries,
     };
+    let transcript = transcript_of(alloc, run)?;
+    Some((transcript, keeper.into_connection()))
+}
+
+/// The transcript of one run at site 0.
+fn transcript_of(alloc: Global, run: Run) -> Option<Transcript> {
+    let mut runs = Vec::new(alloc);
     runs.push(run).ok()?;
-    let runs = Runs::from_vec(runs);
-    Some((Transcript { site: 0, runs }, keeper.into_connection()))
+    Some(Transcript {
+        site: 0,
+        runs: Runs::from_vec(runs),
+    })
 }
 
 /// The numbers of sites and of entries of a transcript's runs.
@@ -151,16 +185,32 @@ fn sizes(transcript: &Transcript) -> (u16, usize, u16, usize) {
 
 /// What a site that is alone answers to a reader and to a gift, what it answers to the gift once it has a second site
 /// beside it, and the numbers of both openings.
-fn grown(alloc: Global) -> Option<([Told; 3], (u16, usize, u16, usize))> {
-    let mut alone = over(alloc, database(alloc)?, 1)?;
-    let first = ask(&mut alone, read(7));
-    let second = ask(&mut alone, give());
-    let (mut all, connection) = closed(alloc, alone)?;
+fn grown_over<S: Alter + Drop>(
+    alloc: Global,
+    empty: Connection<S>,
+) -> Option<([Told; 3], (u16, usize, u16, usize))> {
+    let (first, second, mut all, connection) = opened_alone(alloc, empty)?;
     let mut desk = over(alloc, connection, 2)?;
     let third = ask(&mut desk, give());
     let (later, _) = closed(alloc, desk)?;
     all.append(later).ok()?;
     Some(([first, second, third], sizes(&all)))
+}
+
+/// What the site that is alone answers, its transcript, and its connection.
+fn opened_alone<S: Alter + Drop>(
+    alloc: Global,
+    empty: Connection<S>,
+) -> Option<(Told, Told, Transcript, Connection<S>)> {
+    let mut alone = over(alloc, empty, 1)?;
+    let first = ask(&mut alone, read(7));
+    let second = ask(&mut alone, give());
+    let (transcript, connection) = closed(alloc, alone)?;
+    Some((first, second, transcript, connection))
+}
+
+fn grown(alloc: Global) -> Option<([Told; 3], (u16, usize, u16, usize))> {
+    grown_over(alloc, database(alloc)?)
 }
 
 #[test]

@@ -1,8 +1,11 @@
 //! A desk over files that stop at each call in turn: what is found then is what was answered, or that and the one call in
 //! doubt.
+ghost use Rattle.desk_log.specs.Desk.{IsMadeFor};
+
 use crate::Desk;
 use crate::tests::desks::{PLACES, Told, ask, cell, is_part, layout, leave, over, read, reader};
 use admission_core::Durable;
+use merge_core::Layout;
 use site_store::{Keeper, SqlKeeper};
 use sqlite::{Alter, Connection, FileStore, Files, Options};
 use sqlite_disk::{Crash, Fuse, Memory};
@@ -96,39 +99,57 @@ fn played<S: Alter + Drop>(
     if !connection.is_autocommit() {
         return None;
     }
-    let keeper = match SqlKeeper::open(alloc, connection, &layout, 0) {
-        Ok(keeper) => keeper,
-        Err((_, back)) => return Some((NOTHING, back)),
-    };
-    match Desk::open(alloc, keeper, layout, 0, PLACES) {
-        Ok(mut desk) => {
-            let answered = play(&mut desk)?;
-            Some((answered, desk.into_keeper().into_connection()))
+    match SqlKeeper::open(alloc, connection, &layout, 0) {
+        Ok(keeper) => {
+            let (answered, keeper) = played_by(alloc, keeper, layout)?;
+            Some((answered, keeper.into_connection()))
         }
-        Err((_, keeper)) => Some((NOTHING, keeper.into_connection())),
+        Err((_, back)) => Some((NOTHING, back)),
     }
 }
 
-/// What a run was answered over files of which each stops after so many calls, and the files after a crash.
-fn stopped(alloc: Global, log: u64, db: u64) -> Option<(Answered, Files<Fuse<Memory>>)> {
-    let files = Files {
+/// The same over a keeper, which is handed back.
+fn played_by<K: Keeper + Drop>(alloc: Global, keeper: K, layout: Layout) -> Option<(Answered, K)>
+    requires { IsMadeFor K.Keeper keeper layout 0 }
+{
+    match Desk::open(alloc, keeper, layout, 0, PLACES) {
+        Ok(mut desk) => {
+            let answered = play(&mut desk)?;
+            Some((answered, desk.into_keeper()))
+        }
+        Err((_, keeper)) => Some((NOTHING, keeper)),
+    }
+}
+
+/// Empty files of which each stops after so many calls.
+fn fused(alloc: Global, log: u64, db: u64) -> Files<Fuse<Memory>> {
+    Files {
         log: Fuse::new(Memory::new(alloc), log),
         db: Fuse::new(Memory::new(alloc), db),
-    };
-    let (answered, mut left) = match opened(alloc, files) {
-        Err(left) => (NOTHING, left),
+    }
+}
+
+/// What a run was answered over files, and what it left of them.
+fn run_over<D: Crash + Drop>(alloc: Global, files: Files<D>) -> Option<(Answered, Files<D>)> {
+    match opened(alloc, files) {
+        Err(left) => Some((NOTHING, left)),
         Ok(connection) => {
             let (answered, back) = played(alloc, connection)?;
-            (answered, back.into_store().close())
+            Some((answered, back.into_store().close()))
         }
-    };
+    }
+}
+
+/// The same, with the files as a crash leaves them.
+fn stopped<D: Crash + Drop>(alloc: Global, files: Files<D>) -> Option<(Answered, Files<D>)> {
+    let (answered, mut left) = run_over(alloc, files)?;
     left.log.crash();
     left.db.crash();
     Some((answered, left))
 }
 
 /// How many calls of the story are found in files after a crash, and whether a desk over them goes on as after these.
-fn found(alloc: Global, files: Files<Fuse<Memory>>) -> Option<usize> {
+fn found<D: Crash + Drop>(alloc: Global, files: Files<D>) -> Option<usize> {
     let connection = opened(alloc, files).ok()?;
     let mut desk = over(alloc, connection, 2)?;
     let kept = calls_kept(desk.first())?;
@@ -152,7 +173,7 @@ fn stops(alloc: Global) -> Option<u64> {
         } else {
             (10000, calls)
         };
-        let (answered, files) = stopped(alloc, log, db)?;
+        let (answered, files) = stopped(alloc, fused(alloc, log, db))?;
         let kept = found(alloc, files)?;
         if kept != answered.kept
             && !(answered.in_doubt && kept == answered.kept.saturating_add(1))
