@@ -1,0 +1,174 @@
+#!/usr/bin/env python3
+"""Compares `play` and `site` of the built program with the second reading, on random scripts.
+
+    compare.py play PROGRAM [EVENTS] [SEED]    each script: what it writes, and its exit status
+    compare.py site PROGRAM [CALLS] [SEED]     each run over a store, and what the store then holds
+
+Stops at the first difference and leaves its files; else tells how often each reply came. Some runs
+of `site` are killed: the next one goes on behind some call, and behind all that were answered.
+"""
+import random
+import re
+import shutil
+import sqlite3
+import subprocess
+import sys
+import tempfile
+import time
+from collections import Counter
+from contextlib import closing
+from itertools import zip_longest
+from pathlib import Path
+
+import random_scripts as scripts
+import second_site as rules
+
+
+NUMBERS = re.compile(r" \d+|(?<=\{).*")
+
+
+def compare(what, told, wanted):
+    """Ends at the first line that the program told otherwise."""
+    for line, pair in enumerate(zip_longest(told.split("\n"), wanted.split("\n")), 1):
+        if pair[0] != pair[1]:
+            one, other = map("{!r:.900}".format, pair)
+            sys.exit(f"{what}\nline {line}\nthe program:        {one}\nthe second reading: {other}")
+
+
+def run(words, path, lines, outcomes):
+    """What a run told, by lines, its errors and its status: one of the outcomes that may be."""
+    Path(path).write_bytes(lines)
+    done = subprocess.run(words, input=lines, capture_output=True, check=False)
+    told = f"{done.stdout.decode()}{done.stderr.decode()!r} {done.returncode}"
+    compare(f"{' '.join(words)} < {path}", told, told if told in outcomes else outcomes[0])
+    return told
+
+
+def play(program, events, rng, folder, counts):
+    while counts.total() < events:
+        script = scripts.Script(rng, rng.choice([20, 200, 200, 2000]))
+        Path(f"{folder}/layout.toml").write_text(scripts.toml(script.layout), "ascii")
+        words = [program, "play", "--layout", f"{folder}/layout.toml"]
+        words += ["--from", str(script.first)] * (script.first < script.layout["sites"])
+        wanted = "".join(it + "\n" for it in script.replies)
+        if rng.random() < 0.5:
+            words.append("--tables")
+            wanted += script.world.tables() * (script.status == 0)
+        run(words, f"{folder}/script", script.data, [f"{wanted}'' {script.status}"])
+        counts.update(NUMBERS.sub("", it) for it in script.replies)
+
+
+class Store:
+    """A site's store, and the states that it may be in: several, after a run that was killed."""
+
+    def __init__(self, program, path, site):
+        self.program, self.path, self.states, self.layout = program, path, [site], site.layout
+
+    def words(self):
+        Path(f"{self.path}.toml").write_text(scripts.toml(self.layout), "ascii")
+        words = [self.program, "site", "--site", str(self.states[0].site), "--store", self.path]
+        return words + ["--layout", f"{self.path}.toml"]
+
+    def copied(self, path):
+        for end in ("", "-wal"):
+            shutil.copy(self.path + end, path + end)
+        return Store(self.program, path, self.states[0])
+
+    def content(self):
+        """The rows in a copy of the store, since who opens it tidies its log up."""
+        names = ("cells", "sessions", "notices")
+        with closing(sqlite3.connect(self.copied(f"{self.path}.copy").path)) as store:
+            return tuple(sorted(store.execute(f"SELECT * FROM {name}")) for name in names)
+
+    def brought(self, r, n):
+        """Brings an empty store to where n readers and n writers have come and gone."""
+        self.serve([])
+        site = self.states[0]
+        row = site.row(r, site.site) | {"taken": n, "ann": n, "fin": n}
+        row["out"][site.site] += n
+        site.rows[r, site.site] = row
+        with closing(sqlite3.connect(self.path, isolation_level=None)) as store:
+            store.executemany("INSERT INTO cells VALUES (?, ?, ?)", site.content()[0])
+
+    def serve(self, lines, bad=()):
+        """A run to its end, behind lines perhaps one that can't be read; gives its replies."""
+        runs = [rules.Run(state, self.layout) for state in self.states]
+        ends = [f"line {len(lines) + 1} refused BadWord", "'' 4"] if bad else ["'' 0"]
+        outcomes = ["\n".join([*map(at.answer, lines), *ends]) for at in runs]
+        told = run(self.words(), f"{self.path}.lines", b"\n".join([*lines, *bad]), outcomes)
+        self.states = [at.site for at, it in zip(runs, outcomes) if it == told]
+        for state in self.states:
+            rows = (str(it.content()).replace(" (", "\n(") for it in (self, state))
+            compare(f"store {self.path}, behind a run of {self.path}.lines", *rows)
+        self.states = self.states[:1]
+        return told.split("\n")[:-1]
+
+    def killed(self, lines, seconds):
+        """A run that is killed after some time, unless it has ended."""
+        try:
+            told = subprocess.check_output(self.words(), input=b"\n".join(lines), timeout=seconds)
+        except subprocess.TimeoutExpired as expired:
+            told = expired.stdout or b""
+        at, replies = rules.Run(self.states[0], self.layout), []
+        self.states = [at.site.restarted(self.layout)]
+        for line in lines:
+            replies.append(at.answer(line) + "\n")
+            self.states.append(at.site.restarted(self.layout))
+        compare(f"{self.path}, killed", told.decode(), "".join(replies)[: len(told)])
+        del self.states[: told.count(b"\n")]
+
+
+def some_lines(store, rng, texts, records, wild):
+    """Lines for a run, steered by one of the states that the store may be in."""
+    at, lines = rules.Run(rng.choice(store.states), store.layout), [b"send"]
+    for _ in range(rng.choice([9, 40, 150] if len(store.states) == 1 else [9])):
+        draw, line = rng.random(), scripts.call(rng, at.site, records)
+        if draw < 0.25:
+            line = "take " + scripts.a_text(rng, at.site, texts, wild) if draw < 0.2 else "send"
+        lines.append(line.encode())
+        at.answer(lines[-1])
+    return lines
+
+
+def site(program, calls, rng, folder, counts):
+    while counts.total() < calls:
+        layout, first = scripts.a_layout(rng)
+        wild, world = rng.choice([0, 0, 20]), tempfile.mkdtemp(dir=folder)
+        early, numbers = layout | {"sites": first}, rng.sample(range(first), min(first, 4))
+        stores = [Store(program, f"{world}/{s}.db", rules.Site(early, s)) for s in numbers]
+        homes = [r for r, it in enumerate(layout["record"]) if it["home"] in numbers] or [0]
+        texts, records = [stores[0].states[0].send()], rng.choices(homes, k=rng.choice([1, 3, 9]))
+        for store in stores if wild else []:
+            store.brought(records[0], rules.COUNTER_LIMIT - rng.choice([0, 3, 30]))
+        for turn in range(25):
+            store = rng.choice(stores)
+            store.layout = rng.choice([layout] + [store.layout] * 9)
+            lines = some_lines(store, rng, texts, records, wild)
+            if len(store.states) == 1 and rng.random() < 0.2:
+                store.killed(lines, rng.choice([0.001, 0.003, 0.01]) * rng.random() * len(lines))
+                counts["(runs killed)"] += len(store.states) > 1
+                continue
+            bad = [rng.choice(scripts.BAD_LINES), b"send"] * (rng.random() < 0.05)
+            replies = store.serve(lines, bad)
+            counts.update(NUMBERS.sub("", it) for it in replies)
+            texts += [it for it in replies if it.startswith("{")]
+            if rng.random() < 0.01:
+                stores.append(store.copied(f"{world}/{store.states[0].site}_{turn}.db"))
+    store = Store(program, f"{folder}/full.db", rules.Site(layout, 0))
+    replies = store.serve([b"help no-such-record"] * rules.MOST_CALLS + [b"take x", b"send"])
+    counts.update(NUMBERS.sub("", it) for it in replies)
+
+
+if __name__ == "__main__":
+    default = {"play": (play, "100000", "1"), "site": (site, "20000", "1")}
+    if not 3 <= len(sys.argv) <= 5 or sys.argv[1] not in default:
+        sys.exit(__doc__)
+    command, *numbers = default[sys.argv[1]]
+    number, seed = map(int, sys.argv[3:] + numbers[len(sys.argv) - 3 :])
+    folder, counts, began = tempfile.mkdtemp(prefix="compare."), Counter(), time.monotonic()
+    command(sys.argv[2], number, random.Random(seed), folder, counts)
+    for name, times in counts.most_common():
+        print(f"{times:9,} {name}")
+    replies, seconds = counts.total() - counts["(runs killed)"], time.monotonic() - began
+    print(f"{replies:,} replies in {seconds:.0f} s, all alike")
+    shutil.rmtree(folder)
