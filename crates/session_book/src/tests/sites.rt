@@ -378,7 +378,7 @@ fn changed_over<L: Opening, R: Wait>(rt: &R, alloc: Global, blank: Blank) -> Opt
     };
     let (site, mut passes) = open_with::<Failing, L>(alloc, blank, keeper, layout, 0)?;
     let pass = passes.first_mut()?;
-    let _told = read_three(rt, &site, pass);
+    let _told = read_each(rt, &site, pass, &[7, 8, 9]);
     change(&mut pass.receipts);
     let refused = site.close(rt, passes).err();
     refused.map(|(error, _site, _passes)| error)
