@@ -1,13 +1,1 @@
-pub mod Arguments
-pub mod Endings
-pub mod Engine
-pub mod Examples
-pub mod Joins
-pub mod LayoutFile
-pub mod Plays
 pub mod Shell
-pub mod SiteSteps
-pub mod Sites
-pub mod Stops
-pub mod StoredSites
-pub mod Texts

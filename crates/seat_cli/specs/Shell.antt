@@ -6,17 +6,18 @@ use Rattle.text_input.specs.Sink.{Prints, SinkState}
 use Rattle.clap.specs.Words.{Text, IsAmong}
 use Rattle.clap.specs.declared.error.ErrorKind.{ErrorKind}
 use Rattle.clap.specs.declared.error.ErrorKind.TheVariants.{OutOfMemory, DisplayHelp, DisplayVersion}
-use Rattle.seat_cli.specs.declared.arguments.Command.{Command}
-use Rattle.seat_cli.specs.declared.arguments.Command.TheVariants.{Join, Play, Site}
-use Rattle.seat_cli.specs.declared.layout_file.LayoutFault.{LayoutFault}
-use Rattle.seat_cli.specs.declared.status.Status.{Status}
-use Rattle.seat_cli.specs.declared.status.Status.TheVariants.{Done, Memory, Io}
-use Rattle.seat_cli.specs.Arguments.{asked_command, asked_layout, usage_errors}
-use Rattle.seat_cli.specs.Endings.{EndsWith, without_layout}
-use Rattle.seat_cli.specs.Engine.{EndsJoin}
-use Rattle.seat_cli.specs.LayoutFile.{FindsBuiltIn, FindsFile}
-use Rattle.seat_cli.specs.Plays.{EndsPlay}
-use Rattle.seat_cli.specs.StoredSites.{EndsStored}
+use Rattle.command_arguments.specs.declared.arguments.Command.{Command}
+use Rattle.command_arguments.specs.declared.arguments.Command.TheVariants.{Join, Play, Site}
+use Rattle.layout_file.specs.declared.fault.LayoutFault.{LayoutFault}
+use Rattle.layout_file.specs.declared.fault.LayoutFault.TheVariants as layout
+use Rattle.exit_status.specs.declared.status.Status.{Status}
+use Rattle.exit_status.specs.declared.status.Status.TheVariants.{Done, Memory, Io}
+use Rattle.command_arguments.specs.Arguments.{asked_command, asked_layout, usage_errors}
+use Rattle.exit_status.specs.Endings.{EndsWith, without_layout}
+use Rattle.join_engine.specs.Engine.{EndsJoin}
+use Rattle.layout_file.specs.LayoutFile.{ReadsLayout, built_in_layout}
+use Rattle.play_engine.specs.Plays.{EndsPlay}
+use Rattle.site_engine.specs.StoredSites.{EndsStored}
 
 -- help or the version: it was printed, or the sink met a fault
 abbrev pub EndsPrinted : SinkState → SinkState → SinkState → SinkState → ℕ → Type 0
@@ -37,6 +38,18 @@ EndsUnasked OutOfMemory sink sink_after errors errors_after code = (sink_after �
 EndsUnasked DisplayHelp sink sink_after errors errors_after code = EndsPrinted sink sink_after errors errors_after code
 EndsUnasked DisplayVersion sink sink_after errors errors_after code = EndsPrinted sink sink_after errors errors_after code
 EndsUnasked _ sink sink_after errors errors_after code = EndsUsage sink sink_after errors errors_after code
+
+-- what the program finds without a layout file: the built-in layout
+abbrev pub FindsBuiltIn : Result LayoutState LayoutFault → Type 0
+FindsBuiltIn (Ok layout) = layout ≡ built_in_layout
+FindsBuiltIn (Err e) = e ≡ layout.Memory
+
+-- What it finds at a layout file: what some bytes describe, or that there is no such file, or that it could not be
+-- read, or is too long. No contract can say what a file holds.
+abbrev pub FindsFile : Result LayoutState LayoutFault → Type 0
+FindsFile (Err layout.NotRead) = Unit {0}
+FindsFile (Err layout.TooLong) = Unit {0}
+FindsFile answer = (bytes : List ℕ) × ReadsLayout bytes answer
 
 -- what the program finds for a layout: the built-in one, or what is in the file that is named
 abbrev pub FindsLayout : Option Text → Result LayoutState LayoutFault → Type 0

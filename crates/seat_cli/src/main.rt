@@ -2,21 +2,8 @@
 //! calls of one site in, the replies of its store's desk out.
 #![tactic(auto)]
 
-mod arguments;
-mod databases;
-mod engine;
-mod fault;
-mod help;
-mod laws;
-mod layout_file;
-mod lines;
-mod scripts;
 mod shell;
-mod sites;
 mod standard_error;
-mod status;
-mod store_refusal;
-mod stored_sites;
 #[cfg(test)]
 mod tests;
 

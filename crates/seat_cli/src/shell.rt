@@ -1,18 +1,16 @@
 ghost use Rattle.std.specs.Prelude.{map, MatchOption, string_bytes};
 ghost use Rattle.clap.specs.Words.{kind_of};
-ghost use Rattle.seat_cli.specs.LayoutFile.{FindsBuiltIn, FindsFile};
-ghost use Rattle.seat_cli.specs.Shell.{EndsCommand, EndsUnasked, RunsProgram};
+ghost use Rattle.seat_cli.specs.Shell.{EndsCommand, EndsUnasked, FindsBuiltIn, FindsFile, RunsProgram};
 
-use crate::arguments::{Command, requested};
-use crate::databases::Databases;
-use crate::engine::join_engine;
-use crate::layout_file::{LayoutFault, built_in, read_layout_file};
-use crate::scripts::play_engine;
 use crate::standard_error::StandardError;
-use crate::status::Status;
-use crate::stored_sites::serve_stored;
 use clap::error::ErrorKind as UsageKind;
+use command_arguments::{Command, requested};
+use exit_status::Status;
+use join_engine::join_engine;
+use layout_file::{LayoutFault, built_in, read_layout_file};
 use merge_core::Layout;
+use play_engine::play_engine;
+use site_engine::{Databases, serve_stored};
 use std::io::{ErrorKind, Read, Write};
 use std::rt::{Env, Files};
 use std::{env, fs, io};
@@ -61,7 +59,7 @@ pub fn run_with<R: Files + Databases + AllocGlobal, I: Read, O: Write, E: Write>
     };
     let layout = match layout_at(rt, asked.layout) {
         Ok(layout) => layout,
-        Err(fault) => return fault.status().end(errors),
+        Err(fault) => return Status::without_layout(fault).end(errors),
     };
     let ended = carry_out(rt, asked.command, asked.store, layout, source, sink);
     ended.end(errors)

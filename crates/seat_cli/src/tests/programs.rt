@@ -1,10 +1,10 @@
 //! The whole program on a fake runtime: what it reads, what it writes and where, and its exit status.
-use super::fakes::NEVER;
 use super::runtime::{Fake, Setting, Text};
-use super::{GAVE, THIRD, THREE_SITES};
 use crate::shell::run;
 use std::alloc::Global;
 use std::io::ErrorKind;
+use test_streams::NEVER;
+use test_streams::texts::{GAVE, THIRD, THREE_SITES};
 
 const FIVE_SEATS: &str = "sites = 2\n[[record]]\nname = \"a\"\nseats = 5\nhome = 0\nproblem = 1\n";
 

@@ -1,10 +1,7 @@
 //! A runtime whose arguments, files and standard streams the test chooses.
-use super::fakes::{Giving, Keeping};
-use crate::databases::Databases;
-use crate::status::Status;
-use crate::store_refusal::StoreRefusal;
-use crate::stored_sites::serve_over;
+use exit_status::{Status, StoreRefusal};
 use merge_core::Layout;
+use site_engine::{Databases, serve_over};
 use sqlite::Connection;
 use std::alloc::{Allocator, Global};
 use std::cell::RefCell;
@@ -12,8 +9,9 @@ use std::env::FillError;
 use std::fmt::Display;
 use std::fs::{Metadata, OpenFile, OpenOptions};
 use std::io;
-use std::io::{BufRead, Error, ErrorKind, Lines, Read, Seek, SeekFrom, Write};
+use std::io::{Error, ErrorKind, Lines, Read, Seek, SeekFrom, Write};
 use std::rt::{Env, Files};
+use test_streams::{Giving, Keeping};
 use text_input::{Sink, Source};
 
 /// A text to read, how many LF follow it, and the read that is answered with a fault.
@@ -151,14 +149,6 @@ impl Eprint for Fake {
         kept(&self.errors, value)?;
         kept(&self.errors, "\n")
     }
-}
-
-impl BufRead for Giving<'_> {
-    fn fill_buf(&mut self) -> io::Result<&[u8]> {
-        Err(unsupported())
-    }
-
-    fn consume(&mut self, _amount: usize) {}
 }
 
 impl Input for Fake {

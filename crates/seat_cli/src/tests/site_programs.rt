@@ -1,8 +1,8 @@
 //! The command `site` of the whole program on a fake runtime: its help, and arguments that are wrong.
-use super::GAVE;
-use super::fakes::NEVER;
 use super::programs::{Faults, Run, answers, does};
 use std::io::ErrorKind;
+use test_streams::NEVER;
+use test_streams::texts::GAVE;
 
 const SITE_HELP: &str = "\
 Serves one site over its store, one call a line, and writes one line of reply to each

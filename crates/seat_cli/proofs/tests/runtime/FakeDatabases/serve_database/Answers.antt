@@ -1,4 +1,4 @@
-use Rattle.seat_cli.proofs.StoredLemmas.{ends_stored}
+use Rattle.site_engine.proofs.StoredLemmas.{ends_stored}
 use Rattle.seat_cli.proofs.tests.runtime.FakeDatabases.serve_database.Goals as goal
 
 pub returns : goal.returns

@@ -1,0 +1,18 @@
+use Rattle.std.proofs.Common.{◌≡◌, ◌∙◌, ap, ap₂, codes}
+use Rattle.std.proofs.lemmas.Result.{IfOk-weaker}
+use Rattle.clap.specs.Words.{App, app_of, new_app, with_subcommand}
+use Rattle.clap.specs.Simple.{on_top}
+use Rattle.command_arguments.specs.Arguments.{with_settings}
+use Rattle.command_arguments.proofs.arguments.parser.Goals as goal
+
+pub returns : goal.returns
+returns c =
+    let named_is : app_of c.disable_help_subcommand.result ≡ on_top with_settings (new_app (codes "seat_cli")) =
+    rw (c.disable_help_subcommand.ensures, c.subcommand_required.ensures, c.after_help.ensures, c.about.ensures, c.override_usage.ensures, c.version.ensures)
+    (ap (on_top with_settings) c.new.ensures.app) in
+    let with_join = c.in_ok-subcommand.ensures.shape c.in_ok-join.ensures.1
+    ∙ ap₂ with_subcommand named_is (ap (λ (a : App). a.top) c.in_ok-join.ensures.0) in
+    let with_play = c.in_ok-subcommand-2.ensures.shape c.in_ok-play.ensures.1
+    ∙ ap₂ with_subcommand with_join (ap (λ (a : App). a.top) c.in_ok-play.ensures.0) in
+    IfOk-weaker c.subcommand-3.result _ _ (λ built added. added.shape c.in_ok-site.ensures.1
+    ∙ ap₂ with_subcommand with_play (ap (λ (a : App). a.top) c.in_ok-site.ensures.0)) c.subcommand-3.ensures

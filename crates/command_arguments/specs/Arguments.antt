@@ -1,0 +1,151 @@
+-- What arguments the program takes and how they are read: the project's own command line, by clap's rules.
+use Rattle.std.specs.Prelude.{ℕ, ◌&&◌, nat_le, nat_lt, Bool, true, false, pos, List, [], ◌∷◌, length, Option, Some, None, codes, bytes_eq, option_and_then, unwrap_or, if◌then◌else◌}
+use Rattle.std.specs.Str.Parse.{digits_value, without_leading_plus}
+use Rattle.std.specs.Option.{option_map_or}
+use Rattle.clap.specs.Words.{App, Kinds, Row, Rule, Shape, Text, fault_of, first_of, new_app, new_rule, one_of, subcommand_of, with_rule, with_subcommand}
+use Rattle.clap.specs.Simple.{on_top}
+use Rattle.clap.specs.ValueTests.{is_numeral}
+use Rattle.clap.specs.declared.builder.ArgAction.TheVariants.{Set, SetTrue}
+use Rattle.clap.specs.declared.builder.value_parser.ValueParser.TheVariants.{Signed}
+use Rattle.command_arguments.specs.declared.arguments.Command.{Command}
+use Rattle.command_arguments.specs.declared.arguments.Command.TheVariants.{Join, Play, Site}
+
+-- the option `--layout FILE` (the project's own), with one name for its value
+abbrev pub layout_option : Rule
+layout_option = record (new_rule (codes "layout")) {
+  long = Some (codes "layout");
+  action = Some Set;
+  value_names = 1;
+}
+
+-- the flag `--tables` (the project's own)
+abbrev pub tables_flag : Rule
+tables_flag = record (new_rule (codes "tables")) {
+  long = Some (codes "tables");
+  action = Some SetTrue;
+}
+
+-- an option whose value is a number from 0 to 65,535 (the project's own)
+abbrev pub number_option : Text → Rule
+number_option name = record (new_rule name) {
+  long = Some name;
+  action = Some Set;
+  value_names = 1;
+  parser = Some (Signed (pos 0) (pos 65535));
+}
+
+-- the option `--from M` (the project's own)
+abbrev pub first_option : Rule
+first_option = number_option (codes "from")
+
+-- the option `--site I` (the project's own), which is needed
+abbrev pub site_option : Rule
+site_option = record (number_option (codes "site")) { required = true }
+
+-- the option `--store FILE` (the project's own), which is needed
+abbrev pub store_option : Rule
+store_option = record (new_rule (codes "store")) {
+  long = Some (codes "store");
+  action = Some Set;
+  value_names = 1;
+  required = true;
+}
+
+-- the command `join` (the project's own), with one option
+abbrev pub join_command : App
+join_command = with_rule (new_app (codes "join")) layout_option
+
+-- the command `play` (the project's own), with a flag and two options
+abbrev pub play_command : App
+play_command = with_rule (with_rule (with_rule (new_app (codes "play")) tables_flag) first_option) layout_option
+
+-- the command `site` (the project's own), with two options that are needed and one that is not
+abbrev pub site_command : App
+site_command = with_rule (with_rule (with_rule (new_app (codes "site")) site_option) store_option) layout_option
+
+-- the settings of the program: it has a version, it needs a command, and it has no command `help`
+abbrev pub with_settings : Shape → Shape
+with_settings top = record top {
+  has_version = true;
+  subcommand_required = true;
+  disable_help_subcommand = true;
+}
+
+-- the program, whose commands are `join`, `play` and `site`
+abbrev pub program : App
+program = with_subcommand (with_subcommand (with_subcommand (on_top with_settings (new_app (codes "seat_cli"))) join_command.top) play_command.top) site_command.top
+
+-- whether a flag's text is `true`
+abbrev pub is_true : Text → Bool
+is_true text = bytes_eq text (codes "true")
+
+-- whether the values ask for tables
+abbrev pub tables_in : List Row → Bool
+tables_in rows = option_map_or is_true (one_of (codes "tables") rows) false
+
+-- the number that the decimal digits of a text write, behind a plus or none, if it fits 16 bits
+abbrev pub short_number : Text → Option ℕ
+short_number text =
+    let digits = without_leading_plus text in
+    if is_numeral digits && nat_lt (digits_value 10 digits) 65536 then Some (digits_value 10 digits) else None
+
+-- the number of sites that the first sites begin with, if the values name one
+abbrev pub first_in : List Row → Option ℕ
+first_in rows = option_and_then short_number (one_of (codes "from") rows)
+
+-- the number of the site that the values name; 0 where they name none, which clap refuses
+abbrev pub site_in : List Row → ℕ
+site_in rows = unwrap_or (option_and_then short_number (one_of (codes "site") rows)) 0
+
+-- the command of a name, with its values
+abbrev pub command_of : Text → List Row → Command
+command_of name rows =
+    if bytes_eq name (codes "play") then Play (tables_in rows) (first_in rows)
+    else if bytes_eq name (codes "site") then Site (site_in rows) else Join
+
+-- the command that was met, if one was
+abbrev pub command_in : Option (Text × List Row) → Command
+command_in None = Join
+command_in (Some (name, rows)) = command_of name rows
+
+-- the layout file that its values name, if they name one
+abbrev pub layout_in : Option (Text × List Row) → Option Text
+layout_in None = None
+layout_in (Some (name, rows)) = first_of (codes "layout") rows
+
+-- the store's file that its values name, if they name one
+abbrev pub store_in : Option (Text × List Row) → Option Text
+store_in None = None
+store_in (Some (name, rows)) = first_of (codes "store") rows
+
+-- the command that arguments name, as clap gives it and its values
+abbrev pub named_command : List Text → Command
+named_command arguments = command_in (subcommand_of program arguments)
+
+-- the layout file that arguments name, as clap gives their command's values
+abbrev pub named_layout : List Text → Option Text
+named_layout arguments = layout_in (subcommand_of program arguments)
+
+-- the store's file that arguments name, as clap gives their command's values
+abbrev pub named_store : List Text → Option Text
+named_store arguments = store_in (subcommand_of program arguments)
+
+-- the arguments of a call of the program: its own name, and those behind it
+abbrev pub called_with : List Text → List Text
+called_with arguments = codes "seat_cli" ∷ arguments
+
+-- what is wrong with the arguments: nothing where none stands behind the program's name
+abbrev pub usage_errors : List Text → Kinds
+usage_errors arguments = if nat_le (length arguments) 1 then [] else fault_of program arguments
+
+-- the command that they ask for: `join` where none stands behind the program's name
+abbrev pub asked_command : List Text → Command
+asked_command arguments = if nat_le (length arguments) 1 then Join else named_command arguments
+
+-- the layout file that they name
+abbrev pub asked_layout : List Text → Option Text
+asked_layout arguments = if nat_le (length arguments) 1 then None else named_layout arguments
+
+-- the store's file that they name
+abbrev pub asked_store : List Text → Option Text
+asked_store arguments = if nat_le (length arguments) 1 then None else named_store arguments

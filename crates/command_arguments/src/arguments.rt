@@ -1,0 +1,223 @@
+ghost use Rattle.std.specs.Prelude.{◌≡◌, ◌≤◌, false, length, map, IfOk, IsOk, option_map, string_bytes};
+ghost use Rattle.clap.specs.Words.{FailsBy, app_of, found_of, rows_of, rule_of, subcommand_rows_of};
+ghost use Rattle.clap.specs.declared.builder.command.Command.TheViews.{out-Command as fields_of};
+ghost use Rattle.command_arguments.specs.Arguments.{asked_command, asked_layout, asked_store, command_in, command_of, join_command, layout_in, layout_option, number_option, play_command, program, site_command, site_in, site_option, store_in, store_option, tables_flag, usage_errors};
+
+use crate::help;
+use clap::{Arg, ArgAction, ArgMatches, Command as Parser, Error, value_parser};
+use std::alloc::{AllocError, Global};
+
+/// What the program is asked for.
+#[derive(Clone, Copy)]
+pub enum Command {
+    /// The lines of the input are deltas, which are joined.
+    Join,
+    /// The lines of the input are events at several sites, which are played.
+    Play {
+        /// Whether the tables of seats and sessions follow.
+        tables: bool,
+        /// How many sites the first sites begin with, if not with all.
+        first: Option<u16>,
+    },
+    /// The lines of the input are calls at one site, which are served over its store.
+    Site {
+        /// The site's number.
+        site: u16,
+    },
+}
+
+/// A command and the paths of the files that are named.
+#[derive(Clone, Copy)]
+pub struct Request<'a> {
+    pub command: Command,
+    /// The layout file, if one is named.
+    pub layout: Option<&'a str>,
+    /// The file of the site's store: `site` has one, and no other command.
+    pub store: Option<&'a str>,
+}
+
+/// What the arguments ask for. The first is the program's own name; without a further one it is `join`, for which no
+/// memory is taken.
+pub fn requested<'a>(alloc: Global, arguments: &'a [String]) -> Result<Request<'a>, Error>
+    ensures command { IfOk result (λ asked. asked.command ≡ asked_command (map string_bytes arguments.now)) }
+    ensures layout { IfOk result (λ asked. option_map (λ path. path.now) asked.layout ≡ asked_layout (map string_bytes arguments.now)) }
+    ensures store { IfOk result (λ asked. option_map (λ path. path.now) asked.store ≡ asked_store (map string_bytes arguments.now)) }
+    // An error comes just where clap's rules find one, and is of a kind that they give, or memory ran out.
+    ensures refused { FailsBy (usage_errors (map string_bytes arguments.now)) result }
+    ensures bare { length arguments.now ≤ 1 → IsOk result }
+{
+    if arguments.len() <= 1 {
+        return Ok(Request {
+            command: Command::Join,
+            layout: None,
+            store: None,
+        });
+    }
+    let matches = parser(alloc)?.try_get_matches_from(arguments)?;
+    Ok(request_in(&matches))
+}
+
+// What the arguments' matches ask for.
+fn request_in<'a>(matches: &ArgMatches<'a>) -> Request<'a>
+    ensures command { result.command ≡ command_in (subcommand_rows_of matches.now) }
+    ensures layout { option_map (λ path. path.now) result.layout ≡ layout_in (subcommand_rows_of matches.now) }
+    ensures store { option_map (λ path. path.now) result.store ≡ store_in (subcommand_rows_of matches.now) }
+{
+    let Some((name, found)) = matches.subcommand() else {
+        return Request {
+            command: Command::Join,
+            layout: None,
+            store: None,
+        };
+    };
+    Request {
+        command: command_of(name, found),
+        layout: found.get_str("layout"),
+        store: found.get_str("store"),
+    }
+}
+
+// The command of this name, with the values of its options.
+fn command_of(name: &str, found: &ArgMatches) -> Command
+    ensures { result ≡ command_of name.now (rows_of (found_of found.now)) }
+{
+    if name == "play" {
+        return Command::Play {
+            tables: found.get_one::<bool>("tables").unwrap_or(false),
+            first: found.get_one::<u16>("from"),
+        };
+    }
+    if name == "site" {
+        return Command::Site {
+            site: site_in(found),
+        };
+    }
+    Command::Join
+}
+
+// The number of the site; 0 where there is none, which clap refuses.
+fn site_in(found: &ArgMatches) -> u16
+    ensures { result ≡ site_in (rows_of (found_of found.now)) }
+{
+    found.get_one::<u16>("site").unwrap_or(0)
+}
+
+// The program as clap is told of it.
+fn parser<'a>(alloc: Global) -> Result<Parser<'a>, AllocError>
+    ensures { IfOk result (λ built. app_of built ≡ program) }
+{
+    let join = join_parser(alloc)?;
+    let play = play_parser(alloc)?;
+    let site = site_parser(alloc)?;
+    Parser::new(alloc, "seat_cli")
+        .version("0.1.0")
+        .override_usage("seat_cli [COMMAND]")
+        .about(help::PROGRAM)
+        .after_help(help::PROGRAM_NOTES)
+        .subcommand_required(true)
+        .disable_help_subcommand(true)
+        .subcommand(join)?
+        .subcommand(play)?
+        .subcommand(site)
+}
+
+// The command `join`.
+fn join_parser<'a>(alloc: Global) -> Result<Parser<'a>, AllocError>
+    ensures { IfOk result (λ built. (app_of built ≡ join_command) × ((fields_of built).has_globals ≡ false)) }
+{
+    let layout = layout_option(alloc);
+    Parser::new(alloc, "join")
+        .override_usage("seat_cli join [--layout FILE]")
+        .about(help::JOIN)
+        .after_help(help::JOIN_NOTES)
+        .arg(layout)
+}
+
+// The command `play`.
+fn play_parser<'a>(alloc: Global) -> Result<Parser<'a>, AllocError>
+    ensures { IfOk result (λ built. (app_of built ≡ play_command) × ((fields_of built).has_globals ≡ false)) }
+{
+    let tables = tables_flag(alloc);
+    let first = number_option(alloc, "from", "M", help::FIRST);
+    let layout = layout_option(alloc);
+    Parser::new(alloc, "play")
+        .override_usage("seat_cli play [--tables] [--from M] [--layout FILE]")
+        .about(help::PLAY)
+        .after_help(help::PLAY_NOTES)
+        .arg(tables)?
+        .arg(first)?
+        .arg(layout)
+}
+
+// The command `site`.
+fn site_parser<'a>(alloc: Global) -> Result<Parser<'a>, AllocError>
+    ensures { IfOk result (λ built. (app_of built ≡ site_command) × ((fields_of built).has_globals ≡ false)) }
+{
+    let site = site_option(alloc);
+    let store = store_option(alloc);
+    let layout = layout_option(alloc);
+    Parser::new(alloc, "site")
+        .override_usage("seat_cli site --site I --store FILE [--layout FILE]")
+        .about(help::SITE)
+        .after_help(help::SITE_NOTES)
+        .arg(site)?
+        .arg(store)?
+        .arg(layout)
+}
+
+// The option `--layout FILE`.
+fn layout_option<'a>(alloc: Global) -> Arg<'a>
+    ensures rule { rule_of result ≡ layout_option }
+    ensures local { result.global ≡ false }
+{
+    Arg::new(alloc, "layout")
+        .long("layout")
+        .value_name("FILE")
+        .help(help::LAYOUT)
+        .action(ArgAction::Set)
+}
+
+// The flag `--tables`.
+fn tables_flag<'a>(alloc: Global) -> Arg<'a>
+    ensures rule { rule_of result ≡ tables_flag }
+    ensures local { result.global ≡ false }
+{
+    Arg::new(alloc, "tables")
+        .long("tables")
+        .help(help::TABLES)
+        .action(ArgAction::SetTrue)
+}
+
+// The option `--site I`, which is needed.
+fn site_option<'a>(alloc: Global) -> Arg<'a>
+    ensures rule { rule_of result ≡ site_option }
+    ensures local { result.global ≡ false }
+{
+    number_option(alloc, "site", "I", help::SITE_NUMBER).required(true)
+}
+
+// The option `--store FILE`, which is needed.
+fn store_option<'a>(alloc: Global) -> Arg<'a>
+    ensures rule { rule_of result ≡ store_option }
+    ensures local { result.global ≡ false }
+{
+    Arg::new(alloc, "store")
+        .long("store")
+        .value_name("FILE")
+        .help(help::STORE)
+        .required(true)
+        .action(ArgAction::Set)
+}
+
+// An option whose value is a number from 0 to 65,535.
+fn number_option<'a>(alloc: Global, name: &'a str, value: &'a str, about: &'a str) -> Arg<'a>
+    ensures rule { rule_of result ≡ number_option name.now }
+    ensures local { result.global ≡ false }
+{
+    let option = Arg::new(alloc, name)
+        .long(name)
+        .value_name(value)
+        .help(about)
+        .action(ArgAction::Set);
+    option.value_parser(value_parser!(u16))
+}

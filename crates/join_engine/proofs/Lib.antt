@@ -1,0 +1,3 @@
+mod ExampleLemmas
+mod JoinLaws
+mod LineLemmas

@@ -1,9 +1,0 @@
-mod ArgumentLemmas
-mod EngineLemmas
-mod ExampleLemmas
-mod JoinLaws
-mod LayoutLemmas
-mod LineLemmas
-mod ScriptLemmas
-mod SiteLemmas
-mod StoredLemmas

@@ -1,5 +1,0 @@
-use Rattle.seat_cli.proofs.LayoutLemmas.{keys_counted}
-use Rattle.seat_cli.proofs.layout_file.key_count.Goals as goal
-
-pub returns-in-Some : goal.returns-in-Some
-returns-in-Some c = keys_counted _ c.in-Some.table.now.entries c.len.result c.in-Some.ensures c.len.ensures.len

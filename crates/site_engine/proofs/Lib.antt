@@ -1,0 +1,2 @@
+mod SiteLemmas
+pub mod StoredLemmas
