@@ -148,7 +148,7 @@ module _ {K : Type 0} where
     pub found : Finds g old new (λ e. log.first ≡ e)
     pub no_fault : g.faults_of new ≡ 0
 
-  -- why there are none
+  -- why there are none; want of memory never stands in place of the store's fault
   abbrev pub IsNoBegin : Ghosts K → K → K → LayoutState → ℕ → OpenError → Type 0
   IsNoBegin g old new layout i BadSite = ⊥
   IsNoBegin g old new layout i BadPasses = ⊥
@@ -157,7 +157,7 @@ module _ {K : Type 0} where
   IsNoBegin g old new layout i WrongCounters = Finds g old new (λ d. ¬ AreCells layout i d.cells)
   IsNoBegin g old new layout i WrongSessions =
       Finds g old new (λ d. AreCells layout i d.cells × (¬ AreSessions layout i d.cells d.sessions))
-  IsNoBegin g old new layout i Memory = Unit {0}
+  IsNoBegin g old new layout i Memory = g.faults_of new ≡ 0
 
   -- the answer to what a keeper gives back
   abbrev pub IsBegun : Ghosts K → K → K → LayoutState → ℕ → ℕ → Result (Core × LogState) OpenError → Type 0

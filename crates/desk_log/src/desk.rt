@@ -40,7 +40,7 @@ impl<K: Keeper> Model for Desk<K> {
 }
 
 impl<K: Keeper> Desk<K> {
-    ghost use Rattle.std.specs.Prelude.{◌≡◌, ℕ, ◌<◌, ◌≤◌, length, true};
+    ghost use Rattle.std.specs.Prelude.{◌≡◌, ℕ, ◌<◌, ◌≤◌, length, true, false};
     ghost use Rattle.seat_rows.specs.Seats.{inside_of};
     ghost use Rattle.merge_core.specs.Book.{seats_at};
     ghost use Rattle.admission_model.specs.Account.{inside};
@@ -178,6 +178,7 @@ impl<K: Keeper> Desk<K> {
     pub fn into_keeper(self) -> K
         ensures keeper { result ≡ self.keeper }
         ensures made_for { IsMadeFor K.Keeper result self.core.layout self.core.site }
+        ensures no_fault { is_frozen self ≡ false → K.faults_of result ≡ 0 }
         ensures honest { K.is_honest result → K.is_honest self.opened }
         ensures kept { K.keeps self.opened self.log.first → Leaves K.Keeper (is_frozen self) result (account_of self) (account_if_kept self) }
     {

@@ -1,7 +1,8 @@
 //! Closing a site: what its passes hold is compared with the log, and the log is given away.
-ghost use Rattle.std.specs.Prelude.{◌≡◌, ◌≢◌, ◌+◌, ◌<◌, ◌≤◌, ◌++◌, ◌↔◌, [], ◌∷◌, All, IsTrue, IfOk, IfErr, IfSome, None, false, length, take, vec_capacity};
+ghost use Rattle.std.specs.Prelude.{◌≡◌, ◌≢◌, ℕ, List, ◌+◌, ◌<◌, ◌≤◌, ◌++◌, ◌↔◌, [], ◌∷◌, All, IsTrue, IfOk, IfErr, IfSome, None, false, length, take, vec_capacity};
 ghost use Rattle.desk_log.specs.Log.{ends_in_fault};
-ghost use Rattle.session_book.specs.declared.error.CloseError.TheVariants.{PassMissing};
+ghost use Rattle.desk_log.specs.declared.entry.Entry.{Entry as EntryThere};
+ghost use Rattle.session_book.specs.declared.error.CloseError.TheVariants.{PassMissing, Mismatch};
 ghost use Rattle.session_book.specs.Passes.{receipts_of, receipts_in};
 ghost use Rattle.session_book.specs.Sites.{AreAll, BearsOut, has_number, IsSameOpening};
 
@@ -51,6 +52,8 @@ pub(crate) fn checked<K: Keeper, L: Ledger>(
     ensures each { IfOk result (λ _. All (BearsOut limit desk.now.log.entries) passes.now) }
     ensures room { IfOk result (λ runs. (runs.items ≡ []) × (1 ≤ vec_capacity runs)) }
     ensures all_there { IfErr result (λ e. e ≢ PassMissing) }
+    ensures astray { IfErr result (λ e. (pass at : ℕ) → e ≡ Mismatch pass at
+        → ¬ (IsSameOpening desk.now layout.now site first.now limit × All (BearsOut limit desk.now.log.entries) passes.now)) }
 {
     if !is_same_opening(desk, layout, site, first, limit) {
         return Err(CloseError::Mismatch { pass: 0, at: 0 });
@@ -76,7 +79,7 @@ fn is_same_opening<K: Keeper>(
     first: &Durable,
     limit: usize,
 ) -> bool
-    ensures { IsTrue result → IsSameOpening desk.now layout.now site first.now limit }
+    ensures { IsTrue result ↔ IsSameOpening desk.now layout.now site first.now limit }
 {
     let core = desk.core();
     core.site() == site
@@ -88,7 +91,7 @@ fn is_same_opening<K: Keeper>(
 // The first receipt of a pass that a log does not bear out, or the number of its receipts, where that is a mark.
 fn astray<L: Ledger>(entries: &[Entry], frozen: bool, limit: usize, pass: &Pass<L>) -> Option<usize>
     requires { frozen ≡ ends_in_fault false entries.now }
-    ensures { result ≡ None → BearsOut limit entries.now pass.now }
+    ensures { (result ≡ None) ↔ BearsOut limit entries.now pass.now }
 {
     if let Some(at) = first_other(entries, pass.number(), pass.receipts()) {
         return Some(at);
@@ -104,7 +107,7 @@ fn astray<L: Ledger>(entries: &[Entry], frozen: bool, limit: usize, pass: &Pass<
 
 // The first receipt that is not the log's, of the pass with this number.
 fn first_other(entries: &[Entry], number: u16, receipts: &[Receipt]) -> Option<usize>
-    ensures { result ≡ None → receipts_of number entries.now ≡ receipts.now }
+    ensures { (result ≡ None) ↔ (receipts_of number entries.now ≡ receipts.now) }
 {
     let mut next = 0;
     'entries: for i in 0..entries.len() {
@@ -122,8 +125,9 @@ fn first_other(entries: &[Entry], number: u16, receipts: &[Receipt]) -> Option<u
 // How many receipts are borne out with one more entry, if it is no other than the next of them.
 fn followed(entry: &Entry, number: u16, receipts: &[Receipt], next: usize) -> Option<usize>
     requires { next ≤ length receipts.now }
-    ensures { IfSome result (λ after. (after ≤ length receipts.now)
+    ensures followed { IfSome result (λ after. (after ≤ length receipts.now)
         × (take after receipts.now ≡ take next receipts.now ++ receipts_of number (entry.now ∷ []))) }
+    ensures other { result ≡ None → (rest : List EntryThere) → take next receipts.now ++ receipts_of number (entry.now ∷ rest) ≢ receipts.now }
 {
     if entry.pass != number {
         return Some(next);
@@ -139,7 +143,7 @@ fn followed(entry: &Entry, number: u16, receipts: &[Receipt], next: usize) -> Op
 
 // Whether a receipt is that of an entry.
 fn is_receipt(entry: &Entry, receipt: &Receipt) -> bool
-    ensures { IsTrue result → receipt.now ≡ record { call = entry.now.call; reply = entry.now.reply } }
+    ensures { IsTrue result ↔ (receipt.now ≡ record { call = entry.now.call; reply = entry.now.reply }) }
 {
     same_call(&receipt.call, &entry.call) && same_reply(&receipt.reply, &entry.reply)
 }

@@ -27,13 +27,16 @@ pub struct Site<K: Keeper, L: Opening> {
     locked: Mutex<Locked<K, L>>,
 }
 
-// Contracts see what the site was opened with.
+// Contracts see what the site was opened with. It gave out a pass for each part of its ledger.
 impl<K: Keeper, L: Opening> Model for Site<K, L> {
+    ghost use Rattle.std.specs.Prelude.{◌≡◌};
     ghost use Rattle.session_book.specs.Sites.{SiteState};
 
     ghost Value = { SiteState };
 
     ghost view = { λ s. record { layout = s.layout; site = s.site; first = s.first; limit = s.limit; passes = s.passes } };
+
+    ghost invariant = { λ s. s.passes ≡ L.parts };
 }
 
 impl<K: Keeper + Drop, L: Opening> Drop for Site<K, L> {
@@ -161,7 +164,6 @@ impl<K: Keeper, L: Opening> Site<K, L> {
         _rt: &R,
         passes: Vec<Pass<L>>,
     ) -> Result<(Transcript, K), (CloseError, Site<K, L>, Vec<Pass<L>>)>
-        requires { self.passes ≡ L.parts }
         ensures { IsClosing K.Keeper L.kept self passes result }
     {
         if !are_all(passes.as_slice(), self.passes) {

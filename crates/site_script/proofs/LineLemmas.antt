@@ -12,9 +12,9 @@ use Rattle.delta_codec.specs.declared.fault.DecodeError.{DecodeError}
 use Rattle.site_script.specs.declared.lines.Said.{Said}
 use Rattle.site_script.specs.declared.lines.Said.TheVariants.{Unread}
 use Rattle.site_script.specs.Lines.{Says}
-use Rattle.site_script.specs.Served.{no_delta_line, AreSaid, AnswersAll, AnswersUpTo, Answers, IsServed, IsStopped, Serves, Stops, places_of, SameOpening, Grows}
-use Rattle.site_script.specs.Steps.{AnsweredAs, HasAnswered, AnsweredSoFar, AnswersLine, AnswersNone, AnswersOne}
-use Rattle.site_script.proofs.StepLemmas.{unread_more}
+use Rattle.site_script.specs.Served.{no_delta_line, AreSaid, AnswersAll, AnswersUpTo, Answers, IsServed, IsStopped, Serves, Stops, StaysStopped, frozen_answers, places_of, SameOpening, Grows}
+use Rattle.site_script.specs.Steps.{AnsweredAs, HasAnswered, AnsweredFrom, AnsweredSoFar, AnswersLine, AnswersNone, AnswersOne}
+use Rattle.site_script.proofs.StepLemmas.{unread_from}
 
 -- one line more that says something
 said_more : (records : List RecordSpec) (lines : List (List ℕ)) (all : List Said) (line : List ℕ) (said : Said) → AreSaid records lines all → Says records line (Some said) → AreSaid records (lines ++ line ∷ []) (all ++ said ∷ [])
@@ -68,17 +68,26 @@ weaker A B records lines false text so to = record {
   text_is = to.text_is;
 }
 
--- a desk that still serves, and one that has stopped
-module _ {K : Type 0} (a : Account) (left : ℕ) (d : DeskState K) (records : List RecordSpec) (lines : List (List ℕ)) (whole : Bool) (text : List ℕ) (all : Answers (HasAnswered a left d) records lines whole text) where
-  pub all_served : is_frozen d ≡ false → Serves a left records lines whole text (account_of d)
-  all_served runs =
-      weaker (HasAnswered a left d) (IsServed a left (account_of d)) records lines whole text
-      (λ said t has. (subst (λ (b : Bool). AnsweredAs b a left (account_of d) (account_if_kept d) (places_of d) said t) runs has).0) all
+-- a desk that still serves, one that has stopped, and one that had stopped before
+module _ {K : Type 0} (was : Bool) (a : Account) (left : ℕ) (d : DeskState K) (records : List RecordSpec) (lines : List (List ℕ)) (whole : Bool) (text : List ℕ) (all : Answers (AnsweredFrom was a left d) records lines whole text) where
+  begun : (b : Bool) → was ≡ b → Answers (AnsweredFrom b a left d) records lines whole text
+  begun b is = subst (λ (c : Bool). Answers (AnsweredFrom c a left d) records lines whole text) is all
 
-  pub all_stopped : is_frozen d ≡ true → Stops a left records lines whole text (account_of d) (account_if_kept d)
-  all_stopped frozen =
+  pub all_served : was ≡ false → is_frozen d ≡ false → Serves a left records lines whole text (account_of d)
+  all_served ran runs =
+      weaker (HasAnswered a left d) (IsServed a left (account_of d)) records lines whole text
+      (λ said t has. (subst (λ (b : Bool). AnsweredAs b a left (account_of d) (account_if_kept d) (places_of d) said t) runs has).0)
+      (begun false ran)
+
+  pub all_stopped : was ≡ false → is_frozen d ≡ true → Stops a left records lines whole text (account_of d) (account_if_kept d)
+  all_stopped ran frozen =
       weaker (HasAnswered a left d) (IsStopped a left (account_of d) (account_if_kept d)) records lines whole text
-      (λ said t has. subst (λ (b : Bool). AnsweredAs b a left (account_of d) (account_if_kept d) (places_of d) said t) frozen has) all
+      (λ said t has. subst (λ (b : Bool). AnsweredAs b a left (account_of d) (account_if_kept d) (places_of d) said t) frozen has)
+      (begun false ran)
+
+  pub all_frozen : was ≡ true → StaysStopped records lines whole text
+  all_frozen stood =
+      weaker (AnsweredFrom true a left d) (λ said t. t ≡ frozen_answers said) records lines whole text (λ said t has. has.1) (begun true stood)
 
 -- desks of one opening
 pub opening_kept : {K : Type 0} (c d e : DeskState K) → SameOpening c d → SameOpening d e → SameOpening c e
@@ -93,37 +102,41 @@ opening_kept c d e first second = record {
 -- a line with a text that is no delta's
 pub line_of_no_delta : {K : Type 0} (d : DeskState K) (records : List RecordSpec) (line : List ℕ) (read : Option Said) (said : Said) (e : DecodeError) (old new : List ℕ)
     → Says records line read → read ≡ Some said → said ≡ Unread e → new ≡ old ++ no_delta_line e
-    → (a : Account) (left : ℕ) → AnswersLine (HasAnswered a left d) (HasAnswered a left d) records line old new
-line_of_no_delta d records line read said e old new says is unread text a left = record {
+    → (was : Bool) (a : Account) (left : ℕ) → AnswersLine (AnsweredFrom was a left d) (AnsweredFrom was a left d) records line old new
+line_of_no_delta d records line read said e old new says is unread text was a left = record {
   said = Unread e;
   read = subst (λ (o : Option Said). Says records line o) (is ∙ ap Some unread) says;
-  answered = λ before has. subst (λ (t : List ℕ). HasAnswered a left d (before ++ Unread e ∷ []) t) (sym text) (unread_more a left d before old e has);
+  answered = λ before has. subst (λ (t : List ℕ). AnsweredFrom was a left d (before ++ Unread e ∷ []) t) (sym text) (unread_from was a left d before old e has);
 }
 
 -- one line of a script that began at desk s and has come to desk d
 module _ {K : Type 0} (s d e : DeskState K) (lines : List (List ℕ)) (rest line tail : List ℕ) (number : ℕ) (old new : List ℕ) (read : Bool)
-    (so_far : is_frozen s ≡ false → AnsweredSoFar (HasAnswered (account_of s) (places_of s) d) s.core.layout.records lines (lines_of rest) number old)
+    (so_far : AnsweredSoFar (AnsweredFrom (is_frozen s) (account_of s) (places_of s) d) s.core.layout.records lines (lines_of rest) number old)
     (same : d.core.layout ≡ s.core.layout) (cut : lines_of rest ≡ line ∷ lines_of tail)
-    (one : (a : Account) (left : ℕ) → AnswersOne (HasAnswered a left d) (HasAnswered a left e) d.core.layout.records line (number + 1) read old new) where
+    (one : (was : Bool) (a : Account) (left : ℕ) → AnswersOne (AnsweredFrom was a left d) (AnsweredFrom was a left e) d.core.layout.records line (number + 1) read old new) where
   abbrev Before : List Said → List ℕ → Type 0
-  Before = HasAnswered (account_of s) (places_of s) d
+  Before = AnsweredFrom (is_frozen s) (account_of s) (places_of s) d
 
   abbrev Behind : List Said → List ℕ → Type 0
-  Behind = HasAnswered (account_of s) (places_of s) e
+  Behind = AnsweredFrom (is_frozen s) (account_of s) (places_of s) e
 
-  come : is_frozen s ≡ false → AnsweredSoFar Before s.core.layout.records lines (line ∷ lines_of tail) number old
-  come runs = subst (λ (ls : List (List ℕ)). AnsweredSoFar Before s.core.layout.records lines ls number old) cut (so_far runs)
+  come : AnsweredSoFar Before s.core.layout.records lines (line ∷ lines_of tail) number old
+  come = subst (λ (ls : List (List ℕ)). AnsweredSoFar Before s.core.layout.records lines ls number old) cut so_far
 
   this : (b : Bool) → read ≡ b → AnswersOne Before Behind s.core.layout.records line (number + 1) b old new
   this b is =
       subst (λ (l : LayoutState). AnswersOne Before Behind l.records line (number + 1) b old new) same
-      (subst (λ (c : Bool). AnswersOne Before Behind d.core.layout.records line (number + 1) c old new) is (one (account_of s) (places_of s)))
+      (subst (λ (c : Bool). AnswersOne Before Behind d.core.layout.records line (number + 1) c old new) is (one (is_frozen s) (account_of s) (places_of s)))
 
-  pub line_read : read ≡ true → is_frozen s ≡ false → AnsweredSoFar Behind s.core.layout.records lines (lines_of tail) (number + 1) new
-  line_read is runs = line_answered Before Behind s.core.layout.records lines (lines_of tail) line number old new (come runs) (this true is)
+  pub line_read : read ≡ true → AnsweredSoFar Behind s.core.layout.records lines (lines_of tail) (number + 1) new
+  line_read is = line_answered Before Behind s.core.layout.records lines (lines_of tail) line number old new come (this true is)
 
-  pub line_not_read : read ≡ false → is_frozen s ≡ false → AnswersUpTo Behind s.core.layout.records lines new
-  line_not_read is runs = line_unread Before Behind s.core.layout.records lines (lines_of tail) line number old new (come runs) (this false is)
+  pub line_not_read : read ≡ false → AnswersUpTo Behind s.core.layout.records lines new
+  line_not_read is = line_unread Before Behind s.core.layout.records lines (lines_of tail) line number old new come (this false is)
+
+-- a desk that had stopped before is as it was
+pub stays_on : {K : Type 0} (s d e : DeskState K) → (is_frozen s ≡ true → d ≡ s) → (is_frozen d ≡ true → e ≡ d) → is_frozen s ≡ true → e ≡ s
+stays_on s d e first second frozen = second (ap is_frozen (first frozen) ∙ frozen) ∙ first frozen
 
 both_of : (pass : ℕ) (es fs : List Entry) → AllByRecursion (λ (e : Entry). e.pass ≡ pass) es → AllByRecursion (λ (e : Entry). e.pass ≡ pass) fs → AllByRecursion (λ (e : Entry). e.pass ≡ pass) (es ++ fs)
 both_of pass [] fs these those = those

@@ -19,7 +19,7 @@ use Rattle.desk_log.proofs.LogLemmas.{ends-push, after-push, after_answered, aft
 use Rattle.site_script.specs.declared.lines.Said.{Said}
 use Rattle.site_script.specs.declared.lines.Said.TheVariants.{Asked, Unread}
 use Rattle.site_script.specs.Served.{no_delta_line, answers, account_after, places_after, frozen_answers, IsStopped, places_of, Grows}
-use Rattle.site_script.specs.Steps.{ServedAs, AnsweredAs, HasAnswered}
+use Rattle.site_script.specs.Steps.{ServedAs, AnsweredAs, HasAnswered, AnsweredFrom}
 use Rattle.site_script.proofs.AnswerLemmas.{line_of, answers_more, account_more, places_more, frozen_more}
 use Rattle.delta_codec.specs.declared.fault.DecodeError.{DecodeError}
 
@@ -82,6 +82,15 @@ unread_more a left d said text e was = at (is_frozen d) was
     at : (frozen : Bool) → AnsweredAs frozen a left (account_of d) (account_if_kept d) (places_of d) said text → AnsweredAs frozen a left (account_of d) (account_if_kept d) (places_of d) (said ++ Unread e ∷ []) (text ++ no_delta_line e)
     at false has = served_more a left (account_of d) (places_of d) said text has (Unread e) (no_delta_line e) (account_of d) (places_of d) (append-nil (no_delta_line e)) refl refl
     at true has = stopped_more a left (account_of d) (account_if_kept d) said text has (Unread e) (no_delta_line e) (append-nil (no_delta_line e))
+
+-- the same from wherever the desk stood before the script
+pub unread_from : {K : Type 0} (was : Bool) (a : Account) (left : ℕ) (d : DeskState K) (said : List Said) (text : List ℕ) (e : DecodeError) → AnsweredFrom was a left d said text → AnsweredFrom was a left d (said ++ Unread e ∷ []) (text ++ no_delta_line e)
+unread_from false a left d said text e has = unread_more a left d said text e has
+unread_from true a left d said text e has = (
+  has.0,
+  ap (λ (t : List ℕ). t ++ no_delta_line e) has.1
+  ∙ (ap (λ (t : List ℕ). frozen_answers said ++ t) (sym (append-nil (no_delta_line e))) ∙ sym (frozen_more said (Unread e))),
+)
 
 -- the log grows by an entry, or stays
 pub log_grows : {K : Type 0} (g : Ghosts K) (old new : DeskState K) (pass : ℕ) (call : Call) (reply : Reply) → IsServing g old new pass call reply → Grows pass old new
@@ -195,11 +204,20 @@ module _ {K : Type 0} (g : Ghosts K) (old new : DeskState K) (pass : ℕ) (call 
 -- its reply, written with LF
 pub call_answered : {K : Type 0} (g : Ghosts K) (old new : DeskState K) (pass : ℕ) (call : Call) (reply : Reply) → IsServing g old new pass call reply → is_memory reply ≡ false
     → (text with_reply line : List ℕ) → with_reply ≡ text ++ reply_text reply → line ≡ with_reply ++ codes "\n"
-    → (a : Account) (left : ℕ) (said : List Said) → HasAnswered a left old said text → HasAnswered a left new (said ++ Asked call ∷ []) line
-call_answered {K} g old new pass call reply is there text with_reply line first second a left said was =
-    subst (λ (t : List ℕ). HasAnswered a left new (said ++ Asked call ∷ []) t)
+    → (was : Bool) (a : Account) (left : ℕ) (said : List Said) → AnsweredFrom was a left old said text → AnsweredFrom was a left new (said ++ Asked call ∷ []) line
+call_answered {K} g old new pass call reply is there text with_reply line first second was a left said has =
+    subst (λ (t : List ℕ). AnsweredFrom was a left new (said ++ Asked call ∷ []) t)
     (sym (second ∙ (ap (λ (t : List ℕ). t ++ codes "\n") first ∙ append_assoc text (reply_text reply) (codes "\n"))))
-    (call_more g old new pass call reply is found a left said text was)
+    (more was has)
   where
     found : reply ≡ Refused Memory → ⊥
     found e = let both : false ≡ true = sym there ∙ ap is_memory e in cc
+
+    more : (b : Bool) → AnsweredFrom b a left old said text → AnsweredFrom b a left new (said ++ Asked call ∷ []) (text ++ line_of reply)
+    more false so_far = call_more g old new pass call reply is found a left said text so_far
+    more true so_far =
+        let told = is.frozen so_far.0 in (
+          ap is_frozen told.1 ∙ so_far.0,
+          ap (λ (t : List ℕ). t ++ line_of reply) so_far.1
+          ∙ (ap (λ (r : Reply). frozen_answers said ++ line_of r) told.0 ∙ sym (frozen_more said (Asked call))),
+        )

@@ -103,6 +103,10 @@ Serves a left records lines whole text b = Answers (IsServed a left b) records l
 abbrev pub Stops : Account → ℕ → List RecordSpec → List (List ℕ) → Bool → List ℕ → Account → Account → Type 0
 Stops a left records lines whole text b tried = Answers (IsStopped a left b tried) records lines whole text
 
+-- The same where the store had failed before the script began: each call is told so.
+abbrev pub StaysStopped : List RecordSpec → List (List ℕ) → Bool → List ℕ → Type 0
+StaysStopped records lines whole text = Answers (λ said t. t ≡ frozen_answers said) records lines whole text
+
 module _ {K : Type 0} where
   -- the places that are left in a desk's log
   abbrev pub places_of : DeskState K → ℕ

@@ -6,7 +6,7 @@ use Rattle.script_text.specs.Replies.{unread_line}
 use Rattle.desk_log.specs.Desk.{DeskState, account_of, account_if_kept, is_frozen}
 use Rattle.site_script.specs.declared.lines.Said.{Said}
 use Rattle.site_script.specs.Lines.{Says}
-use Rattle.site_script.specs.Served.{places_after, places_of, IsServed, IsStopped, AnswersAll}
+use Rattle.site_script.specs.Served.{places_after, places_of, frozen_answers, IsServed, IsStopped, AnswersAll}
 
 -- the answers of a desk that still serves, with its account b and so many places now
 abbrev pub ServedAs : Account → ℕ → Account → ℕ → List Said → List ℕ → Type 0
@@ -20,6 +20,11 @@ AnsweredAs true a left b tried now said text = IsStopped a left b tried said tex
 -- a desk has answered what was said by this text, from an account and with so many places in the log
 abbrev pub HasAnswered : {K : Type 0} → Account → ℕ → DeskState K → List Said → List ℕ → Type 0
 HasAnswered a left d said text = AnsweredAs (is_frozen d) a left (account_of d) (account_if_kept d) (places_of d) said text
+
+-- the same of a desk that had stopped before the script, or had not
+abbrev pub AnsweredFrom : {K : Type 0} → Bool → Account → ℕ → DeskState K → List Said → List ℕ → Type 0
+AnsweredFrom false a left d said text = HasAnswered a left d said text
+AnsweredFrom true a left d said text = (is_frozen d ≡ true) × (text ≡ frozen_answers said)
 
 -- so many lines are answered, and the rest is still to come
 pub record AnsweredSoFar (A : List Said → List ℕ → Type 0) (records : List RecordSpec) (lines rest : List (List ℕ)) (number : ℕ) (text : List ℕ) : Type 0 where

@@ -1,13 +1,13 @@
 //! Carrying out a site's script: its lines are served one by one.
-ghost use Rattle.std.specs.Prelude.{◌≡◌, ◌++◌, ℕ, List, [], ◌∷◌, true, false, codes, string_bytes, IfOk};
+ghost use Rattle.std.specs.Prelude.{◌≡◌, ◌++◌, ℕ, Bool, List, [], ◌∷◌, true, false, codes, string_bytes, IfOk};
 ghost use Rattle.admission_model.specs.Account.{Account};
 ghost use Rattle.admission_core.specs.Core.{is_memory};
 ghost use Rattle.text_input.specs.Lines.{lines_of};
 ghost use Rattle.desk_log.specs.Desk.{account_of, account_if_kept, is_frozen};
 ghost use Rattle.site_script.specs.declared.lines.Said.{Said as SaidThere};
 ghost use Rattle.site_script.specs.declared.lines.Said.TheVariants.{Asked};
-ghost use Rattle.site_script.specs.Served.{SameOpening, Grows, Serves, Stops, no_delta_line, places_of};
-ghost use Rattle.site_script.specs.Steps.{HasAnswered, AnswersOne};
+ghost use Rattle.site_script.specs.Served.{SameOpening, Grows, Serves, Stops, StaysStopped, no_delta_line, places_of};
+ghost use Rattle.site_script.specs.Steps.{AnsweredFrom, AnswersOne};
 
 use crate::lines::{Said, said_in};
 use admission_core::{Call, Refusal, Reply};
@@ -46,6 +46,9 @@ pub fn serve_script<K: Keeper>(
     ensures stopped { IfOk result (λ served. is_frozen desk.old ≡ false → is_frozen desk.new ≡ true
         → Stops (account_of desk.old) (places_of desk.old) desk.old.core.layout.records (lines_of script.now)
         served.whole (string_bytes served.text) (account_of desk.new) (account_if_kept desk.new)) }
+    ensures stays { IfOk result (λ served. is_frozen desk.old ≡ true
+        → StaysStopped desk.old.core.layout.records (lines_of script.now) served.whole (string_bytes served.text)) }
+    ensures still { is_frozen desk.old ≡ true → desk.new ≡ desk.old }
 {
     let mut text = String::new(alloc);
     let mut rest = script;
@@ -72,8 +75,10 @@ fn serve_line<K: Keeper>(
 ) -> Result<bool, AllocError>
     ensures opening { SameOpening desk.old desk.new }
     ensures grown { Grows pass desk.old desk.new }
-    ensures line { IfOk result (λ read. (a : Account) (left : ℕ)
-        → AnswersOne (HasAnswered a left desk.old) (HasAnswered a left desk.new) desk.old.core.layout.records line.now number read (string_bytes text.old) (string_bytes text.new)) }
+    ensures still { is_frozen desk.old ≡ true → desk.new ≡ desk.old }
+    ensures line { IfOk result (λ read. (was : Bool) (a : Account) (left : ℕ)
+        → AnswersOne (AnsweredFrom was a left desk.old) (AnsweredFrom was a left desk.new) desk.old.core.layout.records
+        line.now number read (string_bytes text.old) (string_bytes text.new)) }
 {
     let Some(said) = said_in(alloc, desk.core().layout(), line)? else {
         push_unread_line(text, number)?;
@@ -95,8 +100,10 @@ fn answer_call<K: Keeper>(
 ) -> Result<(), AllocError>
     ensures opening { SameOpening desk.old desk.new }
     ensures grown { Grows pass desk.old desk.new }
-    ensures answered { IfOk result (λ _. (a : Account) (left : ℕ) (said : List SaidThere)
-        → HasAnswered a left desk.old said (string_bytes text.old) → HasAnswered a left desk.new (said ++ Asked call.now ∷ []) (string_bytes text.new)) }
+    ensures still { is_frozen desk.old ≡ true → desk.new ≡ desk.old }
+    ensures answered { IfOk result (λ _. (was : Bool) (a : Account) (left : ℕ) (said : List SaidThere)
+        → AnsweredFrom was a left desk.old said (string_bytes text.old)
+        → AnsweredFrom was a left desk.new (said ++ Asked call.now ∷ []) (string_bytes text.new)) }
 {
     let reply = desk.serve(pass, call);
     if is_memory(&reply) {

@@ -1,5 +1,5 @@
 //! A keeper over an SQLite database.
-ghost use Rattle.std.specs.Prelude.{◌≡◌, ◌≢◌, ℕ, ◌<◌, ◌^◌, All, Err, false, IsTrue, OnOk};
+ghost use Rattle.std.specs.Prelude.{◌≡◌, ◌≢◌, ◌↔◌, ℕ, ◌<◌, ◌^◌, All, Err, false, IsTrue, OnOk};
 ghost use Rattle.sqlite.specs.State.{HasCleanDisk};
 ghost use Rattle.sqlite.specs.Held.{state};
 ghost use Rattle.sqlite.specs.declared.connection.Connection.{Connection};
@@ -30,21 +30,21 @@ const MOST: u64 = 0x7fff_ffff_ffff_ffff;
 
 /// Whether the database has numbers for these counters.
 fn are_counters(cells: &[StoredCell]) -> bool
-    ensures { IsTrue result → All (λ c. c.n < 2 ^ 63) cells.now }
+    ensures { IsTrue result ↔ All (λ c. c.n < 2 ^ 63) cells.now }
 {
     cells.iter().all(|cell| cell.n <= MOST)
 }
 
 /// Whether it has numbers for these notices.
 fn are_notices(notices: &[StoredNotice]) -> bool
-    ensures { IsTrue result → All (λ n. (n.announced < 2 ^ 63) × (n.finished < 2 ^ 63)) notices.now }
+    ensures { IsTrue result ↔ All (λ n. (n.announced < 2 ^ 63) × (n.finished < 2 ^ 63)) notices.now }
 {
     notices.iter().all(|notice| notice.announced <= MOST && notice.finished <= MOST)
 }
 
 /// Whether it has numbers for the edit of a session.
 fn is_edit(edit: Option<SessionEdit>) -> bool
-    ensures { IsTrue result → IsStorable edit }
+    ensures { IsTrue result ↔ IsStorable edit }
 {
     match edit {
         Some(SessionEdit::Put(session)) => session.h <= MOST && session.place <= MOST,
@@ -77,6 +77,8 @@ fn are_rows(rows: &Rows) -> bool
     ensures cells { IsTrue result → All (λ c. c.n < 2 ^ 63) rows.now.cells }
     ensures notices { IsTrue result → All (λ n. (n.announced < 2 ^ 63) × (n.finished < 2 ^ 63)) rows.now.notices }
     ensures edit { IsTrue result → IsStorable rows.now.edit }
+    ensures all { All (λ c. c.n < 2 ^ 63) rows.now.cells → All (λ n. (n.announced < 2 ^ 63) × (n.finished < 2 ^ 63)) rows.now.notices
+        → IsStorable rows.now.edit → IsTrue result }
 {
     is_edit(rows.edit) && are_counters(&rows.cells) && are_notices(&rows.notices)
 }

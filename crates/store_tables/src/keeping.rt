@@ -1,7 +1,9 @@
 //! What a connection keeps, over each transaction.
-ghost use Rattle.std.specs.Prelude.{◌≡◌, ◌≢◌, ◌⊎◌, ◌<◌, ◌^◌, false, All, None, Some, Ok, Err, IsTrue, IfOk, OnOk, OnErr};
+ghost use Rattle.std.specs.Prelude.{◌≡◌, ◌≢◌, ◌⊎◌, ◌↔◌, ◌<◌, ◌^◌, false, All, None, Some, Ok, Err, IsTrue, IfOk, OnOk, OnErr};
 ghost use Rattle.sqlite.specs.State.{HasCleanDisk, Survives};
 ghost use Rattle.sqlite.specs.Held.{state};
+ghost use Rattle.sqlite.specs.declared.error.Error.TheVariants.{SqliteFailure};
+ghost use Rattle.sqlite.specs.declared.error.ErrorCode.TheVariants.{OutOfMemory};
 ghost use Rattle.store_schema.specs.Tables.{no_schema};
 ghost use Rattle.store_schema.specs.Found.{found_in};
 ghost use Rattle.store_schema.specs.declared.Found.TheVariants.{Blank, Store};
@@ -20,7 +22,10 @@ use std::alloc::Global;
 use store_rows::{Content, SessionEdit, StoredCell, StoredNotice, Version};
 use store_schema::{Found, found_in};
 
-fn is_memory(error: Error) -> bool {
+// The error is want of memory.
+fn is_memory(error: Error) -> bool
+    ensures { IsTrue result ↔ (error ≡ SqliteFailure OutOfMemory) }
+{
     error == Error::SqliteFailure(ErrorCode::OutOfMemory)
 }
 
@@ -39,6 +44,7 @@ fn is_open<S: Alter>(conn: &mut Connection<S>) -> bool
 /// was. Commits nothing.
 pub(crate) fn is_unchanged<S: Alter>(conn: &mut Connection<S>, error: Error) -> bool
     requires { conn.old.in_transaction ≡ false }
+    ensures memory_alone { IsTrue result → error ≡ SqliteFailure OutOfMemory }
     ensures idle { conn.new.in_transaction ≡ false }
     ensures settled { HasCleanDisk (state S.Store conn.new) → IsTrue result → (db : _) → (state S.Store conn.new).may_leave db → db ≡ (state S.Store conn.old).committed.trees }
     ensures was_open { HasCleanDisk (state S.Store conn.new) → IsTrue result → IsTrue (state S.Store conn.old).is_open }
