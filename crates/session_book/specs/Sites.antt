@@ -1,5 +1,5 @@
 -- A site behind its lock, as contracts see it, and what closing it tells.
-use Rattle.std.specs.Prelude.{◌≡◌, ℕ, ◌<◌, ◌≤◌, ◌==◌, Bool, true, false, List, [], ◌∷◌, ◌++◌, length, All, IsTrue, Result, Ok, Err, Vec, zero, suc}
+use Rattle.std.specs.Prelude.{◌≡◌, ℕ, ◌<◌, ◌≤◌, ◌==◌, Bool, true, false, List, [], ◌∷◌, ◌++◌, length, slice_index_or, All, IsTrue, Result, Ok, Err, Vec, zero, suc}
 use Rattle.std.specs.Global.{Global}
 use Rattle.std.specs.List.{list_any}
 use Rattle.merge_core.specs.Layout.{LayoutState}
@@ -96,6 +96,15 @@ pub record BearsOut (limit : ℕ) (entries : List Entry) (p : PassState) : Type 
   pub receipts : receipts_of p.number entries ≡ p.receipts
   pub frozen : p.frozen ≡ true → ends_in_fault false entries ≡ true
   pub log_full : p.log_full ≡ true → length entries ≡ limit
+
+-- among these passes is one with this number that a log does not bear out
+pub record IsAstray (limit : ℕ) (entries : List Entry) (ps : List PassState) (number : ℕ) : Type 0 where
+  pub pass : PassState
+  pub place : ℕ
+  pub within : place < length ps
+  pub there : pass ≡ slice_index_or ps place pass
+  pub numbered : pass.number ≡ number
+  pub astray : ¬ BearsOut limit entries pass
 
 module _ {K : Type 0} where
   -- a desk is that of an opening

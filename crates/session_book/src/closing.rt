@@ -4,7 +4,7 @@ ghost use Rattle.desk_log.specs.Log.{ends_in_fault};
 ghost use Rattle.desk_log.specs.declared.entry.Entry.{Entry as EntryThere};
 ghost use Rattle.session_book.specs.declared.error.CloseError.TheVariants.{PassMissing, Mismatch};
 ghost use Rattle.session_book.specs.Passes.{receipts_of, receipts_in};
-ghost use Rattle.session_book.specs.Sites.{AreAll, BearsOut, has_number, IsSameOpening};
+ghost use Rattle.session_book.specs.Sites.{AreAll, BearsOut, has_number, IsAstray, IsSameOpening};
 
 use crate::error::CloseError;
 use crate::pass::{Pass, Receipt};
@@ -52,8 +52,8 @@ pub(crate) fn checked<K: Keeper, L: Ledger>(
     ensures each { IfOk result (λ _. All (BearsOut limit desk.now.log.entries) passes.now) }
     ensures room { IfOk result (λ runs. (runs.items ≡ []) × (1 ≤ vec_capacity runs)) }
     ensures all_there { IfErr result (λ e. e ≢ PassMissing) }
-    ensures astray { IfErr result (λ e. (pass at : ℕ) → e ≡ Mismatch pass at
-        → ¬ (IsSameOpening desk.now layout.now site first.now limit × All (BearsOut limit desk.now.log.entries) passes.now)) }
+    ensures astray { IfErr result (λ e. (pass at : ℕ) → e ≡ Mismatch pass at → IsSameOpening desk.now layout.now site first.now limit
+        → IsAstray limit desk.now.log.entries passes.now pass) }
 {
     if !is_same_opening(desk, layout, site, first, limit) {
         return Err(CloseError::Mismatch { pass: 0, at: 0 });
