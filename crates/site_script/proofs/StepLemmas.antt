@@ -89,7 +89,7 @@ unread_from false a left d said text e has = unread_more a left d said text e ha
 unread_from true a left d said text e has = (
   has.0,
   ap (λ (t : List ℕ). t ++ no_delta_line e) has.1
-  ∙ (ap (λ (t : List ℕ). frozen_answers said ++ t) (sym (append-nil (no_delta_line e))) ∙ sym (frozen_more said (Unread e))),
+      ∙ (ap (λ (t : List ℕ). frozen_answers said ++ t) (sym (append-nil (no_delta_line e))) ∙ sym (frozen_more said (Unread e))),
 )
 
 -- the log grows by an entry, or stays
@@ -219,5 +219,5 @@ call_answered {K} g old new pass call reply is there text with_reply line first 
         let told = is.frozen so_far.0 in (
           ap is_frozen told.1 ∙ so_far.0,
           ap (λ (t : List ℕ). t ++ line_of reply) so_far.1
-          ∙ (ap (λ (r : Reply). frozen_answers said ++ line_of r) told.0 ∙ sym (frozen_more said (Asked call))),
+              ∙ (ap (λ (r : Reply). frozen_answers said ++ line_of r) told.0 ∙ sym (frozen_more said (Asked call))),
         )

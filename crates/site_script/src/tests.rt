@@ -85,7 +85,7 @@ fn all_lines(alloc: Global) -> Option<(String, String)> {
     Some((script, text))
 }
 
-const SCRIPTS: [(&[u8], &str, bool, usize); 5] = [
+const SCRIPTS: [(&[u8], &str, bool, usize); 7] = [
     (b"", "", true, 0),
     (
         b"read a 7\n\nread a 8\n",
@@ -101,6 +101,18 @@ const SCRIPTS: [(&[u8], &str, bool, usize); 5] = [
     ),
     (b"take \xff\n", "line 1 refused BadWord\n", false, 0),
     (b"read a 7", "admitted\n", true, 1),
+    (
+        b"read a 0\nsend\n",
+        "admitted\n{\"from\":0,\"rows\":[{\"ann\":0,\"fin\":0,\"out\":[2,0],\"r\":0,\"s\":0,\"taken\":1}],\"v\":1}\n",
+        true,
+        2,
+    ),
+    (
+        b"take {\"from\":1,\"rows\":[],\"v\":1}\n",
+        "merged 0\n",
+        true,
+        1,
+    ),
 ];
 
 // The same line so often, and then others.
