@@ -82,11 +82,11 @@ for source in crates/grow_counters/specs/Counts.antt crates/seat_cli/src/main.rt
     tell $? "a change of $source builds once"
 done
 sleep 1
-echo 'fn broken(' >>crates/seat_cli/src/status.rt
+echo 'fn broken(' >>crates/exit_status/src/status.rt
 ./seat_cli --version >"$work/output" 2>"$work/errors"
 [ $? = 1 ] && [ ! -s "$work/output" ] && grep -q "src/status.rt" "$work/errors" && tail -1 "$work/errors" | grep -q "could not be built"
 tell $? "a build that fails ends with 1 and shows its log"
-git checkout --quiet crates/seat_cli/src/status.rt
+git checkout --quiet crates/exit_status/src/status.rt
 ./seat_cli --version >"$work/output" 2>"$work/errors" && grep -q "^seat_cli " "$work/output"
 tell $? "the mended source builds again"
 

@@ -42,25 +42,25 @@ table_of name tree columns primary uniques checks = record {
 
 abbrev pub meta_table : Table
 meta_table = record (table_of (codes "meta") 0
-  (column_of (codes "name") Text ∷ column_of (codes "value") Text ∷ [])
-  (1 ∷ []) ((1 ∷ []) ∷ []) []) { orders = plain ∷ [] }
+    (column_of (codes "name") Text ∷ column_of (codes "value") Text ∷ [])
+    (1 ∷ []) ((1 ∷ []) ∷ []) []) { orders = plain ∷ [] }
 
 abbrev pub cells_table : Table
 cells_table = record (table_of (codes "cells") 0
-  (column_of (codes "record") Integer ∷ column_of (codes "slot") Integer ∷ column_of (codes "n") Integer ∷ [])
-  (1 ∷ 2 ∷ []) ((1 ∷ 2 ∷ []) ∷ []) (at_least_0 3 ∷ [])) { orders = plain ∷ [] }
+    (column_of (codes "record") Integer ∷ column_of (codes "slot") Integer ∷ column_of (codes "n") Integer ∷ [])
+    (1 ∷ 2 ∷ []) ((1 ∷ 2 ∷ []) ∷ []) (at_least_0 3 ∷ [])) { orders = plain ∷ [] }
 
 abbrev pub sessions_table : Table
 sessions_table = record (table_of (codes "sessions") 0
-  (column_of (codes "record") Integer ∷ column_of (codes "holder") Integer ∷ column_of (codes "phase") Integer
+    (column_of (codes "record") Integer ∷ column_of (codes "holder") Integer ∷ column_of (codes "phase") Integer
     ∷ column_of (codes "place") Integer ∷ [])
-  (1 ∷ 2 ∷ []) ((4 ∷ []) ∷ (1 ∷ 2 ∷ []) ∷ []) []) { orders = plain ∷ plain ∷ [] }
+    (1 ∷ 2 ∷ []) ((4 ∷ []) ∷ (1 ∷ 2 ∷ []) ∷ []) []) { orders = plain ∷ plain ∷ [] }
 
 abbrev pub notices_table : Table
 notices_table = record (table_of (codes "notices") 0
-  (column_of (codes "record") Integer ∷ column_of (codes "site") Integer ∷ column_of (codes "ann") Integer
+    (column_of (codes "record") Integer ∷ column_of (codes "site") Integer ∷ column_of (codes "ann") Integer
     ∷ column_of (codes "fin") Integer ∷ [])
-  (1 ∷ 2 ∷ []) ((1 ∷ 2 ∷ []) ∷ []) (at_least_0 3 ∷ at_least_0 4 ∷ [])) { orders = plain ∷ [] }
+    (1 ∷ 2 ∷ []) ((1 ∷ 2 ∷ []) ∷ []) (at_least_0 3 ∷ at_least_0 4 ∷ [])) { orders = plain ∷ [] }
 
 -- the index that keeps a key of a table, which SQLite makes by itself
 abbrev pub index_of : List ℕ → ℕ → ℕ → List ℕ → Index

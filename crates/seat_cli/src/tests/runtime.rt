@@ -9,7 +9,7 @@ use std::env::FillError;
 use std::fmt::Display;
 use std::fs::{Metadata, OpenFile, OpenOptions};
 use std::io;
-use std::io::{Error, ErrorKind, Lines, Read, Seek, SeekFrom, Write};
+use std::io::{BufRead, Error, ErrorKind, Lines, Read, Seek, SeekFrom, Write};
 use std::rt::{Env, Files};
 use test_streams::{Giving, Keeping};
 use text_input::{Sink, Source};

@@ -59,6 +59,16 @@ fn help_of_site_is_printed(rt: HostRuntime) {
 }
 
 // Arguments that are wrong, and what goes to standard error.
+const NEITHER_SITE_NOR_STORE: &str = "\
+error: the following required arguments were not provided:
+  --site <I>
+  --store <FILE>
+
+Usage: seat_cli site --site I --store FILE [--layout FILE]
+
+For more information, try '--help'.
+";
+
 const WRONG: [(&[&[u8]], &str); 8] = [
     (
         &[b"seat_cli", b"site", b"--store", b"a.db"],
@@ -68,10 +78,7 @@ const WRONG: [(&[&[u8]], &str); 8] = [
         &[b"seat_cli", b"site", b"--site", b"0"],
         "error: the following required arguments were not provided:\n  --store <FILE>\n\nUsage: seat_cli site --site I --store FILE [--layout FILE]\n\nFor more information, try '--help'.\n",
     ),
-    (
-        &[b"seat_cli", b"site"],
-        "error: the following required arguments were not provided:\n  --site <I>\n  --store <FILE>\n\nUsage: seat_cli site --site I --store FILE [--layout FILE]\n\nFor more information, try '--help'.\n",
-    ),
+    (&[b"seat_cli", b"site"], NEITHER_SITE_NOR_STORE),
     (
         &[b"seat_cli", b"site", b"--site", b"x", b"--store=a.db"],
         "error: invalid value 'x' for '--site <I>': invalid digit found in string\n\nFor more information, try '--help'.\n",
