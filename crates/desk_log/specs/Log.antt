@@ -54,8 +54,8 @@ pub record IsInDoubt (a : Account) (call : Call) (reply : Reply) : Type 0 where
   pub fault : is_fault reply ≡ true
   pub changes : ¬ IsEmpty (change_between a (after a call))
 
--- A log is legal from an account: each reply is the model's at the account of the entries before it, but a last one
--- may be the store's fault.
+-- A log is legal from an account (a legal sequential history, Herlihy and Wing, 1990): each reply is the model's at the
+-- account of the entries before it, but a last one may be the store's fault.
 abbrev pub IsLegal : Account → List Entry → Type 0
 IsLegal a [] = Unit {0}
 IsLegal a (e ∷ es) =

@@ -9,7 +9,7 @@ use Rattle.admission_core.specs.declared.change.SessionChange.TheVariants.{Put, 
 use Rattle.admission_core.specs.Kept.{DurableState, ChangeState}
 use Rattle.admission_core.specs.Restored.{IsListed, IsSession}
 
--- the most that a counter that is kept can be: a grant and two limits of 10^12
+-- no counter that is kept is above this: it is at most a grant and 10^12
 abbrev pub most_kept : ℕ
 most_kept = 2000000000000
 
