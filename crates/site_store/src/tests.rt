@@ -1,9 +1,11 @@
 //! Databases that are opened as the store of a site, and those that are not. What commits keep is tested above, where
 //! changes come from a site.
+use crate::restart::restart;
 use crate::{Keeper, MemoryKeeper, OpenError, SqlKeeper};
 use admission_core::{Durable, Phase};
 use merge_core::{Layout, RecordName, RecordSpec};
-use sqlite::{Connection, MemStore};
+use sqlite::{Connection, Files, MemStore, Options};
+use sqlite_disk::Memory;
 use std::alloc::Global;
 use std::test::Fail;
 
@@ -122,6 +124,42 @@ fn counted_in_memory(alloc: Global) -> Option<(usize, usize)> {
     let mut keeper = MemoryKeeper::new(alloc, &layout, 0).ok()?;
     let durable = keeper.load(alloc).ok()?;
     Some((durable.cells().len(), durable.sessions().len()))
+}
+
+/// How many counters and sessions a keeper over files keeps after both have crashed, of a store with one of each.
+fn counted_after_a_crash(alloc: Global) -> Option<(usize, usize)> {
+    let files = Files {
+        log: Memory::new(alloc),
+        db: Memory::new(alloc),
+    };
+    if !files.may_be_used() {
+        return None;
+    }
+    let Ok(mut connection) = Connection::open_files(alloc, files, Options::new(1)) else {
+        return None;
+    };
+    for text in FIRST {
+        connection.execute_batch(text).ok()?;
+    }
+    connection.execute_batch(MARKS).ok()?;
+    let rows = "INSERT INTO cells VALUES (0, 200, 1); INSERT INTO sessions VALUES (0, 7, 1, 5)";
+    connection.execute_batch(rows).ok()?;
+    let layout = layout(alloc, 2, 2)?;
+    if !connection.is_autocommit() {
+        return None;
+    }
+    let Ok(keeper) = SqlKeeper::open(alloc, connection, &layout, 0) else {
+        return None;
+    };
+    let mut again = restart(alloc, keeper, Options::new(1))?;
+    let durable = again.load(alloc).ok()?;
+    Some((durable.cells().len(), durable.sessions().len()))
+}
+
+#[test]
+fn a_keeper_is_opened_again_after_a_crash(rt: HostRuntime) -> Result<(), Fail> {
+    assert_eq!(rt; counted_after_a_crash(rt.alloc()), Some((1, 1)));
+    Ok(())
 }
 
 #[test]
