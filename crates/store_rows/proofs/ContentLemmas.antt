@@ -18,7 +18,7 @@ use Rattle.sqlite_rules.specs.Lists.{Has}
 use Rattle.sqlite_rules.specs.Edit.{IsNoIndex}
 use Rattle.store_schema.specs.Tables.{schema_4, schema_of, meta_table, meta_tree, cells_tree, sessions_tree, notices_tree}
 use Rattle.store_schema.specs.declared.Version.TheVariants.{Second}
-use Rattle.sqlite.specs.Effect.{Database}
+use Rattle.sqlite.specs.Effect.{Database, IsDatabase}
 use Rattle.sqlite_rules.proofs.ListLemmas.{has_filtered, has_kept}
 use Rattle.store_rows.specs.declared.content.StoredCell.{StoredCell}
 use Rattle.store_rows.specs.declared.content.StoredNotice.{StoredNotice}
@@ -117,6 +117,9 @@ equal_whole m n = rw (value_cmp-Int (pos m) (pos n)) (grind (arith, nat_tests))
 pub cell_ties : (c d : StoredCell) → (((d.r == c.r) && ((d.slot == c.slot) && true)) || false) ≡ ties cell_before c d
 cell_ties c d = grind (arith, nat_tests)
 
+pub cell_finds : (c d : StoredCell) → ((d.r == c.r) && ((d.slot == c.slot) && true)) ≡ ties cell_before c d
+cell_finds c d = grind (arith, nat_tests)
+
 pub cell_hit : (c : StoredCell) (r : Row) (d : StoredCell) → drop 1 r ≡ cell_row d → hits cells_there (cell_row c) r ≡ ties cell_before c d
 unfolding first_key
 cell_hit c [] d h = absurd (cc)
@@ -124,6 +127,9 @@ cell_hit c (v ∷ r) d h = rw (h, equal_whole d.r c.r, equal_whole d.slot c.slot
 
 pub notice_ties : (c d : StoredNotice) → (((d.r == c.r) && ((d.site == c.site) && true)) || false) ≡ ties notice_before c d
 notice_ties c d = grind (arith, nat_tests)
+
+pub notice_finds : (c d : StoredNotice) → ((d.r == c.r) && ((d.site == c.site) && true)) ≡ ties notice_before c d
+notice_finds c d = grind (arith, nat_tests)
 
 pub notice_hit : (c : StoredNotice) (r : Row) (d : StoredNotice) → drop 1 r ≡ notice_row d → hits notices_there (notice_row c) r ≡ ties notice_before c d
 unfolding first_key
@@ -192,16 +198,16 @@ module _ (m : Mark) (old new : List Row) (step : IsPut (hits meta_table (mark_ro
 
 -- ---- whole contents
 
-spares_0 : IsNoIndex schema_4 0
+pub spares_0 : IsNoIndex schema_4 0
 spares_0 = (λ e. omega arith, (λ e. omega arith, (λ e. omega arith, (λ e. omega arith, (λ e. omega arith, tt)))))
 
-spares_2 : IsNoIndex schema_4 2
+pub spares_2 : IsNoIndex schema_4 2
 spares_2 = (λ e. omega arith, (λ e. omega arith, (λ e. omega arith, (λ e. omega arith, (λ e. omega arith, tt)))))
 
-spares_4 : IsNoIndex schema_4 4
+pub spares_4 : IsNoIndex schema_4 4
 spares_4 = (λ e. omega arith, (λ e. omega arith, (λ e. omega arith, (λ e. omega arith, (λ e. omega arith, tt)))))
 
-spares_7 : IsNoIndex schema_4 7
+pub spares_7 : IsNoIndex schema_4 7
 spares_7 = (λ e. omega arith, (λ e. omega arith, (λ e. omega arith, (λ e. omega arith, (λ e. omega arith, tt)))))
 
 pub notices_of : (p : Parts) (rows : List Row) → p.tables ≡ Second → HoldsNotices p.tables p.notices rows → HoldsRows notice_row p.notices rows
@@ -213,6 +219,22 @@ notices_as p notices rows two h = subst (λ v. HoldsNotices v notices rows) (sym
 module _ (p : Parts) (a b : Database) (two : p.tables ≡ Second) (h : HoldsParts p a) where
   now_is : b.schema ≡ schema_4 → b.schema ≡ schema_of p.tables
   now_is e = e ∙ ap schema_of (sym two)
+
+  -- a database whose tables have the rows that they had
+  pub parts_kept : b.schema ≡ schema_4 → IsDatabase b → b.trees 0 ≡ a.trees 0 → b.trees 2 ≡ a.trees 2 → b.trees 4 ≡ a.trees 4 → b.trees 7 ≡ a.trees 7 → HoldsParts p b
+  parts_kept schema sound marks cells sessions notices = record {
+    schema = now_is schema;
+    sound = sound;
+    rows = subst IsTable (sym marks) h.rows;
+    numbered = subst (AllByRecursion (λ r. IsTrue (is_int (rowid r)))) (sym marks) h.numbered;
+    marks = subst (λ (all : List Row). AllByRecursion (HasMark all) p.marks) (sym marks) h.marks;
+    cells = subst (HoldsRows cell_row p.cells) (sym cells) h.cells;
+    sessions = subst (HoldsRows session_row p.sessions) (sym sessions) h.sessions;
+    notices = subst (HoldsNotices p.tables p.notices) (sym notices) h.notices;
+    cells_rise = h.cells_rise;
+    sessions_rise = h.sessions_rise;
+    notices_rise = h.notices_rise;
+  }
 
   pub parts_cell : (c : StoredCell) → HasPut cells_tree (hits cells_there (cell_row c)) (cell_row c) a b → HoldsParts (record p { cells = put cell_before c p.cells }) b
   parts_cell c step =

@@ -1,7 +1,8 @@
 -- What a row that is put, replaced or taken out leaves of the rows of a table, whatever the table is.
-use Rattle.std.proofs.Common.{◌≡◌, ◌≢◌, ◌⊎◌, inl, inr, ℕ, ℤ, Bool, true, false, not, List, [], ◌∷◌, map, drop, Result, Ok, Err, Option, Some, None, Ordering, Less, Equal, Greater, is_eq, IsTrue, refl, sym, ap, subst, ◌∙◌}
+use Rattle.std.proofs.Common.{◌≡◌, ◌≢◌, ◌⊎◌, inl, inr, ℕ, suc, ℤ, ◌==◌, Bool, true, false, not, List, [], ◌∷◌, length, map, drop, Result, Ok, Err, Option, Some, None, Ordering, Less, Equal, Greater, is_eq, IsTrue, refl, sym, ap, subst, ◌∙◌, arith}
 use Rattle.std.specs.List.{AllByRecursion}
-use Rattle.std.proofs.lemmas.Bool.{cases_Bool, both_ways, false_from_ne_true, not-true}
+use Rattle.std.proofs.lemmas.Bool.{cases_Bool, both_ways, false_from_ne_true, not-true, and_parts}
+use Rattle.std.proofs.lemmas.Bool.Decides.{nat_tests}
 use Rattle.std.proofs.lemmas.Cmp.{tied_itself, tied_back}
 use Rattle.sqlite_value.specs.declared.value.Value.{Value}
 use Rattle.sqlite_value.specs.declared.value.Value.TheVariants.{Int}
@@ -17,9 +18,9 @@ use Rattle.sqlite_rules.specs.Cast.{cast_row}
 use Rattle.sqlite_rules.specs.Calls.{ids_of}
 use Rattle.sqlite_rules.specs.Keys.{AreConflicts, conflicts}
 use Rattle.sqlite_rules.specs.declared.error.Rowids.TheVariants.{Given}
-use Rattle.sqlite_rules.specs.Edit.{Edit, IsNoIndex, Applies, edit_of, taken_by, edited, without_all, put_all, is_taken, are_fresh, id_in}
+use Rattle.sqlite_rules.specs.Edit.{Edit, IsNoIndex, Applies, edit_of, taken_by, edited, without_all, put_all, numbered, have_rowids, is_taken, are_fresh, id_in}
 use Rattle.sqlite_rules.proofs.ListLemmas.{all_has, all_from, has_filtered, has_kept}
-use Rattle.sqlite_rules.proofs.TableLemmas.{has_put, put_has, put_all_keeps, int_is}
+use Rattle.sqlite_rules.proofs.TableLemmas.{has_put, put_has, put_all_has, put_all_keeps, put_all_adds, int_is}
 use Rattle.sqlite_rules.proofs.PlaceLemmas.{tied_same}
 use Rattle.sqlite.specs.Rows.{Written, Task, Puts, Clears, Edited}
 use Rattle.sqlite.proofs.Callers.{one_step}
@@ -50,9 +51,22 @@ pub record IsTaken (hit : Row → Bool) (old new : List Row) : Type 0 where
   pub only : (r : Row) → Has new r → Has old r × (hit r ≡ false)
   pub keyed : IsKeyed new
 
+-- another test that hits the same rows
+pub put_as : (hit same : Row → Bool) (values : Row) (old new : List Row) → ((r : Row) → Has old r → hit r ≡ same r) → IsPut hit values old new → IsPut same values old new
+put_as hit same values old new is step = record {
+  put = step.put;
+  kept = λ r h miss. step.kept r h (is r h ∙ miss);
+  only = λ r h. elim (step.only r h) [ inl here ↦ inl here | inr had ↦ inr (had.0, sym (is r had.0) ∙ had.1) ];
+  keyed = step.keyed;
+}
+
 -- the trees beside one, and beside indexes, are as they were
 abbrev pub SparesOthers : Task → Trees → Trees → Type 0
 SparesOthers task db next = (t : ℕ) → t ≢ task.table.tree → IsNoIndex task.schema t → next t ≡ db t
+
+-- an update changed so many rows: none, and all stay, or some, which have the new values
+abbrev pub IsUpdated : ℕ → (Row → Bool) → Row → List Row → List Row → Type 0
+IsUpdated count hit values old new = (((count == 0) ≡ true) × (new ≡ old)) ⊎ (((count == 0) ≡ false) × IsPut hit values old new)
 
 equal_is : (o : Ordering) → is_eq o ≡ true → o ≡ Equal
 equal_is Less h = absurd (cc)
@@ -146,6 +160,30 @@ put_free id values rows was fresh = record {
   keyed = put_keyed (Int id ∷ values) rows was refl;
 }
 
+some_are : (n : ℕ) → (suc n == 0) ≡ false
+some_are n = grind (arith, nat_tests)
+
+-- ---- rows that are put where others were taken out
+
+put_all_keyed : (news rows : List Row) → IsKeyed rows → have_rowids news ≡ true → IsKeyed (put_all rows news)
+put_all_keyed [] rows was ints = was
+put_all_keyed (n ∷ news) rows was ints = let parts = and_parts _ _ ints in put_all_keyed news (put_row n rows) (put_keyed n rows was parts.0) parts.1
+
+-- given rowids stay
+as_given : (rows all : List Row) → numbered Given rows all ≡ all
+as_given rows [] = refl
+as_given rows (r ∷ all) = ap (λ (rest : List Row). r ∷ rest) (as_given (put_row r rows) all)
+
+-- rows of these values come in the place of those that are hit
+put_over : (hit : Row → Bool) (values : Row) (old left news : List Row) → IsTaken hit old left → have_rowids news ≡ true → are_fresh left news ≡ true
+    → ((n : Row) → Has news n → drop 1 n ≡ values) → (first : Row) → Has news first → IsPut hit values old (put_all left news)
+put_over hit values old left news gone ints fresh are first there = record {
+  put = (first, put_all_adds news left first fresh there, are first there);
+  kept = λ r h miss. put_all_keeps news left r fresh (gone.kept r h miss);
+  only = λ r h. elim (put_all_has news left r h) [ inl new ↦ inl (are r new) | inr had ↦ inr (gone.only r had) ];
+  keyed = put_all_keyed news left gone.keyed ints;
+}
+
 module _ (task : Task) (idle : (olds news : List Row) → works task.schema task.keys 0 task.table.tree olds news ≡ []) where
   open task use {table}
 
@@ -212,3 +250,45 @@ module _ (task : Task) (idle : (olds news : List Row) → works task.schema task
       let a = one_step task.schema task.keys db next edit (idle (taken_by db edit) edit.news) h in
       let rows : next table.tree ≡ without_all (db table.tree) (ids_of found) = a.rows in
       (rw rows (taken (db table.tree) was hit found sound complete), a.others)
+
+  -- what an update puts in the place of the rows that it found
+  abbrev pub written_over : List Row → List Row
+  written_over found = map (λ s. cast_row table (drop 1 s)) found
+
+  abbrev pub overwriting : Trees → List Row → Edit
+  overwriting db found = edit_of db table (ids_of found) Given 1 found
+
+  -- rows that were found get new values where they stand
+  pub overwritten : (found : List Row) (values : Row) (hit : Row → Bool) (db next : Trees) → IsKeyed (db table.tree)
+      → ((x : Row) → Has found x → (r : Row) × Has (db table.tree) r × (hit r ≡ true) × (id_in (rowid x) ≡ id_in (rowid r)))
+      → ((r : Row) → Has (db table.tree) r → hit r ≡ true → (x : Row) × Has found x × (id_in (rowid x) ≡ id_in (rowid r)))
+      → ((n : Row) → Has (written_over found) n → drop 1 n ≡ values) → (first : Row) → Has (written_over found) first
+      → Edited task.schema task.keys db (overwriting db found) (Ok next)
+      → IsPut hit values (db table.tree) (next table.tree) × SparesOthers task db next
+  overwritten found values hit db next was sound complete are first there h =
+      let edit = overwriting db found in
+      let left = without_all (db table.tree) (ids_of found) in
+      let a = one_step task.schema task.keys db next edit (idle (taken_by db edit) edit.news) h in
+      let same : edit.news ≡ written_over found = as_given left (written_over found) in
+      let rows : next table.tree ≡ put_all left (written_over found) = a.rows ∙ ap (put_all left) same in
+      let ints : have_rowids (written_over found) ≡ true = ap have_rowids (sym same) ∙ a.keyed in
+      let fresh : are_fresh left (written_over found) ≡ true = ap (are_fresh left) (sym same) ∙ a.fresh in
+      (rw rows (put_over hit values (db table.tree) left (written_over found) (taken (db table.tree) was hit found sound complete) ints fresh are first there), a.others)
+
+  -- where none was found, all rows stay
+  pub spared_all : (db next : Trees) → Edited task.schema task.keys db (overwriting db []) (Ok next) → (next table.tree ≡ db table.tree) × SparesOthers task db next
+  spared_all db next h =
+      let edit = overwriting db [] in
+      let a = one_step task.schema task.keys db next edit (idle (taken_by db edit) edit.news) h in
+      (a.rows, a.others)
+
+  pub updated : (found : List Row) (values : Row) (hit : Row → Bool) (db next : Trees) (count : ℕ) → count ≡ length (overwriting db found).news → IsKeyed (db table.tree)
+      → ((x : Row) → Has found x → (r : Row) × Has (db table.tree) r × (hit r ≡ true) × (id_in (rowid x) ≡ id_in (rowid r)))
+      → ((r : Row) → Has (db table.tree) r → hit r ≡ true → (x : Row) × Has found x × (id_in (rowid x) ≡ id_in (rowid r)))
+      → ((n : Row) → Has (written_over found) n → drop 1 n ≡ values)
+      → Edited task.schema task.keys db (overwriting db found) (Ok next)
+      → IsUpdated count hit values (db table.tree) (next table.tree) × SparesOthers task db next
+  updated [] values hit db next count is was sound complete are h = let it = spared_all db next h in (inl (rw is refl, it.0), it.1)
+  updated (x ∷ found) values hit db next count is was sound complete are h =
+      let it = overwritten (x ∷ found) values hit db next was sound complete are (cast_row table (drop 1 x)) (inl refl) h in
+      (inr (rw is (some_are _), it.0), it.1)

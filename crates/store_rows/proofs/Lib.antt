@@ -7,3 +7,4 @@ pub mod SelectLemmas
 pub mod SessionLemmas
 pub mod SortedLemmas
 pub mod StepLemmas
+pub mod UpdateLemmas

@@ -1,22 +1,28 @@
 -- What each statement brings to a store.
-use Rattle.std.proofs.Common.{◌≡◌, ℕ, pos, true, Bool, List, [], ◌∷◌, ◌++◌, Some, Result, Ok, Err, OnOk, refl, sym, ap, ◌∙◌, inl, arith}
+use Rattle.std.proofs.Common.{◌≡◌, ◌⊎◌, inl, inr, ◌==◌, ℕ, pos, true, false, Bool, List, [], ◌∷◌, ◌++◌, drop, Some, Result, Ok, Err, OnOk, IfOk, refl, sym, ap, subst, ◌∙◌, arith}
 use Rattle.sqlite_value.specs.declared.value.Value.TheVariants.{Int, Text}
+use Rattle.std.proofs.lemmas.Bool.Decides.{nat_tests}
+use Rattle.sqlite_value.specs.Order.{Row}
+use Rattle.sqlite_rules.specs.Lists.{Has}
 use Rattle.sqlite.specs.Effect.{Database}
 use Rattle.sqlite.specs.State.{State, Executes, Survives, KeepsCommit}
 use Rattle.sqlite.proofs.StateLemmas.{survives_then}
-use Rattle.store_schema.specs.Tables.{schema_of}
+use Rattle.store_schema.specs.Tables.{schema_of, cells_tree, notices_tree}
 use Rattle.store_rows.specs.declared.content.StoredCell.{StoredCell}
 use Rattle.store_rows.specs.declared.content.StoredNotice.{StoredNotice}
 use Rattle.store_rows.specs.declared.content.StoredSession.{StoredSession}
 use Rattle.store_rows.specs.declared.content.SessionEdit.TheVariants.{Put, Dropped}
-use Rattle.store_rows.specs.Texts.{put_mark_text, put_cell_text, put_notice_text, add_session_text, drop_session_text}
+use Rattle.store_rows.specs.Texts.{put_mark_text, put_cell_text, put_notice_text, update_cell_text, update_notice_text, add_session_text, drop_session_text}
 use Rattle.store_rows.specs.Rows.{mark_row, cell_row, cell_before, notice_row, notice_before, session_row, session_before}
 use Rattle.store_rows.specs.Sorted.{put, put_all}
-use Rattle.store_rows.specs.Holding.{Mark, Parts}
-use Rattle.store_rows.specs.Steps.{Goes, Brings, Any, HasFreePlace, with_mark, with_cells, with_notices, with_drop, with_session, with_edit, HasNoSuchPlace}
-use Rattle.store_rows.proofs.PutLemmas.{puts_mark, puts_cell, puts_notice}
+use Rattle.store_rows.specs.Holding.{Mark, Parts, HoldsParts}
+use Rattle.store_rows.specs.Steps.{Goes, Brings, Any, if_changed, HasFreePlace, with_mark, with_cells, with_notices, with_drop, with_session, with_edit, HasNoSuchPlace}
+use Rattle.store_rows.proofs.EditLemmas.{put_as}
+use Rattle.store_rows.proofs.ReadLemmas.{passes}
+use Rattle.store_rows.proofs.PutLemmas.{puts_mark, puts_cell, puts_notice, HasPut, hits, cells_there, notices_there}
+use Rattle.store_rows.proofs.UpdateLemmas.{key_filter, cell_passes, notice_passes, updates_cell, updates_notice}
 use Rattle.store_rows.proofs.SessionLemmas.{adds_session, drops_session}
-use Rattle.store_rows.proofs.ContentLemmas.{cells_ordered, notices_ordered, sessions_ordered, rows_keyed, notices_of, parts_mark, parts_cell, parts_notice, parts_dropped, parts_added}
+use Rattle.store_rows.proofs.ContentLemmas.{cells_ordered, notices_ordered, sessions_ordered, rows_keyed, notices_of, cell_hit, cell_finds, notice_hit, notice_finds, spares_0, spares_2, spares_4, spares_7, parts_kept, parts_mark, parts_cell, parts_notice, parts_dropped, parts_added}
 
 pub cell_goes : (old new : State) (c : StoredCell) (count : ℕ) → Executes put_cell_text (cell_row c) old new (Ok count) → Brings Any (with_cells (c ∷ [])) old.now new.now
 cell_goes old new c count ran p two fits h =
@@ -26,6 +32,47 @@ pub notice_goes : (old new : State) (n : StoredNotice) (count : ℕ) → Execute
 notice_goes old new n count ran p two fits h =
     parts_notice p old.now new.now two h n
     (puts_notice old new n count (h.schema ∙ ap schema_of two) (rows_keyed notice_row notice_before notices_ordered p.notices (old.now.trees 7) (notices_of p (old.now.trees 7) two h.notices)) ran)
+
+pub cell_changes : (old new : State) (c : StoredCell) (count : ℕ) → Executes update_cell_text (cell_row c) old new (Ok count) → Brings Any (if_changed count (with_cells (c ∷ []))) old.now new.now
+cell_changes old new c count ran p two fits h =
+    let known : (r : Row) → Has (old.now.trees 2) r → (d : StoredCell) × (drop 1 r ≡ cell_row d) = λ r k. let d = h.cells.sound r k in (d.0, d.2) in
+    let keyed = rows_keyed cell_row cell_before cells_ordered p.cells (old.now.trees 2) h.cells in
+    let it = updates_cell old new c count (h.schema ∙ ap schema_of two) keyed known ran in
+    elim it.rows [
+      | inl none ↦ rw none.0 (parts_kept p old.now new.now two h it.schema it.sound (it.others 0 (λ e. omega arith) spares_0) none.1 (it.others 4 (λ e. omega arith) spares_4) (it.others 7 (λ e. omega arith) spares_7))
+      | inr some ↦
+          let rows = put_as (passes key_filter (cell_row c)) (hits cells_there (cell_row c)) (cell_row c) (old.now.trees 2) (new.now.trees 2)
+          (λ r k. let d = known r k in cell_passes c d.0 r d.1 ∙ cell_finds c d.0 ∙ sym (cell_hit c r d.0 d.1)) some.1 in
+          let step : HasPut cells_tree (hits cells_there (cell_row c)) (cell_row c) old.now new.now = record { schema = it.schema; rows = rows; others = it.others; sound = it.sound } in
+          rw some.0 (parts_cell p old.now new.now two h c step)
+    ]
+
+pub notice_changes : (old new : State) (n : StoredNotice) (count : ℕ) → Executes update_notice_text (notice_row n) old new (Ok count) → Brings Any (if_changed count (with_notices (n ∷ []))) old.now new.now
+notice_changes old new n count ran p two fits h =
+    let rows = notices_of p (old.now.trees 7) two h.notices in
+    let known : (r : Row) → Has (old.now.trees 7) r → (d : StoredNotice) × (drop 1 r ≡ notice_row d) = λ r k. let d = rows.sound r k in (d.0, d.2) in
+    let keyed = rows_keyed notice_row notice_before notices_ordered p.notices (old.now.trees 7) rows in
+    let it = updates_notice old new n count (h.schema ∙ ap schema_of two) keyed known ran in
+    elim it.rows [
+      | inl none ↦ rw none.0 (parts_kept p old.now new.now two h it.schema it.sound (it.others 0 (λ e. omega arith) spares_0) (it.others 2 (λ e. omega arith) spares_2) (it.others 4 (λ e. omega arith) spares_4) none.1)
+      | inr some ↦
+          let rows = put_as (passes key_filter (notice_row n)) (hits notices_there (notice_row n)) (notice_row n) (old.now.trees 7) (new.now.trees 7)
+          (λ r k. let d = known r k in notice_passes n d.0 r d.1 ∙ notice_finds n d.0 ∙ sym (notice_hit n r d.0 d.1)) some.1 in
+          let step : HasPut notices_tree (hits notices_there (notice_row n)) (notice_row n) old.now new.now = record { schema = it.schema; rows = rows; others = it.others; sound = it.sound } in
+          rw some.0 (parts_notice p old.now new.now two h n step)
+    ]
+
+-- what holds of an answer that is a value
+pub each_ok : {A E : Type 0} {P : A → Type 0} (Q : Result A E → Type 0) (r : Result A E) → Q r → ((x : A) → Q (Ok x) → P x) → IfOk r P
+each_ok Q (Ok x) h f = f x h
+each_ok Q (Err e) h f = tt
+
+some_count : (count : ℕ) → (count ≡ 0 → ⊥) → (count == 0) ≡ false
+some_count count h = grind (arith, nat_tests)
+
+-- some row was changed
+pub changed : (a b : Database) (count : ℕ) (f : Parts → Parts) → (count ≡ 0 → ⊥) → Brings Any (if_changed count f) a b → Brings Any f a b
+changed a b count f some step p two fits h = rw (some_count count some) at step p two fits h
 
 pub mark_goes : (old new : State) (m : Mark) (count : ℕ) → Executes put_mark_text (mark_row m.name m.value) old new (Ok count) → Brings Any (with_mark m) old.now new.now
 mark_goes old new m count ran p two fits h =

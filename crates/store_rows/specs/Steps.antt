@@ -1,5 +1,5 @@
 -- What the statements of a transaction do to a database.
-use Rattle.std.specs.Prelude.{◌≡◌, ℕ, ◌<◌, ◌^◌, ◌==◌, [], List, Option, Some, None, ⊤, IsTrue, false}
+use Rattle.std.specs.Prelude.{◌≡◌, ℕ, ◌<◌, ◌^◌, ◌==◌, if◌then◌else◌, [], List, Option, Some, None, ⊤, IsTrue, false}
 use Rattle.sqlite_schema.specs.declared.schema.Schema.{Schema}
 use Rattle.sqlite_catalog.specs.Change.{next_tree, KeepsRows}
 use Rattle.sqlite_rules.specs.Lists.{Has}
@@ -40,6 +40,10 @@ Brings Fits f a b = (p : Parts) → p.tables ≡ Second → Fits p → HoldsPart
 -- all parts fit
 abbrev pub Any : Parts → Type 0
 Any p = ⊤
+
+-- parts as a statement leaves them that changes so many rows, which does nothing where it changes none
+abbrev pub if_changed : ℕ → (Parts → Parts) → Parts → Parts
+if_changed count f p = if count == 0 then p else f p
 
 -- parts with a mark set
 abbrev pub with_mark : Mark → Parts → Parts

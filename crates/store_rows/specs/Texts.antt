@@ -10,6 +10,12 @@ put_cell_text = codes "INSERT OR REPLACE INTO cells (record, slot, n) VALUES (?1
 abbrev pub put_notice_text : List ℕ
 put_notice_text = codes "INSERT OR REPLACE INTO notices (record, site, ann, fin) VALUES (?1, ?2, ?3, ?4)"
 
+abbrev pub update_cell_text : List ℕ
+update_cell_text = codes "UPDATE cells SET n = ?3 WHERE record = ?1 AND slot = ?2"
+
+abbrev pub update_notice_text : List ℕ
+update_notice_text = codes "UPDATE notices SET ann = ?3, fin = ?4 WHERE record = ?1 AND site = ?2"
+
 abbrev pub add_session_text : List ℕ
 add_session_text = codes "INSERT INTO sessions (record, holder, phase, place) VALUES (?1, ?2, ?3, ?4)"
 

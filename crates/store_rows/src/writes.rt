@@ -1,12 +1,14 @@
 //! The statements of a transaction, one function each, and what they make of a store.
-ghost use Rattle.std.specs.Prelude.{◌≡◌, ◌<◌, ◌^◌, pos, [], ◌∷◌, All, Some, IsTrue, OnOk};
+ghost use Rattle.std.specs.Prelude.{◌≡◌, ◌<◌, ◌^◌, pos, [], ◌∷◌, All, Some, IsTrue, OnOk, IfOk};
 ghost use Rattle.sqlite_value.specs.declared.value.Value.TheVariants.{Int};
 ghost use Rattle.sqlite_value.specs.Value.{owned};
+ghost use Rattle.sqlite.specs.Values.{bound};
+ghost use Rattle.store_rows.specs.Rows.{cell_row, notice_row};
 ghost use Rattle.sqlite.specs.State.{HasCleanDisk, KeepsCommit, Survives};
 ghost use Rattle.sqlite.specs.Held.{state};
 ghost use Rattle.store_schema.specs.Tables.{no_schema, schema_1, schema_2, schema_3, schema_4};
 ghost use Rattle.store_rows.specs.Holding.{mark};
-ghost use Rattle.store_rows.specs.Steps.{Goes, Makes, Brings, Any, HasFreePlace, HasNoSuchPlace, IsStorable, with_mark, with_cells, with_notices, with_drop, with_session, with_edit};
+ghost use Rattle.store_rows.specs.Steps.{Goes, Makes, Brings, Any, HasFreePlace, HasNoSuchPlace, IsStorable, if_changed, with_mark, with_cells, with_notices, with_drop, with_session, with_edit};
 
 use crate::content::{SessionEdit, StoredCell, StoredNotice, StoredSession};
 use sqlite::types::ValueRef;
@@ -103,8 +105,36 @@ pub fn put_mark<S: Alter>(tx: &mut Transaction<'_, S>, name: &str, value: &str) 
     Ok(())
 }
 
-/// Sets a counter.
-fn put_cell<S: Alter>(tx: &mut Transaction<'_, S>, cell: StoredCell) -> Result<(), Error>
+/// The columns of a counter's row.
+fn cell_values<'a>(cell: StoredCell) -> [ValueRef<'a>; 3]
+    requires { cell.n < 2 ^ 63 }
+    ensures { bound result ≡ cell_row cell }
+{
+    [
+        number(u64::from(cell.r)),
+        number(u64::from(cell.slot)),
+        number(cell.n),
+    ]
+}
+
+/// Sets a counter that is there, and tells how many rows that changed.
+fn update_cell<S: Alter>(tx: &mut Transaction<'_, S>, cell: StoredCell) -> Result<usize, Error>
+    requires { cell.n < 2 ^ 63 }
+    ensures same_reference { tx.new.conn.ghost_name ≡ tx.old.conn.ghost_name }
+    ensures goes { HasCleanDisk (state S.Store tx.new.conn.now) → IsTrue tx.old.conn.now.in_transaction
+        → IfOk result (λ count. Goes (state S.Store tx.old.conn.now) (state S.Store tx.new.conn.now) (Brings Any (if_changed count (with_cells (cell ∷ []))))) }
+    ensures kept { HasCleanDisk (state S.Store tx.new.conn.now) → IsTrue tx.old.conn.now.in_transaction
+        → KeepsCommit (state S.Store tx.old.conn.now) (state S.Store tx.new.conn.now) }
+    ensures survives { Survives (state S.Store tx.old.conn.now) (state S.Store tx.new.conn.now) (λ _. ⊥) }
+{
+    tx.execute(
+        "UPDATE cells SET n = ?3 WHERE record = ?1 AND slot = ?2",
+        &cell_values(cell),
+    )
+}
+
+/// Sets a counter, with its entry in the index, whether it is there or not.
+fn replace_cell<S: Alter>(tx: &mut Transaction<'_, S>, cell: StoredCell) -> Result<(), Error>
     requires { cell.n < 2 ^ 63 }
     ensures same_reference { tx.new.conn.ghost_name ≡ tx.old.conn.ghost_name }
     ensures goes { HasCleanDisk (state S.Store tx.new.conn.now) → IsTrue tx.old.conn.now.in_transaction
@@ -115,17 +145,64 @@ fn put_cell<S: Alter>(tx: &mut Transaction<'_, S>, cell: StoredCell) -> Result<(
 {
     tx.execute(
         "INSERT OR REPLACE INTO cells (record, slot, n) VALUES (?1, ?2, ?3)",
-        &[
-            number(u64::from(cell.r)),
-            number(u64::from(cell.slot)),
-            number(cell.n),
-        ],
+        &cell_values(cell),
     )?;
     Ok(())
 }
 
-/// Sets a notice.
-fn put_notice<S: Alter>(tx: &mut Transaction<'_, S>, notice: StoredNotice) -> Result<(), Error>
+/// Sets a counter. Where it is there, the index stays, and so a page less goes into the log.
+fn put_cell<S: Alter>(tx: &mut Transaction<'_, S>, cell: StoredCell) -> Result<(), Error>
+    requires { cell.n < 2 ^ 63 }
+    ensures same_reference { tx.new.conn.ghost_name ≡ tx.old.conn.ghost_name }
+    ensures goes { HasCleanDisk (state S.Store tx.new.conn.now) → IsTrue tx.old.conn.now.in_transaction
+        → OnOk result (Goes (state S.Store tx.old.conn.now) (state S.Store tx.new.conn.now) (Brings Any (with_cells (cell ∷ [])))) }
+    ensures kept { HasCleanDisk (state S.Store tx.new.conn.now) → IsTrue tx.old.conn.now.in_transaction
+        → KeepsCommit (state S.Store tx.old.conn.now) (state S.Store tx.new.conn.now) }
+    ensures survives { Survives (state S.Store tx.old.conn.now) (state S.Store tx.new.conn.now) (λ _. ⊥) }
+{
+    let count = update_cell(tx, cell)?;
+    if count == 0 {
+        return replace_cell(tx, cell);
+    }
+    Ok(())
+}
+
+/// The columns of a notice's row.
+fn notice_values<'a>(notice: StoredNotice) -> [ValueRef<'a>; 4]
+    requires announced { notice.announced < 2 ^ 63 }
+    requires finished { notice.finished < 2 ^ 63 }
+    ensures { bound result ≡ notice_row notice }
+{
+    [
+        number(u64::from(notice.r)),
+        number(u64::from(notice.site)),
+        number(notice.announced),
+        number(notice.finished),
+    ]
+}
+
+/// Sets a notice that is there, and tells how many rows that changed.
+fn update_notice<S: Alter>(
+    tx: &mut Transaction<'_, S>,
+    notice: StoredNotice,
+) -> Result<usize, Error>
+    requires announced { notice.announced < 2 ^ 63 }
+    requires finished { notice.finished < 2 ^ 63 }
+    ensures same_reference { tx.new.conn.ghost_name ≡ tx.old.conn.ghost_name }
+    ensures goes { HasCleanDisk (state S.Store tx.new.conn.now) → IsTrue tx.old.conn.now.in_transaction
+        → IfOk result (λ count. Goes (state S.Store tx.old.conn.now) (state S.Store tx.new.conn.now) (Brings Any (if_changed count (with_notices (notice ∷ []))))) }
+    ensures kept { HasCleanDisk (state S.Store tx.new.conn.now) → IsTrue tx.old.conn.now.in_transaction
+        → KeepsCommit (state S.Store tx.old.conn.now) (state S.Store tx.new.conn.now) }
+    ensures survives { Survives (state S.Store tx.old.conn.now) (state S.Store tx.new.conn.now) (λ _. ⊥) }
+{
+    tx.execute(
+        "UPDATE notices SET ann = ?3, fin = ?4 WHERE record = ?1 AND site = ?2",
+        &notice_values(notice),
+    )
+}
+
+/// Sets a notice, with its entry in the index, whether it is there or not.
+fn replace_notice<S: Alter>(tx: &mut Transaction<'_, S>, notice: StoredNotice) -> Result<(), Error>
     requires announced { notice.announced < 2 ^ 63 }
     requires finished { notice.finished < 2 ^ 63 }
     ensures same_reference { tx.new.conn.ghost_name ≡ tx.old.conn.ghost_name }
@@ -137,13 +214,26 @@ fn put_notice<S: Alter>(tx: &mut Transaction<'_, S>, notice: StoredNotice) -> Re
 {
     tx.execute(
         "INSERT OR REPLACE INTO notices (record, site, ann, fin) VALUES (?1, ?2, ?3, ?4)",
-        &[
-            number(u64::from(notice.r)),
-            number(u64::from(notice.site)),
-            number(notice.announced),
-            number(notice.finished),
-        ],
+        &notice_values(notice),
     )?;
+    Ok(())
+}
+
+/// Sets a notice. Where it is there, the index stays, and so a page less goes into the log.
+fn put_notice<S: Alter>(tx: &mut Transaction<'_, S>, notice: StoredNotice) -> Result<(), Error>
+    requires announced { notice.announced < 2 ^ 63 }
+    requires finished { notice.finished < 2 ^ 63 }
+    ensures same_reference { tx.new.conn.ghost_name ≡ tx.old.conn.ghost_name }
+    ensures goes { HasCleanDisk (state S.Store tx.new.conn.now) → IsTrue tx.old.conn.now.in_transaction
+        → OnOk result (Goes (state S.Store tx.old.conn.now) (state S.Store tx.new.conn.now) (Brings Any (with_notices (notice ∷ [])))) }
+    ensures kept { HasCleanDisk (state S.Store tx.new.conn.now) → IsTrue tx.old.conn.now.in_transaction
+        → KeepsCommit (state S.Store tx.old.conn.now) (state S.Store tx.new.conn.now) }
+    ensures survives { Survives (state S.Store tx.old.conn.now) (state S.Store tx.new.conn.now) (λ _. ⊥) }
+{
+    let count = update_notice(tx, notice)?;
+    if count == 0 {
+        return replace_notice(tx, notice);
+    }
     Ok(())
 }
 

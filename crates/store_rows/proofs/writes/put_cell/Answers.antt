@@ -1,9 +1,16 @@
+use Rattle.std.proofs.Common.{[], ◌∷◌}
 use Rattle.sqlite.specs.Held.{state}
-use Rattle.store_rows.proofs.StepLemmas.{cell_goes}
+use Rattle.store_rows.specs.Steps.{with_cells}
+use Rattle.store_rows.proofs.StepLemmas.{changed}
 use Rattle.store_rows.proofs.writes.put_cell.Goals as goal
 
 pub returns-clause-goes : goal.returns-clause-goes
 returns-clause-goes g c clean inside =
-    let ran = c.in_ok-execute.ensures.runs clean inside in
-    let has = rw (c.number.ensures, c.number-2.ensures, c.number-3.ensures, c.from.ensures, c.from-2.ensures) at ran.0 in
-    record { inside = ran.1.mode; committed = ran.1.committed_is; effect = cell_goes (state g.S.Store c.args.tx.now.conn.now) (state g.S.Store c.execute.new.self.conn.now) c.args.cell c.in_ok-execute.field-0 has }
+    let old = state g.S.Store c.args.tx.now.conn.now in
+    let new = state g.S.Store c.update_cell.new.tx.conn.now in
+    let step = c.in_ok-count.ensures.goes clean inside in
+    record {
+      inside = step.inside;
+      committed = step.committed;
+      effect = changed old.now new.now c.in_ok-count.count (with_cells (c.args.cell ∷ [])) c.if-count-eq0.false step.effect;
+    }
