@@ -293,7 +293,7 @@ fn put_session<S: Alter>(tx: &mut Transaction<'_, S>, session: StoredSession) ->
     add_session(tx, session)
 }
 
-/// Sets counters, in turn. One statement each.
+/// Sets counters, in turn. One statement each, and a second where the counter is new.
 pub fn put_cells<S: Alter>(tx: &mut Transaction<'_, S>, cells: &[StoredCell]) -> Result<(), Error>
     requires { All (λ c. c.n < 2 ^ 63) cells.now }
     ensures same_reference { tx.new.conn.ghost_name ≡ tx.old.conn.ghost_name }
@@ -309,7 +309,7 @@ pub fn put_cells<S: Alter>(tx: &mut Transaction<'_, S>, cells: &[StoredCell]) ->
     Ok(())
 }
 
-/// Sets notices, in turn. One statement each.
+/// Sets notices, in turn. One statement each, and a second where the notice is new.
 pub fn put_notices<S: Alter>(
     tx: &mut Transaction<'_, S>,
     notices: &[StoredNotice],
