@@ -48,7 +48,7 @@ use Rattle.admission_core.specs.Kept.{DurableState, ChangeState, durable_of, cha
 use Rattle.admission_core.specs.Restored.{IsListed, IsSession}
 use Rattle.admission_core.proofs.StandsLemmas.{reached_after, phases_told}
 use Rattle.admission_core.proofs.LimitLemmas.{seats_few}
-use Rattle.store_content.specs.Keeping.{most_kept, IsSessionChange, IsChange, with_session, changed_sessions, changed}
+use Rattle.durable_keeper.specs.Keeping.{most_kept, IsSessionChange, IsChange, with_session, changed_sessions, changed}
 
 -- what an operation needs of the sessions
 abbrev Fits : (ℕ → ℕ → Option Phase) → Operation → Type 0

@@ -22,7 +22,7 @@ use Rattle.merge_core.specs.Book.{seats_at}
 use Rattle.seat_rows.specs.Seats.{inside_of}
 use Rattle.admission_model.proofs.BookLemmas.{inside_there}
 use Rattle.admission_core.proofs.CoreLemmas.{is_core, has_book}
-use Rattle.site_store.specs.declared.keeper.Keeper.{Ghosts}
+use Rattle.durable_keeper.specs.declared.keeper.Keeper.{Ghosts}
 use Rattle.desk_log.specs.declared.entry.Entry.{Entry}
 use Rattle.desk_log.specs.Log.{LogState, is_fault, is_logged, ends_in_fault, begun, after_entry, account_after, account_tried, IsInDoubt, IsLegal, log_with}
 use Rattle.desk_log.specs.Desk.{DeskState, first_account, account_of, account_if_kept, is_frozen, IsOpen, Leaves, IsMadeFor, IsDesk, IsUnserved, IsDoubted, IsAnswered, IsReply, IsServing, KeepsOn, IsBegin, receipt_of}

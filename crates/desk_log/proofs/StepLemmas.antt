@@ -17,10 +17,10 @@ use Rattle.admission_core.specs.Kept.{DurableState, ChangeState, durable_of, cha
 use Rattle.admission_core.specs.Prepared.{Prepared, IsReadyFor, IsChangeFor}
 use Rattle.admission_core.proofs.CoreLemmas.{shows_account}
 use Rattle.admission_core.proofs.ReadyLemmas.{view_along, served_after, served_by}
-use Rattle.site_store.specs.declared.keeper.Keeper.{Ghosts}
-use Rattle.site_store.specs.declared.error.KeeperError.{KeeperError}
-use Rattle.site_store.specs.declared.error.KeeperError.TheVariants.{Memory as NoSpace, StoreFault as Failed}
-use Rattle.store_content.specs.Keeping.{IsChange, changed}
+use Rattle.durable_keeper.specs.declared.keeper.Keeper.{Ghosts}
+use Rattle.durable_keeper.specs.declared.error.KeeperError.{KeeperError}
+use Rattle.durable_keeper.specs.declared.error.KeeperError.TheVariants.{Memory as NoSpace, StoreFault as Failed}
+use Rattle.durable_keeper.specs.Keeping.{IsChange, changed}
 use Rattle.desk_log.specs.declared.step.Served.{Served}
 use Rattle.desk_log.specs.Desk.{IsMadeFor, HasKept, HasNotKept, MayHaveKept, KeepsChange, IsUnserved, IsDoubted, IsAnswered, IsStep, IsCopied}
 use Rattle.desk_log.proofs.ReplyLemmas.{memory_is, never_memory}

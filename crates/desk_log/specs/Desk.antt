@@ -17,10 +17,10 @@ use Rattle.admission_core.specs.Core.{Core, Stands, SameContent}
 use Rattle.admission_core.specs.Kept.{DurableState, ChangeState, durable_of}
 use Rattle.admission_core.specs.declared.restoring.RestoreError.{RestoreError}
 use Rattle.admission_core.specs.declared.restoring.RestoreError.TheVariants.{BadSite as NoSuchSite, WrongCounters as NoCounters, WrongSessions as NoSessions, Memory as NoRoom}
-use Rattle.store_content.specs.Keeping.{changed}
-use Rattle.site_store.specs.declared.error.KeeperError.{KeeperError}
-use Rattle.site_store.specs.declared.error.KeeperError.TheVariants.{Memory as NoSpace, StoreFault as Failed}
-use Rattle.site_store.specs.declared.keeper.Keeper.{Ghosts}
+use Rattle.durable_keeper.specs.Keeping.{changed}
+use Rattle.durable_keeper.specs.declared.error.KeeperError.{KeeperError}
+use Rattle.durable_keeper.specs.declared.error.KeeperError.TheVariants.{Memory as NoSpace, StoreFault as Failed}
+use Rattle.durable_keeper.specs.declared.keeper.Keeper.{Ghosts}
 use Rattle.desk_log.specs.declared.error.OpenError.{OpenError}
 use Rattle.desk_log.specs.declared.error.OpenError.TheVariants.{BadSite, BadPasses, BadLimit, StoreFault, WrongCounters, WrongSessions, Memory}
 use Rattle.desk_log.specs.declared.step.Served.{Served}

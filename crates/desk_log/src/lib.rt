@@ -13,6 +13,4 @@ mod error;
 mod log;
 pub mod same;
 mod step;
-#[cfg(test)]
-mod tests;
 mod transcript;

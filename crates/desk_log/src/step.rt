@@ -7,12 +7,12 @@ ghost use Rattle.admission_model.specs.declared.reply.Refusal.TheVariants.{Store
 ghost use Rattle.admission_model.specs.declared.reply.Reply.TheVariants.{Refused};
 ghost use Rattle.admission_model.specs.Account.{Account};
 ghost use Rattle.admission_core.specs.Core.{IsCore, Stands, is_memory};
-ghost use Rattle.store_content.specs.Keeping.{IsChange};
-ghost use Rattle.site_store.specs.declared.error.KeeperError.TheVariants.{Memory, StoreFault};
+ghost use Rattle.durable_keeper.specs.Keeping.{IsChange};
+ghost use Rattle.durable_keeper.specs.declared.error.KeeperError.TheVariants.{Memory, StoreFault};
 ghost use Rattle.desk_log.specs.Desk.{IsMadeFor, IsStep, IsCopied, KeepsChange};
 
 use admission_core::{Ask, Call, Change, Refusal, Reply, SiteCore};
-use site_store::{Keeper, KeeperError};
+use durable_keeper::{Keeper, KeeperError};
 use std::alloc::{AllocError, Global};
 
 /// A reply with its copies: one for the log, and one for a receipt where that is wanted.

@@ -2,13 +2,8 @@
 //! calls of one site in, the replies of its store's desk out.
 #![tactic(auto)]
 
-mod shell;
-mod standard_error;
-#[cfg(test)]
-mod tests;
-
 use std::process::ExitCode;
 
 fn main(rt: HostRuntime) -> ExitCode {
-    ExitCode::from(shell::run(&rt))
+    ExitCode::from(program_shell::run(&rt))
 }

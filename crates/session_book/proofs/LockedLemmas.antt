@@ -6,7 +6,7 @@ use Rattle.merge_core.specs.Layout.{LayoutState}
 use Rattle.admission_model.specs.declared.ask.Call.{Call}
 use Rattle.admission_model.specs.declared.reply.Reply.{Reply}
 use Rattle.admission_core.specs.Kept.{DurableState}
-use Rattle.site_store.specs.declared.keeper.Keeper.{Ghosts}
+use Rattle.durable_keeper.specs.declared.keeper.Keeper.{Ghosts}
 use Rattle.desk_log.specs.declared.entry.Entry.{Entry}
 use Rattle.desk_log.specs.Log.{LogState, is_logged}
 use Rattle.desk_log.specs.Desk.{DeskState, IsFresh, IsServing, Leaves, receipt_of, account_of, account_if_kept, is_frozen}

@@ -10,7 +10,7 @@ use Rattle.std.specs.declared.sync.ledger.Ledger as ledger
 use Rattle.merge_core.proofs.layout.Layout.TheSendSync as layout
 use Rattle.admission_core.proofs.durable.Durable.TheSendSync as durable
 use Rattle.admission_core.proofs.site_core.SiteCore.TheSendSync as core
-use Rattle.site_store.specs.declared.keeper.Keeper as keeper
+use Rattle.durable_keeper.specs.declared.keeper.Keeper as keeper
 use Rattle.desk_log.specs.contracts.desk.Desk as desk
 use Rattle.desk_log.proofs.log.Log.TheSendSync as log
 use Rattle.session_book.specs.declared.opening.Opening as opening

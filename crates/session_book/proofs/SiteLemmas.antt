@@ -4,7 +4,7 @@ use Rattle.std.specs.Prelude.{All, IsTrue, ◌↔◌}
 use Rattle.merge_core.specs.Layout.{LayoutState}
 use Rattle.admission_model.specs.Account.{Account}
 use Rattle.admission_core.specs.Kept.{DurableState}
-use Rattle.site_store.specs.declared.keeper.Keeper.{Ghosts}
+use Rattle.durable_keeper.specs.declared.keeper.Keeper.{Ghosts}
 use Rattle.desk_log.specs.declared.entry.Entry.{Entry}
 use Rattle.desk_log.specs.declared.transcript.Run.{Run}
 use Rattle.desk_log.specs.Log.{begun, account_after, account_tried, ends_in_fault, IsLegal}

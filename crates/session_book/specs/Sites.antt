@@ -5,7 +5,7 @@ use Rattle.std.specs.List.{list_any}
 use Rattle.merge_core.specs.Layout.{LayoutState}
 use Rattle.admission_model.specs.Restoring.{AreCells, AreSessions}
 use Rattle.admission_core.specs.Kept.{DurableState}
-use Rattle.site_store.specs.declared.keeper.Keeper.{Ghosts}
+use Rattle.durable_keeper.specs.declared.keeper.Keeper.{Ghosts}
 use Rattle.desk_log.specs.declared.entry.Entry.{Entry}
 use Rattle.desk_log.specs.declared.error.OpenError.{OpenError}
 use Rattle.desk_log.specs.declared.error.OpenError.TheVariants.{BadSite, BadPasses, BadLimit}

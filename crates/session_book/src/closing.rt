@@ -11,8 +11,8 @@ use crate::pass::{Pass, Receipt};
 use admission_core::Durable;
 use desk_log::same::{same_call, same_durable, same_layout, same_reply};
 use desk_log::{Desk, Entry, Run, Runs, Transcript};
+use durable_keeper::Keeper;
 use merge_core::Layout;
-use site_store::Keeper;
 use std::alloc::Global;
 use std::sync::ledger::{Ledger, Share};
 

@@ -3,7 +3,7 @@ use crate::opening::Opening;
 use crate::pass::Pass;
 use admission_core::{Call, Reply};
 use desk_log::{Desk, Run};
-use site_store::Keeper;
+use durable_keeper::Keeper;
 use std::marker::Model;
 use std::sync::ledger::{Book, Share};
 

@@ -1,2 +1,1 @@
 mod SiteLemmas
-pub mod StoredLemmas

@@ -1,3 +1,2 @@
 pub mod Sites
 pub mod SiteSteps
-pub mod StoredSites

@@ -4,7 +4,7 @@ use Rattle.merge_core.specs.Layout.{LayoutState}
 use Rattle.admission_model.specs.Account.{Account}
 use Rattle.admission_model.specs.Restoring.{AreCells, AreSessions}
 use Rattle.admission_core.specs.Kept.{DurableState, durable_of}
-use Rattle.site_store.specs.declared.keeper.Keeper.{Ghosts}
+use Rattle.durable_keeper.specs.declared.keeper.Keeper.{Ghosts}
 use Rattle.desk_log.specs.Log.{begun}
 use Rattle.desk_log.specs.Desk.{Finds, KeepsOn}
 use Rattle.site_script.specs.Served.{Serves, Stops}

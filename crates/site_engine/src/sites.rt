@@ -6,11 +6,11 @@ ghost use Rattle.site_engine.specs.Sites.{EndsSite};
 ghost use Rattle.site_engine.specs.SiteSteps.{AnswersLines, ServesInput, opening_status};
 
 use desk_log::{Desk, OpenError};
+use durable_keeper::Keeper;
 use exit_status::{Status, StoreRefusal};
 use layout_file::LayoutFault;
 use merge_core::Layout;
 use site_script::serve_script;
-use site_store::Keeper;
 use std::alloc::Global;
 use std::io::{Read, Write};
 use text_input::{InputError, Sink, Source, read_input};

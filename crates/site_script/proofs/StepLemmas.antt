@@ -10,7 +10,7 @@ use Rattle.admission_model.specs.View.{view_of}
 use Rattle.admission_model.specs.Serving.{after, reply_of}
 use Rattle.admission_core.specs.Core.{is_memory}
 use Rattle.script_text.specs.Replies.{reply_text}
-use Rattle.site_store.specs.declared.keeper.Keeper.{Ghosts}
+use Rattle.durable_keeper.specs.declared.keeper.Keeper.{Ghosts}
 use Rattle.desk_log.specs.declared.entry.Entry.{Entry}
 use Rattle.desk_log.specs.Log.{LogState, is_fault, is_logged, ends_in_fault, begun, after_entry, account_after as log_account, IsInDoubt}
 use Rattle.desk_log.specs.Desk.{DeskState, first_account, account_of, account_if_kept, is_frozen, IsOpen, IsServing}

@@ -13,8 +13,8 @@ use crate::lines::{Said, said_in};
 use admission_core::{Call, Refusal, Reply};
 use delta_codec::DecodeError;
 use desk_log::Desk;
+use durable_keeper::Keeper;
 use script_text::{push_reply, push_unread_line};
-use site_store::Keeper;
 use std::alloc::{AllocError, Global};
 use text_input::cut_line;
 

@@ -1,8 +1,8 @@
 //! Scripts, served by a desk over memory.
 use crate::serve_script;
 use desk_log::Desk;
+use durable_keeper::MemoryKeeper;
 use merge_core::{Layout, RecordName, RecordSpec};
-use site_store::MemoryKeeper;
 use std::alloc::Global;
 
 // Two sites, and record `a` with two seats at site 0.

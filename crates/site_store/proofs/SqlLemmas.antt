@@ -10,9 +10,9 @@ use Rattle.store_tables.specs.Transacts.{Takes}
 use Rattle.store_tables.specs.declared.error.TableError.{TableError}
 use Rattle.store_tables.specs.declared.error.TableError.TheVariants as tables
 use Rattle.store_content.specs.Content.{durable_in}
-use Rattle.store_content.specs.Keeping.{changed}
+use Rattle.durable_keeper.specs.Keeping.{changed}
 use Rattle.store_content.specs.Plan.{RowsState, Makes, after}
-use Rattle.site_store.specs.declared.error.KeeperError.TheVariants as keeper
+use Rattle.durable_keeper.specs.declared.error.KeeperError.TheVariants as keeper
 use Rattle.site_store.specs.Errors.{keeper_error}
 use Rattle.site_store.specs.Sql.{IsOf, IsOneOf, ChangesEither}
 use Rattle.site_store.proofs.OpenLemmas.{twice}

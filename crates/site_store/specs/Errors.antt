@@ -1,8 +1,8 @@
 -- What a refusal of the tables is to a keeper, and to an opening.
 use Rattle.store_tables.specs.declared.error.TableError.{TableError}
 use Rattle.store_tables.specs.declared.error.TableError.TheVariants as tables
-use Rattle.site_store.specs.declared.error.KeeperError.{KeeperError}
-use Rattle.site_store.specs.declared.error.KeeperError.TheVariants as keeper
+use Rattle.durable_keeper.specs.declared.error.KeeperError.{KeeperError}
+use Rattle.durable_keeper.specs.declared.error.KeeperError.TheVariants as keeper
 use Rattle.site_store.specs.declared.error.OpenError.{OpenError}
 use Rattle.site_store.specs.declared.error.OpenError.TheVariants as opening
 

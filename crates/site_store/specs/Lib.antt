@@ -1,4 +1,3 @@
 pub mod Errors
-pub mod Memory
 pub mod Opened
 pub mod Sql

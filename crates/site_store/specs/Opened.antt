@@ -15,7 +15,7 @@ use Rattle.store_tables.specs.Reads.{IsInRange}
 use Rattle.store_content.specs.declared.index.Index.{Index}
 use Rattle.store_content.specs.Content.{IsContent, durable_in}
 use Rattle.store_content.specs.Known.{Knows}
-use Rattle.store_content.specs.Keeping.{nothing_kept}
+use Rattle.durable_keeper.specs.Keeping.{nothing_kept}
 use Rattle.site_store.specs.declared.error.OpenError.{OpenError}
 use Rattle.site_store.specs.declared.error.OpenError.TheVariants.{BadStore, WrongSite, WrongLayout, StoreFault, Memory}
 use Rattle.site_store.specs.declared.sql.SqlKeeper.{SqlKeeper}

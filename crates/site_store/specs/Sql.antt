@@ -12,7 +12,7 @@ use Rattle.store_rows.specs.Holding.{Keeps, KeepsEither}
 use Rattle.store_tables.specs.Kept.{has_failed, connection_of}
 use Rattle.store_content.specs.declared.index.Index.{Index}
 use Rattle.store_content.specs.Content.{IsContent, durable_in}
-use Rattle.store_content.specs.Keeping.{changed}
+use Rattle.durable_keeper.specs.Keeping.{changed}
 use Rattle.store_content.specs.Known.{Knows}
 use Rattle.site_store.specs.declared.sql.SqlKeeper.{SqlKeeper}
 

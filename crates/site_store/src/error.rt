@@ -1,39 +1,19 @@
 ghost use Rattle.std.specs.Prelude.{◌≡◌};
 ghost use Rattle.site_store.specs.Errors.{keeper_error, open_error};
-ghost use Rattle.site_store.specs.declared.error.KeeperError.TheVariants as keeper;
 ghost use Rattle.site_store.specs.declared.error.OpenError.TheVariants as opening;
 
+use durable_keeper::KeeperError;
 use std::alloc::AllocError;
 use store_tables::TableError;
 use thiserror::Error;
 
-/// Why a keeper did not do what it was asked.
-#[derive(Clone, Copy, Debug, PartialEq, Eq, Error)]
-pub enum KeeperError {
-    /// What is kept has not changed.
-    #[error("out of memory")]
-    Memory,
-    /// The device refused a call. What was asked may have happened or not, and the store has to be opened again.
-    #[error("the store has failed")]
-    StoreFault,
-}
-
-impl From<AllocError> for KeeperError {
-    ghost from_gives = { λ _ e. e ≡ keeper.Memory };
-
-    fn from(_e: AllocError) -> KeeperError {
-        KeeperError::Memory
-    }
-}
-
-impl From<TableError> for KeeperError {
-    ghost from_gives = { λ t e. e ≡ keeper_error t };
-
-    fn from(e: TableError) -> KeeperError {
-        match e {
-            TableError::Memory => KeeperError::Memory,
-            TableError::BadStore | TableError::StoreFault => KeeperError::StoreFault,
-        }
+/// What a refusal of the tables is to a keeper.
+pub(crate) fn keeper_error(e: TableError) -> KeeperError
+    ensures { result ≡ keeper_error e }
+{
+    match e {
+        TableError::Memory => KeeperError::Memory,
+        TableError::BadStore | TableError::StoreFault => KeeperError::StoreFault,
     }
 }
 

@@ -1,16 +1,11 @@
-//! What keeps a site's durable part, in memory or in a database.
+//! A site's durable part in a database: the keeper over it, how it is opened, and how it is found again.
 #![tactic(auto)]
 
-pub use error::{KeeperError, OpenError};
-pub use keeper::Keeper;
-pub use memory::MemoryKeeper;
+pub use durable_keeper::{Keeper, KeeperError, MemoryKeeper};
+pub use error::OpenError;
 pub use sql::SqlKeeper;
 
 mod error;
-mod keeper;
-mod memory;
 mod opening;
 pub mod restart;
 mod sql;
-#[cfg(test)]
-mod tests;

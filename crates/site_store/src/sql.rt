@@ -12,12 +12,12 @@ ghost use Rattle.store_tables.specs.Transacts.{Takes};
 ghost use Rattle.store_tables.specs.declared.error.TableError.TheVariants.{BadStore, Memory as NoMemory, StoreFault as NoStore};
 ghost use Rattle.store_content.specs.Plan.{IsTellable, after};
 ghost use Rattle.site_store.specs.Sql.{Stores, Changes, ChangesEither};
-ghost use Rattle.site_store.specs.declared.error.KeeperError.TheVariants.{Memory, StoreFault};
+ghost use Rattle.durable_keeper.specs.declared.error.KeeperError.TheVariants.{Memory, StoreFault};
 
-use crate::error::{KeeperError, OpenError};
-use crate::keeper::Keeper;
+use crate::error::{OpenError, keeper_error};
 use crate::opening::prepare;
 use admission_core::{Change, Durable};
+use durable_keeper::{Keeper, KeeperError};
 use merge_core::Layout;
 use sqlite::{Alter, Connection};
 use std::alloc::Global;
@@ -113,7 +113,7 @@ fn commit_rows<S: Alter>(
     }
     index.reserve(&rows)?;
     if let Err(error) = put(tables, &rows) {
-        return Err(KeeperError::from(error));
+        return Err(keeper_error(error));
     }
     index.advance(&rows);
     Ok(())
@@ -243,8 +243,10 @@ impl<S: Alter> Keeper for SqlKeeper<S> {
     }
 
     fn load(&mut self, alloc: Global) -> Result<Durable, KeeperError> {
-        let content = self.tables.load(alloc)?;
-        Ok(durable_of(alloc, &content)?)
+        match self.tables.load(alloc) {
+            Ok(content) => Ok(durable_of(alloc, &content)?),
+            Err(error) => Err(keeper_error(error)),
+        }
     }
 
     fn faults(&self) -> u64 {

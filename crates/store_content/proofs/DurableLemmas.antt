@@ -6,7 +6,7 @@ use Rattle.admission_model.specs.Durable.{AreRising, put_cells}
 use Rattle.admission_core.specs.Kept.{DurableState}
 use Rattle.store_rows.specs.Rows.{Stored}
 use Rattle.store_content.specs.Content.{IsContent, announced_cells, durable_cell, durable_cells, durable_in, finished_cells, session_of}
-use Rattle.store_content.proofs.CellLists.{puts_rise}
+use Rattle.durable_keeper.proofs.CellLists.{puts_rise}
 use Rattle.store_content.proofs.ToldLemmas.{puts_append, cells_rise, told_rise}
 
 pub announced_rise : (it : Stored) → IsContent it → AreRising (announced_cells it.notices)

@@ -6,7 +6,8 @@ use Rattle.std.proofs.lemmas.Bool.Decides.{nat_tests}
 use Rattle.admission_model.specs.declared.durable.DurableCell.{DurableCell}
 use Rattle.admission_model.specs.Durable.{AreRising, is_before}
 use Rattle.admission_model.specs.Restoring.{stored_at}
-use Rattle.store_content.proofs.CellLists.{is_at, before_through, before_apart, later_all, stored_before}
+use Rattle.durable_keeper.proofs.CellLists.{is_at, before_through, before_apart, later_all, stored_before}
+use Rattle.durable_keeper.proofs.MergeLemmas.{take_past}
 
 -- what the cell at an index says of the cells before it and behind it
 pub record Halves (cs : List DurableCell) (i : ℕ) (d x : DurableCell) : Type 0 where
@@ -65,13 +66,6 @@ pub search_low : (cs rest : List DurableCell) (i : ℕ) (d x : DurableCell) (o :
 search_low cs rest i d x o e below before answer up =
     let h = halves cs i d x below up in
     answer (subst AreRising (sym e) h.low) ∙ (ap (λ l. stored_at l x.r x.slot) e ∙ sym (h.before before))
-
--- more than all is all
-pub take_past : (n : ℕ) (cs : List DurableCell) → length cs ≤ n → take n cs ≡ cs
-take_past zero [] h = refl
-take_past zero (c ∷ cs) h = absurd (omega arith)
-take_past (suc n) [] h = refl
-take_past (suc n) (c ∷ cs) h = ap (λ l. c ∷ l) (take_past n cs (omega arith))
 
 -- a range to the end is all that is behind
 pub rest_of : (cs : List DurableCell) (i : ℕ) → take (length cs - (i + 1)) (drop (i + 1) cs) ≡ drop (suc i) cs

@@ -1,7 +1,5 @@
-pub mod CellLists
 pub mod HalfLemmas
 pub mod RisingLemmas
-pub mod MergeLemmas
 pub mod ToldLemmas
 pub mod DurableLemmas
 pub mod IndexLemmas

@@ -12,8 +12,8 @@ use Rattle.store_rows.specs.Sorted.{IsRising, put, put_all}
 use Rattle.store_rows.proofs.SortedLemmas.{IsOrder, put_rises}
 use Rattle.store_content.specs.Content.{durable_cell}
 use Rattle.store_content.specs.Plan.{cells_of}
-use Rattle.store_content.proofs.CellLists.{is_at, or_else, stored_before, stored_put}
-use Rattle.store_content.proofs.MergeLemmas.{behind_apart, level}
+use Rattle.durable_keeper.proofs.CellLists.{is_at, or_else, stored_before, stored_put}
+use Rattle.durable_keeper.proofs.MergeLemmas.{behind_apart, level}
 
 -- what holds of each, by index and by recursion
 pub each_of : {X : Type 0} (P : X → Type 0) (xs : List X) → All P xs → AllByRecursion P xs

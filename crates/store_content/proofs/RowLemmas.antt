@@ -10,7 +10,7 @@ use Rattle.store_rows.specs.Sorted.{put, put_all}
 use Rattle.store_content.specs.Content.{notice_in}
 use Rattle.store_content.specs.Known.{same_key}
 use Rattle.store_content.specs.Plan.{begins_row, row_after, site_at}
-use Rattle.store_content.proofs.CellLists.{is_at}
+use Rattle.durable_keeper.proofs.CellLists.{is_at}
 use Rattle.store_content.proofs.IndexLemmas.{notice_put}
 
 key_first : (r j q k : ℕ) → same_key (r, j) (q, k) ≡ true → r ≡ q

@@ -15,7 +15,7 @@ use Rattle.store_rows.specs.Sorted.{IsRising, put}
 use Rattle.store_rows.specs.Changes.{edited, without}
 use Rattle.store_rows.specs.Steps.{HasFreePlace, IsStorable}
 use Rattle.store_content.specs.Content.{IsOnce, IsPlaced, greatest_place, most_places, place_in, session_of}
-use Rattle.store_content.specs.Keeping.{changed_sessions, with_session}
+use Rattle.durable_keeper.specs.Keeping.{changed_sessions, with_session}
 use Rattle.store_content.specs.Known.{HasPlace, same_key}
 use Rattle.store_content.specs.Plan.{IsHeld, LacksPlace, edit_of, place_for}
 use Rattle.store_content.proofs.EditLemmas.{new_last, place_found, put_for}

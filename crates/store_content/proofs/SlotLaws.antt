@@ -12,9 +12,9 @@ use Rattle.store_rows.specs.Rows.{Stored, cell_before, notice_before}
 use Rattle.store_rows.specs.Sorted.{IsRising, put_all}
 use Rattle.store_rows.proofs.ContentLemmas.{cells_ordered, notices_ordered}
 use Rattle.store_content.specs.Content.{IsContent, IsNotice, announced_by, announced_cells, durable_cell, durable_cells, finished_by, finished_cells, notice_in}
-use Rattle.store_content.specs.Keeping.{most_kept}
+use Rattle.durable_keeper.specs.Keeping.{most_kept}
 use Rattle.store_content.specs.Plan.{IsCell, IsSlot, begins_row, cells_of, notices_of, site_at}
-use Rattle.store_content.proofs.CellLists.{is_at, one_rising, or_else, or_else_none, puts_rise, stored_append, stored_puts}
+use Rattle.durable_keeper.proofs.CellLists.{is_at, one_rising, or_else, or_else_none, puts_rise, stored_append, stored_puts}
 use Rattle.store_content.proofs.PutLemmas.{all_put_all, cells_below, kept_high, put_all_rises, stored_none, table_low}
 use Rattle.store_content.proofs.RowLemmas.{has_row, none_announced, none_finished, row_found, row_of, rows_of}
 use Rattle.store_content.proofs.ToldLemmas.{cells_rise, stored_high, stored_low, stored_told, told, value_in}

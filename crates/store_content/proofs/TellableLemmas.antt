@@ -12,7 +12,7 @@ use Rattle.admission_core.specs.declared.change.SessionChange.{SessionChange}
 use Rattle.admission_core.specs.declared.change.SessionChange.TheVariants as changes
 use Rattle.admission_core.specs.Kept.{ChangeState}
 use Rattle.admission_core.specs.Restored.{IsListed}
-use Rattle.store_content.specs.Keeping.{IsChange, IsSessionChange, most_kept}
+use Rattle.durable_keeper.specs.Keeping.{IsChange, IsSessionChange, most_kept}
 use Rattle.store_content.specs.Plan.{IsCell, IsHeld, IsSlot, IsTellable}
 
 low_or_high : (slot : ℕ) (sites i : ℕ) → 300 ≤ slot → (named sites i slot ≡ of_other sites i (slot - 300) Ann) × (slot < 400) ⊎ ((named sites i slot ≡ of_other sites i (slot - 400) Fin) × (400 ≤ slot))

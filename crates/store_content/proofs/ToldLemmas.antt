@@ -11,7 +11,7 @@ use Rattle.store_rows.specs.declared.content.StoredNotice.{StoredNotice}
 use Rattle.store_rows.specs.Rows.{cell_before, notice_before}
 use Rattle.store_rows.specs.Sorted.{IsRising}
 use Rattle.store_content.specs.Content.{durable_cell, notice_in}
-use Rattle.store_content.proofs.CellLists.{is_at, stored_before}
+use Rattle.durable_keeper.proofs.CellLists.{is_at, stored_before}
 
 -- cells put at once are put one list after the other
 pub puts_append : (cs ds es : List DurableCell) → put_cells (cs ++ ds) es ≡ put_cells cs (put_cells ds es)

@@ -1,4 +1,3 @@
 pub mod Content
-pub mod Keeping
 pub mod Known
 pub mod Plan

@@ -15,7 +15,7 @@ use Rattle.store_rows.specs.declared.content.SessionEdit.TheVariants.{Put, Dropp
 use Rattle.store_rows.specs.Rows.{Stored}
 use Rattle.store_rows.specs.Changes.{changed as committed}
 use Rattle.store_rows.specs.Steps.{HasFreePlace, IsStorable}
-use Rattle.store_content.specs.Keeping.{changed, most_kept}
+use Rattle.durable_keeper.specs.Keeping.{changed, most_kept}
 use Rattle.store_content.specs.Content.{IsContent, durable_in, stage_for, place_in, greatest_place, most_places, notice_in, announced_by, finished_by, announced_slot, finished_slot}
 
 -- what a commit puts into the tables of counters and notices, and its edit of a session

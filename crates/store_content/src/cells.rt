@@ -5,6 +5,7 @@ ghost use Rattle.admission_model.specs.Restoring.{stored_at};
 ghost use Rattle.store_content.specs.Plan.{begins_row, cells_of, site_at};
 
 use admission_core::DurableCell;
+use durable_keeper::is_before;
 use std::alloc::{AllocError, Global};
 use store_rows::StoredCell;
 
@@ -13,13 +14,6 @@ pub const ANNOUNCED: u16 = 300;
 
 /// The first slot of what is known of other sites' finished writers.
 pub const FINISHED: u16 = 400;
-
-/// Whether a cell stands before another: by record, then by slot.
-pub fn is_before(c: DurableCell, d: DurableCell) -> bool
-    ensures { result ≡ is_before c d }
-{
-    c.r < d.r || (c.r == d.r && c.slot < d.slot)
-}
 
 /// The value at a record's slot, if there is a cell for it, among cells that rise. A binary search.
 pub fn value_at(cells: &[DurableCell], r: u16, slot: u16) -> Option<u64>

@@ -4,8 +4,9 @@ ghost use Rattle.std.specs.List.{AllByRecursion};
 ghost use Rattle.admission_model.specs.Durable.{AreRising, put_cells};
 ghost use Rattle.store_content.specs.Content.{IsContent, IsNotice, announced_cells, durable_cell, durable_in, finished_cells, phase_of, session_of};
 
-use crate::cells::{ANNOUNCED, FINISHED, is_before};
+use crate::cells::{ANNOUNCED, FINISHED};
 use admission_core::{Durable, DurableCell, Phase, Session};
+use durable_keeper::put_cells;
 use std::alloc::{AllocError, Global};
 use store_rows::{Content, Stage, StoredCell, StoredNotice, StoredSession};
 
@@ -98,36 +99,4 @@ fn finished_cells(alloc: Global, notices: &[StoredNotice]) -> Result<Vec<Durable
         push_moved(&mut cells, cell)?;
     }
     Ok(cells)
-}
-
-/// Counters that rise by record and slot, put at their places among others that rise; of two at one place the one that is put
-/// stays. Linear.
-pub fn put_cells(
-    alloc: Global,
-    put: &[DurableCell],
-    kept: &[DurableCell],
-) -> Result<Vec<DurableCell>, AllocError>
-    ensures { AreRising put.now → AreRising kept.now → IfOk result (λ all. all.items ≡ put_cells put.now kept.now) }
-{
-    let mut all = Vec::new(alloc);
-    let mut i = 0;
-    let mut j = 0;
-    'cells: while i < put.len() && j < kept.len() {
-        let first = put[i];
-        let other = kept[j];
-        if is_before(other, first) {
-            all.push(other)?;
-            j += 1;
-        } else if is_before(first, other) {
-            all.push(first)?;
-            i += 1;
-        } else {
-            all.push(first)?;
-            i += 1;
-            j += 1;
-        }
-    }
-    all.extend_from_slice(&put[i..])?;
-    all.extend_from_slice(&kept[j..])?;
-    Ok(all)
 }

@@ -1,7 +1,7 @@
 //! A site's durable part as the rows of its store: what a content stands for, and which rows a change puts.
 #![tactic(auto)]
 
-pub use durable::{durable_of, put_cells};
+pub use durable::durable_of;
 pub use index::Index;
 pub use laws::change_law;
 pub use rows::Rows;

@@ -11,11 +11,7 @@ mod keeping;
 mod making;
 mod reads;
 pub mod restart;
-#[cfg(test)]
-mod store_tests;
 mod tables;
-#[cfg(test)]
-mod tests;
 
 pub use error::TableError;
 pub use tables::Tables;

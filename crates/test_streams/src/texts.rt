@@ -4,6 +4,10 @@
 pub const TWO_SITES: &str =
     "sites = 2\n[[record]]\nname = \"a\"\nseats = 2\nhome = 0\nproblem = 1\n";
 
+/// The same under problem 2.
+pub const WRITERS_FIRST: &str =
+    "sites = 2\n[[record]]\nname = \"a\"\nseats = 2\nhome = 0\nproblem = 2\n";
+
 /// Three sites, and record a with three seats at site 0 under problem 2.
 pub const THREE_SITES: &str =
     "sites = 3\n[[record]]\nname = \"a\"\nseats = 3\nhome = 0\nproblem = 2\n";

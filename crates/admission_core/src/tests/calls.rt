@@ -148,32 +148,43 @@ fn carried_out(core: &mut SiteCore, ask: Ask) -> Option<Step> {
     Some((ask, answer, slots, session))
 }
 
-// The first step that goes otherwise.
-fn first_other(alloc: Global) -> Option<Option<(usize, Step)>> {
-    let mut core = site(alloc, TWO_SITES, 0)?;
-    for (k, step) in STEPS.iter().enumerate() {
-        let other = carried_out(&mut core, step.0)?;
-        if other != *step {
+fn is_step(one: &Step, other: &Step) -> bool {
+    one == other
+}
+
+// The first of these steps that goes otherwise.
+fn first_other(core: &mut SiteCore, steps: &[Step]) -> Option<Option<(usize, Step)>> {
+    for (k, step) in steps.iter().enumerate() {
+        let other = carried_out(core, step.0)?;
+        if !is_step(&other, step) {
             return Some(Some((k, other)));
         }
     }
     Some(None)
 }
 
+fn first_of_all(alloc: Global) -> Option<Option<(usize, Step)>> {
+    first_other(&mut site(alloc, TWO_SITES, 0)?, &STEPS)
+}
+
 #[test]
 fn each_ask_has_its_change(rt: HostRuntime) {
-    assert_eq!(rt; first_other(rt.alloc()), Some(None));
+    assert_eq!(rt; first_of_all(rt.alloc()), Some(None));
+}
+
+fn is_answered_so(core: &mut SiteCore, steps: &[Step]) -> bool {
+    for step in steps {
+        if serve(core, step.0) != step.1 {
+            return false;
+        }
+    }
+    true
 }
 
 // The site after all steps by its public calls, if they are answered so.
 fn served(alloc: Global) -> Option<SiteCore> {
     let mut core = site(alloc, TWO_SITES, 0)?;
-    for (ask, want, _, _) in &STEPS {
-        if serve(&mut core, *ask) != *want {
-            return None;
-        }
-    }
-    Some(core)
+    is_answered_so(&mut core, &STEPS).then_some(core)
 }
 
 // A row of two sites as numbers: record, site, rights, and what was taken, announced and finished.

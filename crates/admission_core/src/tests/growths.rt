@@ -1,4 +1,4 @@
-use super::sites::{Answer, delta, layout, serve, site, told};
+use super::sites::{Answer, delta, is_same, kept, layout, said, serve, site, told};
 use crate::*;
 use merge_core::Delta;
 use std::alloc::Global;
@@ -31,26 +31,27 @@ fn at_work(alloc: Global) -> Option<SiteCore> {
 }
 
 // Whether a site keeps and tells what it did, if there is memory to see it.
-fn is_as_before(alloc: Global, core: &SiteCore, kept: &Durable, told: &Delta) -> Option<bool> {
-    let kept_now = core.durable().ok()?;
-    let told_now = core.snapshot().ok()?;
-    let apart = told_now.thin(alloc, told).ok()?;
-    Some(
-        kept_now.cells() == kept.cells()
-            && kept_now.sessions() == kept.sessions()
-            && told_now.rows().len() == told.rows().len()
-            && apart.rows().is_empty(),
-    )
+fn is_as_before(alloc: Global, core: &SiteCore, before: &Durable, told: &Delta) -> Option<bool> {
+    let now = kept(core)?;
+    Some(is_same(&now, before) && tells_the_same(alloc, &said(core)?, told)?)
+}
+
+// Whether two deltas have the same rows.
+fn tells_the_same(alloc: Global, one: &Delta, other: &Delta) -> Option<bool> {
+    let apart = one.thin(alloc, other).ok()?;
+    Some(one.rows().len() == other.rows().len() && apart.rows().is_empty())
 }
 
 // Whether a call succeeds, or finds no memory and changes nothing.
 fn serves_or_keeps(alloc: Global, mut core: SiteCore, call: &Call) -> Option<bool> {
-    let kept = core.durable().ok()?;
-    let said = core.snapshot().ok()?;
+    let kept_before = kept(&core)?;
+    let said_before = said(&core)?;
     let prepared = core.prepare(call);
     let reply = core.apply(prepared);
     match told(&reply) {
-        Answer::Refused(Refusal::Memory) => is_as_before(alloc, &core, &kept, &said),
+        Answer::Refused(Refusal::Memory) => {
+            is_as_before(alloc, &core, &kept_before, &said_before)
+        }
         Answer::Refused(_) => Some(false),
         _ => Some(true),
     }

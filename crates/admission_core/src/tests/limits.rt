@@ -1,5 +1,5 @@
 use super::rows::first_unannounced;
-use super::sites::{Answer, first_wrong, serve, site_of, sizes, spec, told};
+use super::sites::{Answer, first_wrong, is_same, kept, serve, site_of, sizes, spec, told};
 use crate::*;
 use grow_counters::{COUNTER_LIMIT, Counts};
 use merge_core::{Delta, Layout, Row};
@@ -239,14 +239,19 @@ fn a_full_site_restarts(rt: HostRuntime) {
     assert_eq!(rt; restarted(rt.alloc()), Some(want));
 }
 
+// What a full site keeps that comes back from a store.
+fn kept_again(alloc: Global, left: Durable) -> Option<Durable> {
+    let layout = greatest_layout(alloc)?;
+    let again = SiteCore::restore(alloc, layout, 0, left).ok()?;
+    kept(&again)
+}
+
 // Whether a full site that heard all is restored from what it keeps.
 fn is_restored(alloc: Global) -> Option<bool> {
     let (core, _) = heard(alloc)?;
-    let left = core.durable().ok()?;
-    let kept = left.try_copy(alloc).ok()?;
-    let again = SiteCore::restore(alloc, greatest_layout(alloc)?, 0, left).ok()?;
-    let keeps = again.durable().ok()?;
-    Some(keeps.cells() == kept.cells() && keeps.sessions() == kept.sessions())
+    let before = kept(&core)?;
+    let after = kept_again(alloc, kept(&core)?)?;
+    Some(is_same(&before, &after))
 }
 
 #[test]

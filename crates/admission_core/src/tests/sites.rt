@@ -43,20 +43,31 @@ pub fn site(alloc: Global, shape: Shape, site: u16) -> Option<SiteCore> {
 /// A row: its record and site, its counters of rights, and what was taken, announced and finished.
 pub type Line = (u16, u16, &'static [u64], [u64; 3]);
 
+fn counts(alloc: Global, rights: &[u64]) -> Option<Counts> {
+    let rights = Vec::from_slice(alloc, rights).ok()?;
+    Some(Counts::from_vec(rights))
+}
+
+fn one_row(alloc: Global, row: Row) -> Option<Delta> {
+    let from = row.s;
+    let mut rows = Vec::new(alloc);
+    rows.push(row).ok()?;
+    Delta::new(from, rows).ok()
+}
+
 /// The delta of one row, from its own site.
 pub fn delta(alloc: Global, line: Line) -> Option<Delta> {
     let [taken, ann, fin] = line.3;
-    let mut rows = Vec::new(alloc);
-    rows.push(Row {
+    let out = counts(alloc, line.2)?;
+    let row = Row {
         r: line.0,
         s: line.1,
-        out: Counts::from_vec(Vec::from_slice(alloc, line.2).ok()?),
+        out,
         taken,
         ann,
         fin,
-    })
-    .ok()?;
-    Delta::new(line.1, rows).ok()
+    };
+    one_row(alloc, row)
 }
 
 /// A reply, of whose delta the number of rows is told.
@@ -113,9 +124,33 @@ pub fn first_wrong(core: &mut SiteCore, steps: &[(Ask, Answer)]) -> Option<(usiz
     None
 }
 
+/// What the site tells.
+pub fn said(core: &SiteCore) -> Option<Delta> {
+    core.snapshot().ok()
+}
+
+/// What it keeps.
+pub fn kept(core: &SiteCore) -> Option<Durable> {
+    core.durable().ok()
+}
+
+/// Whether two sites keep the same.
+pub fn is_same(one: &Durable, other: &Durable) -> bool {
+    one.cells() == other.cells() && one.sessions() == other.sessions()
+}
+
+fn rows_said(core: &SiteCore) -> Option<usize> {
+    Some(said(core)?.rows().len())
+}
+
+fn sizes_kept(core: &SiteCore) -> Option<(usize, usize)> {
+    let kept = kept(core)?;
+    Some((kept.cells().len(), kept.sessions().len()))
+}
+
 /// How many rows the site tells, and how many counters and sessions it keeps.
 pub fn sizes(core: &SiteCore) -> Option<[usize; 3]> {
-    let told = core.snapshot().ok()?;
-    let kept = core.durable().ok()?;
-    Some([told.rows().len(), kept.cells().len(), kept.sessions().len()])
+    let rows = rows_said(core)?;
+    let (cells, sessions) = sizes_kept(core)?;
+    Some([rows, cells, sessions])
 }

@@ -2,8 +2,8 @@
 use super::{layout_of, numbers, read};
 use crate::*;
 use admission_core::{Ask, Call};
+use durable_keeper::MemoryKeeper;
 use merge_core::Layout;
-use site_store::MemoryKeeper;
 use std::alloc::Global;
 
 // A desk of site 0 over a new keeper in memory.

@@ -2,8 +2,8 @@
 ghost use Rattle.std.specs.Prelude.{◌≡◌, ◌⊎◌, if◌then◌else◌};
 
 use admission_core::{Change, Durable};
+use durable_keeper::{Keeper, KeeperError, MemoryKeeper};
 use merge_core::Layout;
-use site_store::{Keeper, KeeperError, MemoryKeeper};
 use std::alloc::Global;
 use std::sync::Arc;
 use std::sync::atomic::{AtomicU64, Ordering};

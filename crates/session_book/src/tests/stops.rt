@@ -3,7 +3,7 @@ use super::fakes::Failing;
 use super::{layout_of, numbers, read};
 use crate::*;
 use admission_core::{Ask, Call, DurableCell, Session};
-use site_store::{Keeper, KeeperError, MemoryKeeper};
+use durable_keeper::{Keeper, KeeperError, MemoryKeeper};
 use std::alloc::Global;
 
 // A desk of site 0 whose store fails after one change, which the store has kept or not.

@@ -5,7 +5,7 @@ ghost use Rattle.admission_core.specs.Kept.{DurableState};
 use super::{layout_of, numbers, read};
 use crate::*;
 use admission_core::{Ask, Call};
-use site_store::{Keeper, MemoryKeeper};
+use durable_keeper::{Keeper, MemoryKeeper};
 use std::alloc::Global;
 use std::marker::Brand;
 use std::sync::Wait;

@@ -1,7 +1,7 @@
 //! A keeper whose faults the test chooses.
 use admission_core::{Change, Durable};
+use durable_keeper::{Keeper, KeeperError, MemoryKeeper};
 use merge_core::Layout;
-use site_store::{Keeper, KeeperError, MemoryKeeper};
 use std::alloc::{AllocError, Global};
 
 /// A keeper in memory whose device refuses one change, and each call behind it.

@@ -3,22 +3,18 @@ ghost use Rattle.std.specs.Prelude.{◌≡◌, IfSome};
 
 use super::keepers::Failing;
 use crate::site_engine;
+use durable_keeper::MemoryKeeper;
 use exit_status::Status;
 use layout_file::read_layout;
 use merge_core::Layout;
-use site_store::MemoryKeeper;
 use std::alloc::Global;
 use std::io::ErrorKind;
-use test_streams::texts::TWO_SITES;
+use test_streams::texts::{TWO_SITES, WRITERS_FIRST};
 use test_streams::{Giving, Keeping, NEVER};
 use text_input::{Sink, Source};
 
-/// Two sites, of which the first has the two seats of record a, under problem 2.
-pub const WRITERS_FIRST: &str =
-    "sites = 2\n[[record]]\nname = \"a\"\nseats = 2\nhome = 0\nproblem = 2\n";
-
-/// What a run of a script is to come to: how the engine ends, and what it writes.
-pub type Run = (&'static [u8], Status, &'static str);
+// What a run of a script is to come to: how the engine ends, and what it writes.
+type Run = (&'static [u8], Status, &'static str);
 
 // Runs the engine over a keeper, and gives the keeper back where it ended as it was to.
 fn opening(

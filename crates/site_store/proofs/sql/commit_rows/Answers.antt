@@ -5,7 +5,7 @@ use Rattle.store_tables.specs.declared.error.TableError.{TableError}
 use Rattle.store_tables.specs.Kept.{connection_of}
 use Rattle.store_content.specs.Plan.{RowsState, Makes}
 use Rattle.site_store.specs.Errors.{keeper_error}
-use Rattle.site_store.specs.declared.error.KeeperError.TheVariants.{StoreFault}
+use Rattle.durable_keeper.specs.declared.error.KeeperError.TheVariants.{StoreFault}
 use Rattle.site_store.proofs.SqlLemmas.{fault_is, unchanged, takes_rows, in_doubt}
 use Rattle.site_store.proofs.sql.commit_rows.Goals as goal
 
@@ -25,7 +25,7 @@ returns-then-not-are_rows-clause-fault g c layout i it stores fault =
 pub returns-in-Err-clause-fault : goal.returns-in-Err-clause-fault
 returns-in-Err-clause-fault g c layout i it stores fault =
     let conn = connection_of c.put.new.tables in
-    let told : keeper_error c.in-Err.error ≡ StoreFault = grind (arith, fault, c.from.ensures) in
+    let told : keeper_error c.in-Err.error ≡ StoreFault = grind (arith, fault, c.keeper_error.ensures) in
     let is = fault_is c.in-Err.error (λ e. c.in-Err.ensures.kind (ap error e)) told in
     let makes : Makes c.args.change.now it c.in-Some.rows =
     subst (λ (o : Option RowsState). IfSome o (Makes c.args.change.now it)) c.in-Some.is (c.in_ok-rows.ensures.law it stores.known stores.own.content c.requires.tellable) in

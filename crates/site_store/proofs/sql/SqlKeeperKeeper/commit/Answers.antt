@@ -3,7 +3,7 @@ use Rattle.admission_core.specs.Kept.{DurableState}
 use Rattle.store_tables.specs.Kept.{connection_of}
 use Rattle.store_content.proofs.TellableLemmas.{tellable}
 use Rattle.store_tables.proofs.KeepLemmas.{on_ok_under}
-use Rattle.store_content.specs.Keeping.{changed}
+use Rattle.durable_keeper.specs.Keeping.{changed}
 use Rattle.site_store.specs.Sql.{IsOneOf}
 use Rattle.site_store.proofs.OpenLemmas.{twice}
 use Rattle.site_store.proofs.sql.SqlKeeperKeeper.commit.Goals as goal

@@ -1,0 +1,2 @@
+pub mod CellLists
+pub mod MergeLemmas

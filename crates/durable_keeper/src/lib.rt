@@ -1,0 +1,13 @@
+//! What keeps a site's durable part, whatever it is written to: the trait, what is kept after a change, and a keeper in
+//! memory.
+#![tactic(auto)]
+
+pub use cells::{is_before, put_cells};
+pub use error::KeeperError;
+pub use keeper::Keeper;
+pub use memory::MemoryKeeper;
+
+mod cells;
+mod error;
+mod keeper;
+mod memory;

@@ -1,0 +1,90 @@
+-- What the program does: the command that its arguments ask for, or what is said of them (the project's own).
+use Rattle.std.specs.Prelude.{◌≡◌, ◌⊎◌, ℕ, List, [], Result, Ok, Err, Option, Some, None}
+use Rattle.merge_core.specs.Layout.{LayoutState, shape_of}
+use Rattle.text_input.specs.Source.{HasFault, SourceState}
+use Rattle.text_input.specs.Sink.{Prints, SinkState}
+use Rattle.clap.specs.Words.{Text, IsAmong}
+use Rattle.clap.specs.declared.error.ErrorKind.{ErrorKind}
+use Rattle.clap.specs.declared.error.ErrorKind.TheVariants.{OutOfMemory, DisplayHelp, DisplayVersion}
+use Rattle.command_arguments.specs.declared.arguments.Command.{Command}
+use Rattle.command_arguments.specs.declared.arguments.Command.TheVariants.{Join, Play, Site}
+use Rattle.layout_file.specs.declared.fault.LayoutFault.{LayoutFault}
+use Rattle.layout_file.specs.declared.fault.LayoutFault.TheVariants as layout
+use Rattle.exit_status.specs.declared.status.Status.{Status}
+use Rattle.exit_status.specs.declared.status.Status.TheVariants.{Done, Memory, Io}
+use Rattle.command_arguments.specs.Arguments.{asked_command, asked_layout, usage_errors}
+use Rattle.exit_status.specs.Endings.{EndsWith, without_layout}
+use Rattle.join_engine.specs.Engine.{EndsJoin}
+use Rattle.layout_file.specs.LayoutFile.{ReadsLayout, built_in_layout}
+use Rattle.play_engine.specs.Plays.{EndsPlay}
+use Rattle.site_databases.specs.Databases.{EndsStored}
+
+-- help or the version: it was printed, or the sink met a fault
+abbrev pub EndsPrinted : SinkState → SinkState → SinkState → SinkState → ℕ → Type 0
+EndsPrinted sink sink_after errors errors_after code =
+    (Prints sink sink_after None × EndsWith Done errors errors_after code)
+    ⊎ (HasFault sink_after.fault × EndsWith Io errors errors_after code)
+
+-- wrong arguments: what is wrong was told on standard error, and nowhere else
+pub record EndsUsage (sink sink_after errors errors_after : SinkState) (code : ℕ) : Type 0 where
+  pub silent : sink_after ≡ sink
+  pub told : Prints errors errors_after None ⊎ HasFault errors_after.fault
+  pub status : code ≡ 2
+
+-- The end where clap gives no command, by the kind of its error: want of memory; the text of help or of the version;
+-- and else arguments that are wrong.
+abbrev pub EndsUnasked : ErrorKind → SinkState → SinkState → SinkState → SinkState → ℕ → Type 0
+EndsUnasked OutOfMemory sink sink_after errors errors_after code = (sink_after ≡ sink) × EndsWith Memory errors errors_after code
+EndsUnasked DisplayHelp sink sink_after errors errors_after code = EndsPrinted sink sink_after errors errors_after code
+EndsUnasked DisplayVersion sink sink_after errors errors_after code = EndsPrinted sink sink_after errors errors_after code
+EndsUnasked _ sink sink_after errors errors_after code = EndsUsage sink sink_after errors errors_after code
+
+-- what the program finds without a layout file: the built-in layout
+abbrev pub FindsBuiltIn : Result LayoutState LayoutFault → Type 0
+FindsBuiltIn (Ok layout) = layout ≡ built_in_layout
+FindsBuiltIn (Err e) = e ≡ layout.Memory
+
+-- What it finds at a layout file: what some bytes describe, or that there is no such file, or that it could not be
+-- read, or is too long. No contract can say what a file holds.
+abbrev pub FindsFile : Result LayoutState LayoutFault → Type 0
+FindsFile (Err layout.NotRead) = Unit {0}
+FindsFile (Err layout.TooLong) = Unit {0}
+FindsFile answer = (bytes : List ℕ) × ReadsLayout bytes answer
+
+-- what the program finds for a layout: the built-in one, or what is in the file that is named
+abbrev pub FindsLayout : Option Text → Result LayoutState LayoutFault → Type 0
+FindsLayout None answer = FindsBuiltIn answer
+FindsLayout (Some path) answer = FindsFile answer
+
+-- a command under a layout: what its engine did
+abbrev pub EndsCommand : Command → LayoutState → SourceState → SourceState → SinkState → SinkState → Status → Type 0
+EndsCommand Join layout source source_after sink sink_after ended = EndsJoin (shape_of layout) source source_after sink sink_after ended
+EndsCommand (Play tables first) layout source source_after sink sink_after ended = EndsPlay layout first tables source source_after sink sink_after ended
+EndsCommand (Site site) layout source source_after sink sink_after ended = EndsStored layout site source source_after sink sink_after ended
+
+-- a command under what was found for a layout: without a layout nothing is read or written
+abbrev pub EndsUnder : Command → Result LayoutState LayoutFault → SourceState → SourceState → SinkState → SinkState → Status → Type 0
+EndsUnder command (Ok layout) source source_after sink sink_after ended = EndsCommand command layout source source_after sink sink_after ended
+EndsUnder command (Err fault) source source_after sink sink_after ended = (source_after ≡ source) × (sink_after ≡ sink) × (ended ≡ without_layout fault)
+
+-- a command is asked for, and that one was carried out under the layout that the arguments name
+pub record RunsCommand (arguments : List Text) (source source_after : SourceState) (sink sink_after errors errors_after : SinkState) (code : ℕ) : Type 0 where
+  pub asked : usage_errors arguments ≡ []
+  pub layout : Result LayoutState LayoutFault
+  pub found : FindsLayout (asked_layout arguments) layout
+  pub ended : Status
+  pub carried_out : EndsUnder (asked_command arguments) layout source source_after sink sink_after ended
+  pub told : EndsWith ended errors errors_after code
+
+-- no command is asked for, or memory ran out: nothing is read, and what clap says is told
+pub record RunsNone (arguments : List Text) (source source_after : SourceState) (sink sink_after errors errors_after : SinkState) (code : ℕ) : Type 0 where
+  pub kind : ErrorKind
+  pub found : (kind ≡ OutOfMemory) ⊎ IsAmong kind (usage_errors arguments)
+  pub unread : source_after ≡ source
+  pub told : EndsUnasked kind sink sink_after errors errors_after code
+
+-- what the program does with its arguments
+abbrev pub RunsProgram : List Text → SourceState → SourceState → SinkState → SinkState → SinkState → SinkState → ℕ → Type 0
+RunsProgram arguments source source_after sink sink_after errors errors_after code =
+    RunsCommand arguments source source_after sink sink_after errors errors_after code
+    ⊎ RunsNone arguments source source_after sink sink_after errors errors_after code

@@ -1,0 +1,10 @@
+//! The program, over any runtime: its arguments are read, the layout is found, the command is carried out, and its end
+//! is told.
+#![tactic(auto)]
+
+pub use shell::{run, run_with};
+
+mod shell;
+mod standard_error;
+#[cfg(test)]
+mod tests;

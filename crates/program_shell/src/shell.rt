@@ -1,0 +1,133 @@
+ghost use Rattle.std.specs.Prelude.{map, MatchOption, string_bytes};
+ghost use Rattle.clap.specs.Words.{kind_of};
+ghost use Rattle.program_shell.specs.Shell.{EndsCommand, EndsUnasked, FindsBuiltIn, FindsFile, RunsProgram};
+
+use crate::standard_error::StandardError;
+use clap::error::ErrorKind as UsageKind;
+use command_arguments::{Command, requested};
+use exit_status::Status;
+use join_engine::join_engine;
+use layout_file::{LayoutFault, built_in, read_layout_file};
+use merge_core::Layout;
+use play_engine::play_engine;
+use site_databases::{Databases, serve_stored};
+use std::io::{ErrorKind, Read, Write};
+use std::rt::{Env, Files};
+use std::{env, fs, io};
+use text_input::{Sink, Source};
+
+/// Runs the program on a runtime's arguments, files and standard streams, and gives the exit status.
+pub fn run<R: Env + Files + Databases + Input + Print + Eprint + AllocGlobal>(rt: &R) -> u8 {
+    let mut errors = Sink::new(StandardError::of(rt));
+    match all_arguments(rt) {
+        Ok(arguments) => run_with(
+            rt,
+            arguments.as_slice(),
+            &mut Source::new(rt.reader()),
+            &mut Sink::new(io::writer(rt)),
+            &mut errors,
+        ),
+        Err(error) => {
+            if error.kind() == ErrorKind::OutOfMemory {
+                return Status::Memory.end(&mut errors);
+            }
+            let _ = errors.write_and_flush("error: an argument is not UTF-8\n");
+            Status::Usage.end(&mut errors)
+        }
+    }
+}
+
+// All arguments, the program's own name first.
+fn all_arguments<R: Env + AllocGlobal>(rt: &R) -> io::Result<Vec<String>> {
+    let arguments = env::args(rt)?.collect(rt.alloc())?;
+    Ok(arguments)
+}
+
+/// Carries out the command that the arguments ask for, or says what is to be said of them. Gives the exit status.
+pub fn run_with<R: Files + Databases + AllocGlobal, I: Read, O: Write, E: Write>(
+    rt: &R,
+    arguments: &[String],
+    source: &mut Source<I>,
+    sink: &mut Sink<O>,
+    errors: &mut Sink<E>,
+) -> u8
+    ensures { RunsProgram (map string_bytes arguments.now) source.old source.new sink.old sink.new errors.old errors.new result }
+{
+    let asked = match requested(rt.alloc(), arguments) {
+        Ok(asked) => asked,
+        Err(error) => return end_unasked(&error, sink, errors),
+    };
+    let layout = match layout_at(rt, asked.layout) {
+        Ok(layout) => layout,
+        Err(fault) => return Status::without_layout(fault).end(errors),
+    };
+    let ended = carry_out(rt, asked.command, asked.store, layout, source, sink);
+    ended.end(errors)
+}
+
+// Carries out the command that is asked for under a layout.
+fn carry_out<R: Databases + AllocGlobal, I: Read, O: Write>(
+    rt: &R,
+    command: Command,
+    store: Option<&str>,
+    layout: Layout,
+    source: &mut Source<I>,
+    sink: &mut Sink<O>,
+) -> Status
+    ensures { EndsCommand command layout source.old source.new sink.old sink.new result }
+{
+    match command {
+        Command::Join => join_engine(rt.alloc(), &layout, source, sink),
+        Command::Play { tables, first } => {
+            play_engine(rt.alloc(), layout, first, tables, source, sink)
+        }
+        Command::Site { site } => {
+            let path = store.unwrap_or(""); // clap has refused arguments without one
+            serve_stored(rt, path, layout, site, source, sink)
+        }
+    }
+}
+
+// Prints what clap says where it gives no command: help, the version, or what is wrong with the arguments.
+fn end_unasked<O: Write, E: Write>(
+    error: &clap::Error,
+    sink: &mut Sink<O>,
+    errors: &mut Sink<E>,
+) -> u8
+    ensures { EndsUnasked (kind_of error.now) sink.old sink.new errors.old errors.new result }
+{
+    match error.kind() {
+        UsageKind::OutOfMemory => Status::Memory.end(errors),
+        UsageKind::DisplayHelp | UsageKind::DisplayVersion => {
+            if sink.print_and_flush(error) {
+                return Status::Done.end(errors);
+            }
+            Status::Io.end(errors)
+        }
+        _ => {
+            let _ = errors.print_and_flush(error);
+            Status::Usage.end(errors)
+        }
+    }
+}
+
+// The layout of the file, or the built-in one.
+fn layout_at<R: Files + AllocGlobal>(rt: &R, path: Option<&str>) -> Result<Layout, LayoutFault>
+    ensures { MatchOption path.entry (FindsBuiltIn result) (λ _. FindsFile result) }
+{
+    let Some(path) = path else {
+        return match built_in(rt.alloc()) {
+            Ok(layout) => Ok(layout),
+            Err(_) => Err(LayoutFault::Memory),
+        };
+    };
+    match fs::open(rt, path) {
+        Ok(file) => read_layout_file(rt.alloc(), &mut Source::new(file)),
+        Err(error) => {
+            if error.kind() == ErrorKind::OutOfMemory {
+                return Err(LayoutFault::Memory);
+            }
+            Err(LayoutFault::NotRead)
+        }
+    }
+}

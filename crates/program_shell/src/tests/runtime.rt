@@ -1,0 +1,290 @@
+//! A runtime whose arguments, files and standard streams the test chooses.
+use exit_status::{Status, StoreRefusal};
+use merge_core::Layout;
+use site_databases::Databases;
+use sqlite::Connection;
+use std::alloc::{Allocator, Global};
+use std::cell::RefCell;
+use std::env::FillError;
+use std::fmt::Display;
+use std::fs::{Metadata, OpenFile, OpenOptions};
+use std::io;
+use std::io::{BufRead, Error, ErrorKind, Lines, Read, Seek, SeekFrom, Write};
+use std::rt::{Env, Files};
+use stored_site::serve_over;
+use test_streams::{Giving, Keeping};
+use text_input::{Sink, Source};
+
+/// A text to read, how many LF follow it, and the read that is answered with a fault.
+#[derive(Clone, Copy, Drop)]
+pub struct Text {
+    pub text: &'static str,
+    pub fillers: usize,
+    pub fails: usize,
+}
+
+impl Text {
+    fn reader(self, fault: ErrorKind) -> Giving<'static> {
+        Giving::new(self.text.as_bytes(), self.fails)
+            .followed_by(b'\n', self.fillers)
+            .failing_by(fault)
+    }
+}
+
+/// What the program finds.
+#[derive(Clone, Copy, Drop)]
+pub struct Setting {
+    pub arguments: &'static [&'static [u8]],
+    pub input: Text,
+    /// Files by their paths; no other can be opened.
+    pub files: &'static [(&'static str, Text)],
+    /// How a file that is not there, or a read that fails, is told.
+    pub fault: ErrorKind,
+}
+
+/// A runtime over this, which keeps what is written and the paths that were opened, each with LF.
+#[derive(Drop)]
+pub struct Fake {
+    alloc: Global,
+    setting: Setting,
+    output: RefCell<Keeping>,
+    errors: RefCell<Keeping>,
+    opened: RefCell<Keeping>,
+}
+
+impl Fake {
+    /// The write of the output and that of the errors with these numbers are answered with a fault.
+    pub fn new(alloc: Global, setting: Setting, output_fails: usize, error_fails: usize) -> Fake {
+        Fake {
+            alloc,
+            setting,
+            output: RefCell::new(Keeping::new(alloc, output_fails)),
+            errors: RefCell::new(Keeping::new(alloc, error_fails)),
+            opened: RefCell::new(Keeping::new(alloc, usize::MAX)),
+        }
+    }
+
+    /// What was written to standard output and to standard error, and which files were opened.
+    pub fn into_texts(self) -> (Keeping, Keeping, Keeping) {
+        let Fake {
+            alloc: _,
+            setting: _,
+            output,
+            errors,
+            opened,
+        } = self;
+        (
+            output.into_inner(),
+            errors.into_inner(),
+            opened.into_inner(),
+        )
+    }
+}
+
+fn unsupported() -> Error {
+    Error::from(ErrorKind::Unsupported)
+}
+
+// Writes to what keeps a stream.
+fn kept<D: Display + Drop>(stream: &RefCell<Keeping>, value: D) -> io::Result<()> {
+    match stream.try_borrow_mut() {
+        Ok(mut keeping) => keeping.write_fmt(value),
+        Err(_) => Err(unsupported()),
+    }
+}
+
+impl Alloc for Fake {
+    type A = Global;
+
+    fn alloc(&self) -> Global {
+        self.alloc
+    }
+}
+
+impl Env for Fake {
+    fn arg(&self, i: usize, buf: &mut [u8]) -> Result<usize, FillError> {
+        let Some(argument) = self.setting.arguments.get(i) else {
+            return Err(FillError::NotPresent);
+        };
+        let n = argument.len();
+        if n > buf.len() {
+            return Err(FillError::TooLong);
+        }
+        buf[..n].copy_from_slice(argument);
+        Ok(n)
+    }
+
+    fn var(&self, _name: &str, _buf: &mut [u8]) -> Result<usize, FillError> {
+        Err(FillError::NotPresent)
+    }
+
+    fn var_at(&self, _i: usize, _buf: &mut [u8]) -> Result<usize, FillError> {
+        Err(FillError::NotPresent)
+    }
+}
+
+impl Print for Fake {
+    fn print<D: Display + Drop>(&self, value: D) -> io::Result<()> {
+        kept(&self.output, value)
+    }
+
+    fn println<D: Display + Drop>(&self, value: D) -> io::Result<()> {
+        kept(&self.output, value)?;
+        kept(&self.output, "\n")
+    }
+
+    fn write_all(&self, bytes: &[u8]) -> io::Result<()> {
+        match self.output.try_borrow_mut() {
+            Ok(mut keeping) => keeping.write_all(bytes),
+            Err(_) => Err(unsupported()),
+        }
+    }
+}
+
+impl Eprint for Fake {
+    fn eprint<D: Display + Drop>(&self, value: D) -> io::Result<()> {
+        kept(&self.errors, value)
+    }
+
+    fn eprintln<D: Display + Drop>(&self, value: D) -> io::Result<()> {
+        kept(&self.errors, value)?;
+        kept(&self.errors, "\n")
+    }
+}
+
+impl Input for Fake {
+    type Reader = Giving<'static>;
+
+    fn read_line<A: Allocator + Clone>(&self, _buf: &mut String<A>) -> io::Result<usize> {
+        Err(unsupported())
+    }
+
+    fn lines<A: Allocator>(&self, alloc: A) -> Lines<Giving<'static>, A> {
+        self.reader().lines(alloc)
+    }
+
+    fn reader(&self) -> Giving<'static> {
+        self.setting.input.reader(self.setting.fault)
+    }
+}
+
+/// A file, or a folder that can't be listed.
+#[derive(Drop)]
+pub struct FakeFile(Giving<'static>);
+
+impl Read for FakeFile {
+    fn read(&mut self, buf: &mut [u8]) -> io::Result<usize> {
+        self.0.read(buf)
+    }
+}
+
+impl Write for FakeFile {
+    fn write(&mut self, _buf: &[u8]) -> io::Result<usize> {
+        Err(unsupported())
+    }
+
+    fn flush(&mut self) -> io::Result<()> {
+        Err(unsupported())
+    }
+}
+
+impl Seek for FakeFile {
+    fn seek(&mut self, _to: SeekFrom) -> io::Result<u64> {
+        Err(unsupported())
+    }
+}
+
+impl OpenFile for FakeFile {
+    fn metadata(&self) -> io::Result<Metadata> {
+        Err(unsupported())
+    }
+
+    fn set_len(&self, _size: u64) -> io::Result<()> {
+        Err(unsupported())
+    }
+
+    fn sync_all(&self) -> io::Result<()> {
+        Err(unsupported())
+    }
+
+    fn sync_data(&self) -> io::Result<()> {
+        Err(unsupported())
+    }
+}
+
+impl Files for Fake {
+    type File = FakeFile;
+
+    type Dir = FakeFile;
+
+    fn open_file(&self, _how: &OpenOptions, path: &str) -> io::Result<FakeFile> {
+        kept(&self.opened, path)?;
+        kept(&self.opened, "\n")?;
+        for (name, text) in self.setting.files {
+            if *name == path {
+                return Ok(FakeFile(text.reader(self.setting.fault)));
+            }
+        }
+        Err(Error::from(self.setting.fault))
+    }
+
+    fn open_dir(&self, _path: &str) -> io::Result<FakeFile> {
+        Err(unsupported())
+    }
+
+    fn metadata(&self, _path: &str) -> io::Result<Metadata> {
+        Err(unsupported())
+    }
+
+    fn symlink_metadata(&self, _path: &str) -> io::Result<Metadata> {
+        Err(unsupported())
+    }
+
+    fn copy(&self, _from: &str, _to: &str) -> io::Result<u64> {
+        Err(unsupported())
+    }
+
+    fn rename(&self, _from: &str, _to: &str) -> io::Result<()> {
+        Err(unsupported())
+    }
+
+    fn remove_file(&self, _path: &str) -> io::Result<()> {
+        Err(unsupported())
+    }
+
+    fn create_dir(&self, _path: &str) -> io::Result<()> {
+        Err(unsupported())
+    }
+
+    fn remove_dir(&self, _path: &str) -> io::Result<()> {
+        Err(unsupported())
+    }
+
+    fn remove_dir_all<B: Allocator>(&self, _alloc: B, _path: &str) -> io::Result<()> {
+        Err(unsupported())
+    }
+}
+
+impl Databases for Fake {
+    // An empty database in memory at one path, and none at another.
+    fn serve_database<I: Read, O: Write>(
+        &self,
+        path: &str,
+        layout: Layout,
+        site: u16,
+        source: &mut Source<I>,
+        sink: &mut Sink<O>,
+    ) -> Status {
+        if kept(&self.opened, path).is_err() || kept(&self.opened, "\n").is_err() {
+            return Status::Memory;
+        }
+        if path != "new.db" {
+            return Status::NoStore(StoreRefusal::StoreFault);
+        }
+        let Ok(connection) = Connection::open_in_memory(self.alloc) else {
+            return Status::Memory;
+        };
+        let (ended, _connection) = serve_over(self.alloc, connection, layout, site, source, sink);
+        ended
+    }
+}

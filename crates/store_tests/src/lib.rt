@@ -1,0 +1,21 @@
+//! Tests of what keeps a site's durable part, from the tables of its store to the desk above, over databases in memory and
+//! on files that stop. A program of tests over a database begins with all that SQLite's crates promise, whatever the
+//! tests are: here it does so once for four crates, none of which is proved again for its tests.
+#![tactic(auto)]
+
+#[cfg(test)]
+mod databases;
+#[cfg(test)]
+mod desks;
+#[cfg(test)]
+mod desks_kept;
+#[cfg(test)]
+mod desks_stopped;
+#[cfg(test)]
+mod growths;
+#[cfg(test)]
+mod stores_opened;
+#[cfg(test)]
+mod tables_judged;
+#[cfg(test)]
+mod tables_stopped;

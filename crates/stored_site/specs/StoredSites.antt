@@ -1,0 +1,56 @@
+-- What is done with a site over a database.
+use Rattle.std.specs.Prelude.{◌≡◌, ℕ, ◌⊎◌, Result, Ok, Err}
+use Rattle.sqlite_trees.specs.declared.store.Store.{Ghosts as Device}
+use Rattle.sqlite.specs.Held.{Held}
+use Rattle.merge_core.specs.Layout.{LayoutState}
+use Rattle.store_rows.specs.Rows.{Stored}
+use Rattle.store_rows.specs.Holding.{Keeps, KeepsNothing}
+use Rattle.durable_keeper.specs.declared.keeper.Keeper.{Ghosts}
+use Rattle.site_store.specs.declared.error.OpenError.{OpenError}
+use Rattle.site_store.specs.declared.error.OpenError.TheVariants as opening
+use Rattle.site_store.specs.declared.sql.SqlKeeper.{SqlKeeper}
+use Rattle.site_store.specs.Sql.{below}
+use Rattle.site_store.specs.Opened.{Opens, OpensBlank}
+use Rattle.text_input.specs.Source.{SourceState}
+use Rattle.text_input.specs.Sink.{SinkState}
+use Rattle.exit_status.specs.declared.store_refusal.StoreRefusal.TheVariants.{BadStore, WrongSite, WrongLayout, StoreFault}
+use Rattle.exit_status.specs.declared.status.Status.{Status}
+use Rattle.exit_status.specs.declared.status.Status.TheVariants.{NoStore, Memory}
+use Rattle.site_engine.specs.Sites.{EndsSite}
+
+-- the end where the store in a database is refused
+abbrev pub refusal_status : OpenError → Status
+refusal_status opening.BadStore = NoStore BadStore
+refusal_status opening.WrongSite = NoStore WrongSite
+refusal_status opening.WrongLayout = NoStore WrongLayout
+refusal_status opening.StoreFault = NoStore StoreFault
+refusal_status opening.Memory = Memory
+
+module _ {S : Type 0} (g : Device S) where
+  -- what an opening of the store in a database came to: a keeper, or a refusal with the database
+  pub record OpensStore (layout : LayoutState) (i : ℕ) (c : Held S) (opened : Result (SqlKeeper S g) (OpenError × Held S)) : Type 0 where
+    pub stored : (it : Stored) → Keeps g c it → Opens {g = g} layout i it opened
+    pub blank : KeepsNothing g c → OpensBlank {g = g} layout i opened
+
+  -- the store was opened, the engine ended over it, and the database below is handed back
+  pub record RunsOver (k : Ghosts (SqlKeeper S g)) (layout : LayoutState) (i : ℕ) (c after : Held S)
+      (source source_after : SourceState) (sink sink_after : SinkState) (ended : Status) : Type 0 where
+    pub keeper : SqlKeeper S g
+    pub keeper_after : SqlKeeper S g
+    pub opened : OpensStore layout i c (Ok keeper)
+    pub ends : EndsSite k layout i keeper keeper_after source source_after sink sink_after ended
+    pub handed : after ≡ below keeper_after
+
+  -- the store was refused: nothing was read or written
+  pub record IsRefusedOver (layout : LayoutState) (i : ℕ) (c after : Held S) (source source_after : SourceState) (sink sink_after : SinkState) (ended : Status) : Type 0 where
+    pub error : OpenError
+    pub opened : OpensStore layout i c (Err (error, after))
+    pub unread : source_after ≡ source
+    pub silent : sink_after ≡ sink
+    pub status : ended ≡ refusal_status error
+
+  -- one of the two
+  abbrev pub EndsOver : Ghosts (SqlKeeper S g) → LayoutState → ℕ → Held S → Held S → SourceState → SourceState → SinkState → SinkState → Status → Type 0
+  EndsOver k layout i c after source source_after sink sink_after ended =
+      RunsOver k layout i c after source source_after sink sink_after ended
+      ⊎ IsRefusedOver layout i c after source source_after sink sink_after ended

@@ -1,0 +1,45 @@
+//! Sites over databases, whatever these lie on.
+ghost use Rattle.std.specs.Prelude.{◌≡◌, false};
+ghost use Rattle.stored_site.specs.StoredSites.{EndsOver, refusal_status};
+
+use exit_status::{Status, StoreRefusal};
+use merge_core::Layout;
+use site_engine::site_engine;
+use site_store::{Keeper, OpenError, SqlKeeper};
+use sqlite::{Alter, Connection};
+use std::alloc::Global;
+use std::io::{Read, Write};
+use text_input::{Sink, Source};
+
+/// Serves a site over a database in which no transaction is open, and hands the database back.
+pub fn serve_over<S: Alter + Drop, I: Read, O: Write>(
+    alloc: Global,
+    connection: Connection<S>,
+    layout: Layout,
+    site: u16,
+    source: &mut Source<I>,
+    sink: &mut Sink<O>,
+) -> (Status, Connection<S>)
+    requires { connection.in_transaction ≡ false }
+    ensures { EndsOver S.Store ⟦<SqlKeeper<S> as Keeper>⟧ layout site connection result.1 source.old source.new sink.old sink.new result.0 }
+{
+    let keeper = match SqlKeeper::open(alloc, connection, &layout, site) {
+        Ok(keeper) => keeper,
+        Err((error, connection)) => return (refusal_status(error), connection),
+    };
+    let (ended, keeper) = site_engine(alloc, keeper, layout, site, source, sink);
+    (ended, keeper.into_connection())
+}
+
+// How the program ends where the store is refused.
+fn refusal_status(error: OpenError) -> Status
+    ensures { result ≡ refusal_status error }
+{
+    match error {
+        OpenError::BadStore => Status::NoStore(StoreRefusal::BadStore),
+        OpenError::WrongSite => Status::NoStore(StoreRefusal::WrongSite),
+        OpenError::WrongLayout => Status::NoStore(StoreRefusal::WrongLayout),
+        OpenError::StoreFault => Status::NoStore(StoreRefusal::StoreFault),
+        OpenError::Memory => Status::Memory,
+    }
+}

@@ -1,0 +1,3 @@
+mod failed_runs;
+mod stopped_stores;
+mod stored_sites;
