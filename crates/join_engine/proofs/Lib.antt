@@ -1,3 +1,4 @@
 mod ExampleLemmas
 mod JoinLaws
 mod LineLemmas
+mod FrontLemmas

@@ -1,5 +1,6 @@
 -- One line more of an input.
 use Rattle.std.proofs.Common.{◌≡◌, ℕ, ◌+◌, List, [], ◌∷◌, ◌++◌, length, map, refl, sym, ap, ◌∙◌, subst, append_assoc, append-nil, arith}
+use Rattle.std.proofs.lemmas.List.{length-append, length-map, map-append}
 use Rattle.std.specs.List.{AllByRecursion}
 use Rattle.merge_core.specs.declared.cell.Cell.{Cell}
 use Rattle.merge_core.specs.Layout.{Shape}
@@ -12,7 +13,7 @@ use Rattle.merge_core.proofs.KnownLemmas.{greatest_shown-push}
 use Rattle.delta_codec.specs.DeltaText.{delta_text}
 use Rattle.text_input.specs.Lines.{lines_of}
 use Rattle.join_engine.specs.declared.fault.LineFault.{LineFault}
-use Rattle.join_engine.specs.Joins.{joined_counter, IsJoinOf, IsTaken, AreTexts, IsFaultOf, IsFirstRefused}
+use Rattle.join_engine.specs.Joins.{joined_counter, IsJoinOf, IsTaken, IsFaultOf, IsFirstRefused}
 use Rattle.join_engine.specs.Stops.{JoinsSoFar}
 
 -- a join takes one delta more in
@@ -30,40 +31,37 @@ joined_more shape ds d old new before joins book = record {
         ap (λ (it : Shape). shown_by it d.rows r s cell) before.one_shape in
         omega (arith, joins.counters r s cell, before.counters r s cell, greatest_shown-push shape (start_counter shape r s cell) ds d r s cell, shown)
 
-taken_more : (shape : Shape) (ds : List DeltaState) (d : DeltaState) → AllByRecursion (IsTaken shape) ds → IsTaken shape d
-    → AllByRecursion (IsTaken shape) (ds ++ d ∷ [])
-taken_more shape [] d before here = (here, tt)
-taken_more shape (e ∷ es) d before here = (before.0, taken_more shape es d before.1 here)
-
-texts_more : (ds : List DeltaState) (d : DeltaState) → map delta_text (ds ++ d ∷ []) ≡ map delta_text ds ++ delta_text d ∷ []
-texts_more [] d = refl
-texts_more (e ∷ es) d = ap (λ (ls : List (List ℕ)). delta_text e ∷ ls) (texts_more es d)
-
-length_more : (ds : List DeltaState) (d : DeltaState) → length (ds ++ d ∷ []) ≡ length ds + 1
-length_more [] d = refl
-length_more (e ∷ es) d = omega (arith, length_more es d)
-
-length_texts : (ds : List DeltaState) → length (map delta_text ds) ≡ length ds
-length_texts [] = refl
-length_texts (e ∷ es) = omega (arith, length_texts es)
+pub taken_on : (shape : Shape) (ds es : List DeltaState) → AllByRecursion (IsTaken shape) ds → AllByRecursion (IsTaken shape) es
+    → AllByRecursion (IsTaken shape) (ds ++ es)
+taken_on shape [] es front back = back
+taken_on shape (d ∷ ds) es front back = (front.0, taken_on shape ds es front.1 back)
 
 -- before the first line
-pub joined_none : (shape : Shape) (input : List ℕ) (b : BookState) → IsJoinOf shape [] b → JoinsSoFar shape input input 0 b
-joined_none shape input b start = record { deltas = []; split = refl; taken = tt; joined = start; counted = refl }
+pub joined_none : (lines : List (List ℕ)) (b : BookState) → JoinsSoFar lines lines 0 b b
+joined_none lines b = record {
+  deltas = [];
+  split = refl;
+  taken = tt;
+  one_shape = refl;
+  joins = λ shape before is. subst (λ (ds : List DeltaState). IsJoinOf shape ds b) (sym (append-nil before)) is;
+  counted = refl;
+}
 
 -- the next line is the text of a delta that is taken and joined
-pub joined_line : (shape : Shape) (input rest tail line : List ℕ) (number : ℕ) (d : DeltaState) (old new : BookState)
-    → JoinsSoFar shape input rest number old → lines_of rest ≡ line ∷ lines_of tail → IsTaken (book_shape old) d
-    → line ≡ delta_text d → JoinsRows old new d.rows → IsBook new → JoinsSoFar shape input tail (number + 1) new
-joined_line shape input rest tail line number d old new before next taken text joins book = record {
+pub joined_line : (lines rest later : List (List ℕ)) (line : List ℕ) (number : ℕ) (d : DeltaState) (old b new : BookState)
+    → JoinsSoFar lines rest number old b → rest ≡ line ∷ later → IsTaken (book_shape b) d → line ≡ delta_text d → JoinsRows b new d.rows
+    → IsBook new → JoinsSoFar lines later (number + 1) old new
+joined_line lines rest later line number d old b new before next taken text joins book = record {
   deltas = before.deltas ++ d ∷ [];
   split =
-      before.split ∙ ap (λ (ls : List (List ℕ)). map delta_text before.deltas ++ ls) (next ∙ ap (λ (l : List ℕ). l ∷ lines_of tail) text)
-      ∙ sym (append_assoc (map delta_text before.deltas) (delta_text d ∷ []) (lines_of tail))
-      ∙ ap (λ (ls : List (List ℕ)). ls ++ lines_of tail) (sym (texts_more before.deltas d));
-  taken = taken_more shape before.deltas d before.taken (subst (λ (it : Shape). IsTaken it d) before.joined.one_shape taken);
-  joined = joined_more shape before.deltas d old new before.joined joins book;
-  counted = length_more before.deltas d ∙ ap (λ (n : ℕ). n + 1) before.counted;
+      before.split ∙ ap (λ (ls : List (List ℕ)). map delta_text before.deltas ++ ls) (next ∙ ap (λ (l : List ℕ). l ∷ later) text)
+      ∙ sym (append_assoc (map delta_text before.deltas) (delta_text d ∷ []) later)
+      ∙ ap (λ (ls : List (List ℕ)). ls ++ later) (sym (map-append delta_text before.deltas (d ∷ [])));
+  taken = taken_on (book_shape old) before.deltas (d ∷ []) before.taken (subst (λ (it : Shape). IsTaken it d) before.one_shape taken, tt);
+  one_shape = joins.shape ∙ before.one_shape;
+  joins = λ shape first is. subst (λ (ds : List DeltaState). IsJoinOf shape ds new) (append_assoc first before.deltas (d ∷ []))
+      (joined_more shape (first ++ before.deltas) d b new (before.joins shape first is) joins book);
+  counted = length-append before.deltas (d ∷ []) ∙ ap (λ (n : ℕ). n + 1) before.counted;
 }
 
 no_bytes : (rest : List ℕ) → length rest ≡ 0 → lines_of rest ≡ []
@@ -71,28 +69,48 @@ no_bytes [] none = refl
 no_bytes (b ∷ bs) none = absurd (omega arith)
 
 -- behind the last line
-pub joined_all : (shape : Shape) (input rest : List ℕ) (number : ℕ) (b : BookState) → JoinsSoFar shape input rest number b
-    → length rest ≡ 0 → (deltas : List DeltaState) × AreTexts shape (lines_of input) deltas × IsJoinOf shape deltas b
-joined_all shape input rest number b before none = (
-  before.deltas,
-  record {
-    texts = before.split ∙ ap (λ (ls : List (List ℕ)). map delta_text before.deltas ++ ls) (no_bytes rest none) ∙ append-nil (map delta_text before.deltas);
-    taken = before.taken;
-  },
-  before.joined,
-)
+pub joined_all : (lines : List (List ℕ)) (rest : List ℕ) (number : ℕ) (old b : BookState) → JoinsSoFar lines (lines_of rest) number old b
+    → length rest ≡ 0 → JoinsSoFar lines [] number old b
+joined_all lines rest number old b before none =
+    subst (λ (ls : List (List ℕ)). JoinsSoFar lines ls number old b) (no_bytes rest none) before
+
+-- A line that is refused behind some that are joined is the first that is refused of all of them.
+pub refused_behind : (shape : Shape) (input lines later : List (List ℕ)) (ds : List DeltaState) (n m : ℕ) (fault : LineFault)
+    → input ≡ map delta_text ds ++ (lines ++ later) → AllByRecursion (IsTaken shape) ds → length ds ≡ n → IsFirstRefused shape lines m fault
+    → IsFirstRefused shape input (n + m) fault
+refused_behind shape input lines later ds n m fault split taken counted first = record {
+  deltas = ds ++ first.deltas;
+  before = map delta_text ds ++ first.before;
+  line = first.line;
+  after = first.after ++ later;
+  split =
+      split ∙ ap (λ (ls : List (List ℕ)). map delta_text ds ++ ls)
+      (ap (λ (ls : List (List ℕ)). ls ++ later) first.split ∙ append_assoc first.before (first.line ∷ first.after) later)
+      ∙ sym (append_assoc (map delta_text ds) first.before (first.line ∷ (first.after ++ later)));
+  joined = record {
+    texts = ap (λ (ls : List (List ℕ)). map delta_text ds ++ ls) first.joined.texts ∙ sym (map-append delta_text ds first.deltas);
+    taken = taken_on shape ds first.deltas taken first.joined.taken;
+  };
+  counted = omega (arith, first.counted, counted, length-append (map delta_text ds) first.before, length-map ds delta_text);
+  refused = first.refused;
+}
 
 -- the next line is refused
-pub refused_line : (shape : Shape) (input rest tail line : List ℕ) (number : ℕ) (b : BookState) (fault : LineFault)
-    → JoinsSoFar shape input rest number b → lines_of rest ≡ line ∷ lines_of tail → IsFaultOf (book_shape b) line fault
-    → IsFirstRefused shape (lines_of input) (number + 1) fault
-refused_line shape input rest tail line number b fault before next refused = record {
-  deltas = before.deltas;
-  before = map delta_text before.deltas;
-  line = line;
-  after = lines_of tail;
-  split = before.split ∙ ap (λ (ls : List (List ℕ)). map delta_text before.deltas ++ ls) next;
-  joined = record { texts = refl; taken = before.taken };
-  counted = ap (λ (n : ℕ). n + 1) (sym before.counted ∙ sym (length_texts before.deltas));
-  refused = subst (λ (it : Shape). IsFaultOf it line fault) before.joined.one_shape refused;
-}
+pub refused_line : (lines rest later : List (List ℕ)) (line : List ℕ) (number : ℕ) (old b : BookState) (fault : LineFault)
+    → JoinsSoFar lines rest number old b → rest ≡ line ∷ later → IsFaultOf (book_shape b) line fault
+    → IsFirstRefused (book_shape old) lines (number + 1) fault
+refused_line lines rest later line number old b fault so_far next refused =
+    refused_behind (book_shape old) lines (line ∷ []) later so_far.deltas number 1 fault
+    (so_far.split ∙ ap (λ (ls : List (List ℕ)). map delta_text so_far.deltas ++ ls) next) so_far.taken so_far.counted alone
+  where
+    alone : IsFirstRefused (book_shape old) (line ∷ []) 1 fault
+    alone = record {
+      deltas = [];
+      before = [];
+      line = line;
+      after = [];
+      split = refl;
+      joined = record { texts = refl; taken = tt };
+      counted = refl;
+      refused = subst (λ (it : Shape). IsFaultOf it line fault) so_far.one_shape refused;
+    }

@@ -1,18 +1,20 @@
-ghost use Rattle.std.specs.Prelude.{◌≡◌, ◌<◌, string_bytes, IfOk};
+ghost use Rattle.std.specs.Prelude.{◌≡◌, ◌<◌, ◌≤◌, ◌^◌, ℕ, List, length, string_bytes, IfOk};
 ghost use Rattle.merge_core.specs.Layout.{shape_of};
 ghost use Rattle.join_engine.specs.Engine.{AnswersInput, EndsJoin, book_line};
+ghost use Rattle.join_engine.specs.Stops.{Knows};
 
-use crate::fault::refusal;
-use crate::lines::{JoinStop, joined_book};
+use crate::fault::refusal_line;
+use crate::joining::Joining;
+use crate::lines::JoinStop;
 use delta_codec::encode;
 use exit_status::Status;
 use merge_core::{Book, Layout};
 use std::alloc::{AllocError, Global};
 use std::io::{Read, Write};
-use text_input::{InputError, Sink, Source, read_input};
+use text_input::{INPUT_LIMIT, InputError, Sink, Source, read_into};
 
-/// Reads the whole input and writes the text of the book that has joined all its lines, or the refusal of
-/// the first line that is refused.
+/// Reads the whole input, joins its lines as they come, and writes the text of the book that has joined them all, or the
+/// refusal of the first line that is refused.
 pub fn join_engine<R: Read, W: Write>(
     alloc: Global,
     layout: &Layout,
@@ -21,8 +23,11 @@ pub fn join_engine<R: Read, W: Write>(
 ) -> Status
     ensures { EndsJoin (shape_of layout.now) source.old source.new sink.old sink.new result }
 {
-    match read_input(alloc, source) {
-        Ok(input) => answer_input(alloc, layout, input.as_slice(), sink),
+    let Ok(mut joining) = Joining::new(alloc, layout) else {
+        return Status::Memory;
+    };
+    match read_into(source, INPUT_LIMIT, &mut joining) {
+        Ok(()) => answer_input(alloc, layout, joining, sink),
         Err(InputError::TooLong) => {
             if !sink.write_and_flush("input refused TooLong\n") {
                 return Status::Io;
@@ -38,12 +43,13 @@ pub fn join_engine<R: Read, W: Write>(
 fn answer_input<W: Write>(
     alloc: Global,
     layout: &Layout,
-    input: &[u8],
+    joining: Joining,
     sink: &mut Sink<W>,
 ) -> Status
-    ensures { AnswersInput (shape_of layout.now) input.now sink.old sink.new result }
+    requires { (bytes : List ℕ) × Knows (shape_of layout.now) bytes joining × (length bytes ≤ 2 ^ 32) }
+    ensures { (bytes : List ℕ) → Knows (shape_of layout.now) bytes joining → length bytes ≤ 2 ^ 32 → AnswersInput (shape_of layout.now) bytes sink.old sink.new result }
 {
-    match joined_book(alloc, layout, input) {
+    match joining.finish() {
         Ok(book) => {
             let _sites = layout.sites(); // tells that the layout is one
             let Ok(line) = book_line(alloc, &book) else {
@@ -55,8 +61,8 @@ fn answer_input<W: Write>(
             Status::Done
         }
         Err(JoinStop::Memory) => Status::Memory,
-        Err(JoinStop::Refused { number, fault }) => {
-            let Ok(line) = refusal(alloc, number, fault) else {
+        Err(JoinStop::Refused(refusal)) => {
+            let Ok(line) = refusal_line(alloc, refusal) else {
                 return Status::Memory;
             };
             if !sink.write_and_flush(line.as_str()) {

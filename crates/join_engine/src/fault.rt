@@ -17,11 +17,20 @@ pub enum LineFault {
     Unfit(CheckError),
 }
 
+/// The first line that is refused.
+#[derive(Clone, Copy)]
+pub struct Refusal {
+    /// Counted from 1.
+    pub number: u64,
+    pub fault: LineFault,
+}
+
 /// The line that tells of a refused line.
-pub fn refusal(alloc: Global, number: u64, fault: LineFault) -> Result<String, AllocError>
-    ensures { IfOk result (λ text. string_bytes text ≡ refusal_text number fault) }
+pub fn refusal_line(alloc: Global, refusal: Refusal) -> Result<String, AllocError>
+    ensures { IfOk result (λ text. string_bytes text ≡ refusal_text refusal.number refusal.fault) }
 {
-    match fault {
+    let number = refusal.number;
+    match refusal.fault {
         LineFault::Unread(error) => {
             let name = error.name();
             format!(in alloc; "line {number} refused {name}\n")

@@ -1,12 +1,13 @@
-//! The engine of `join`: the delta texts of an input are joined, and the text of the joined book is written.
+//! The engine of `join`: the delta texts of an input are joined as they come, and the text of the joined book is
+//! written.
 #![tactic(auto)]
 
 pub use engine::join_engine;
-pub use fault::LineFault;
-pub use lines::{JoinStop, joined_book};
+pub use fault::{LineFault, Refusal};
 
 mod engine;
 mod fault;
+mod joining;
 pub mod laws;
 mod lines;
 #[cfg(test)]

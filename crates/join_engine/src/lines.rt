@@ -1,25 +1,24 @@
-ghost use Rattle.std.specs.Prelude.{◌≡◌, List, [], Ok, Err, MatchResult};
+ghost use Rattle.std.specs.Prelude.{◌≡◌, ◌+◌, [], Ok, Err, MatchResult};
 ghost use Rattle.merge_core.specs.Book.{IsBook, book_shape};
 ghost use Rattle.merge_core.specs.Changes.{JoinsRows};
 ghost use Rattle.merge_core.specs.Delta.{DeltaState};
-ghost use Rattle.merge_core.specs.Layout.{shape_of};
 ghost use Rattle.delta_codec.specs.DeltaText.{delta_text};
 ghost use Rattle.text_input.specs.Lines.{lines_of};
-ghost use Rattle.join_engine.specs.Joins.{AreTexts, IsJoinOf, IsTaken};
-ghost use Rattle.join_engine.specs.Stops.{IsStopOf, StopsAt};
+ghost use Rattle.join_engine.specs.Joins.{IsTaken};
+ghost use Rattle.join_engine.specs.Stops.{IsStopOf, JoinsSoFar, StopsAt};
 
-use crate::fault::LineFault;
+use crate::fault::{LineFault, Refusal};
 use delta_codec::{DecodeError, decode};
-use merge_core::{Book, Layout};
+use merge_core::Book;
 use std::alloc::Global;
 use text_input::cut_line;
 
-/// Why the joining of an input stopped.
+/// Why the joining of lines stopped.
 pub enum JoinStop {
     /// Memory ran out.
     Memory,
-    /// This line, counted from 1, is refused.
-    Refused { number: u64, fault: LineFault },
+    /// This line is refused.
+    Refused(Refusal),
 }
 
 /// Why the joining of one line stopped.
@@ -28,29 +27,14 @@ pub enum LineStop {
     Refused(LineFault),
 }
 
-/// The book of the layout that has joined all lines of the input, or why there is none.
-pub fn joined_book(alloc: Global, layout: &Layout, input: &[u8]) -> Result<Book, JoinStop>
+/// Joins the lines of some bytes one by one, up to the first that is refused, and tells how many they are. Linear in
+/// the bytes.
+pub fn join_lines(alloc: Global, book: &mut Book, bytes: &[u8]) -> Result<u64, JoinStop>
     ensures { MatchResult result
-        (λ book. (deltas : List DeltaState) × AreTexts (shape_of layout.now) (lines_of input.now) deltas × IsJoinOf (shape_of layout.now) deltas book)
-        (λ stop. StopsAt (shape_of layout.now) (lines_of input.now) stop) }
+        (λ number. JoinsSoFar (lines_of bytes.now) [] number book.old book.new)
+        (λ stop. StopsAt (book_shape book.old) (lines_of bytes.now) stop) }
 {
-    let Ok(mut book) = Book::genesis(alloc, layout) else {
-        return Err(JoinStop::Memory);
-    };
-    match join_lines(alloc, &mut book, input) {
-        Ok(()) => Ok(book),
-        Err(stop) => Err(stop),
-    }
-}
-
-// Joins the lines one by one, up to the first that is refused. Linear in the input.
-fn join_lines(alloc: Global, book: &mut Book, input: &[u8]) -> Result<(), JoinStop>
-    requires { IsJoinOf (book_shape book.old) [] book.old }
-    ensures { MatchResult result
-        (λ _. (deltas : List DeltaState) × AreTexts (book_shape book.old) (lines_of input.now) deltas × IsJoinOf (book_shape book.old) deltas book.new)
-        (λ stop. StopsAt (book_shape book.old) (lines_of input.now) stop) }
-{
-    let mut rest = input;
+    let mut rest = bytes;
     let mut number = 0u64;
     while !rest.is_empty() {
         let (line, tail) = cut_line(rest);
@@ -58,11 +42,13 @@ fn join_lines(alloc: Global, book: &mut Book, input: &[u8]) -> Result<(), JoinSt
         match join_line(alloc, book, line) {
             Ok(()) => {}
             Err(LineStop::Memory) => return Err(JoinStop::Memory),
-            Err(LineStop::Refused(fault)) => return Err(JoinStop::Refused { number, fault }),
+            Err(LineStop::Refused(fault)) => {
+                return Err(JoinStop::Refused(Refusal { number, fault }));
+            }
         }
         rest = tail;
     }
-    Ok(())
+    Ok(number)
 }
 
 // Joins the delta whose text the line is.

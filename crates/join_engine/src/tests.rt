@@ -191,22 +191,24 @@ fn a_line_that_is_not_utf8_is_refused(rt: HostRuntime) {
     assert_eq!(&rt; writer.bytes(), "line 1 refused NotUtf8\n".as_bytes());
 }
 
-// How many spaces the input is, what is written, and how many bytes the reader then lost.
-const LONG_INPUTS: [(usize, &str, usize); 2] = [
-    (16_777_217, "input refused TooLong\n", 16_777_217),
-    (20_000_000, "input refused TooLong\n", 16_777_217),
+// The front of the input, how many spaces follow it, and how many of them the reader then lost. A line that is refused
+// comes after the limit too.
+const LONG_INPUTS: [(&str, usize, usize); 3] = [
+    ("", 16_777_217, 16_777_217),
+    ("", 20_000_000, 16_777_217),
+    ("\n", 20_000_000, 16_777_216),
 ];
 
 #[test]
 fn an_input_past_the_limit_is_refused(rt: HostRuntime) {
     let alloc = rt.alloc();
     let layout = built_in(alloc).expect(&rt, "a layout");
-    for (spaces, output, lost) in LONG_INPUTS {
-        let mut reader = Giving::new(&[], NEVER).followed_by(b' ', spaces);
+    for (front, spaces, lost) in LONG_INPUTS {
+        let mut reader = Giving::new(front.as_bytes(), NEVER).followed_by(b' ', spaces);
         let mut writer = Keeping::new(alloc, NEVER);
         let ended = ending(alloc, &layout, &mut reader, &mut writer);
         assert_eq!(&rt; ended, Status::Refused);
-        assert_eq!(&rt; writer.bytes(), output.as_bytes());
+        assert_eq!(&rt; writer.bytes(), "input refused TooLong\n".as_bytes());
         assert_eq!(&rt; spaces.saturating_sub(reader.fillers()), lost);
     }
 }
@@ -232,7 +234,8 @@ fn a_reader_or_a_writer_that_fails_ends_with_status_7(rt: HostRuntime) {
     }
 }
 
-// 300,000 lines in 8.1 MB: a cost that grows with the square of the input takes hours.
+// 300,000 lines in 8.1 MB, in parts of 40 bytes and in great ones: a cost that grows with the square of the input takes
+// hours.
 #[test]
 fn very_many_lines_are_joined_in_time(rt: HostRuntime) {
     let alloc = rt.alloc();
@@ -242,4 +245,13 @@ fn very_many_lines_are_joined_in_time(rt: HostRuntime) {
         input.push_str(NOTHING).expect(&rt, "memory");
     }
     assert!(rt; is_answer(alloc, &layout, input.as_str(), Status::Done, NOTHING));
+    let mut writer = Keeping::new(alloc, NEVER);
+    let ended = join_engine(
+        alloc,
+        &layout,
+        &mut Source::new(input.as_bytes()),
+        &mut Sink::new(&mut writer),
+    );
+    assert_eq!(&rt; ended, Status::Done);
+    assert_eq!(&rt; writer.bytes(), NOTHING.as_bytes());
 }

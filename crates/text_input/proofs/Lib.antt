@@ -1,2 +1,2 @@
 mod InputLemmas
-mod LineLemmas
+pub mod LineLemmas

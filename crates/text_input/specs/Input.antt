@@ -34,6 +34,11 @@ ReadsUpTo limit old new (Err TooLong) = (bytes : List ℕ) × Consumes old.remai
 ReadsUpTo limit old new (Err Memory) = LosesSome old new (limit + 1) × LacksMemory old.fault new.fault
 ReadsUpTo limit old new (Err Io) = LosesSome old new (limit + 1) × IsFailure new.fault
 
+-- The same where each part is taken in as it comes: at the end all bytes were.
+abbrev pub ReadsInto : ℕ → SourceState → SourceState → (List ℕ → Type 0) → Result (Unit {0}) InputError → Type 0
+ReadsInto limit old new Takes (Ok _) = (bytes : List ℕ) × ReadsUpTo limit old new (Ok bytes) × Takes bytes
+ReadsInto limit old new Takes (Err e) = ReadsUpTo limit old new (Err e)
+
 -- the same of an engine's whole input
 abbrev pub ReadsInput : SourceState → SourceState → Result (List ℕ) InputError → Type 0
 ReadsInput old new answer = ReadsUpTo input_limit old new answer

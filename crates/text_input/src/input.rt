@@ -1,8 +1,8 @@
-ghost use Rattle.std.specs.Prelude.{◌≡◌};
-ghost use Rattle.text_input.specs.Input.{ReadsInput, ReadsUpTo};
+ghost use Rattle.std.specs.Prelude.{◌≡◌, ◌+◌, ◌^◌, ◌≤◌, ◌++◌, ℕ, List, [], length, IfOk};
+ghost use Rattle.text_input.specs.Input.{ReadsInput, ReadsInto, ReadsUpTo};
 
 use crate::{INPUT_LIMIT, Source};
-use std::alloc::Global;
+use std::alloc::{AllocError, Global};
 use std::io::Read;
 use std::marker::Model;
 use thiserror::Error;
@@ -48,6 +48,25 @@ impl Input {
     }
 }
 
+/// What takes an input in, part by part.
+pub trait Accumulator {
+    /// It has come from the first state to the last by taking these bytes in.
+    ghost takes: { Self → List ℕ → Self → Type 0 };
+
+    /// Takes the next part in, where that has room.
+    fn add(&mut self, part: &[u8]) -> Result<(), AllocError>
+        ensures { (first : Self) (before : List ℕ) → takes first before self.old → length before + length part.now ≤ 2 ^ 32 → IfOk result (λ _. takes first (before ++ part.now) self.new) };
+}
+
+// The bytes themselves.
+impl Accumulator for Input {
+    ghost takes = { λ first bytes now. now ≡ first ++ bytes };
+
+    fn add(&mut self, part: &[u8]) -> Result<(), AllocError> {
+        self.bytes.extend_from_slice(part)
+    }
+}
+
 /// Reads the whole input of an engine, of at most [`INPUT_LIMIT`] bytes.
 pub fn read_input<R: Read>(alloc: Global, source: &mut Source<R>) -> Result<Input, InputError>
     ensures { ReadsInput source.old source.new result }
@@ -63,17 +82,37 @@ pub fn read_up_to<R: Read>(
 ) -> Result<Input, InputError>
     ensures { ReadsUpTo limit source.old source.new result }
 {
+    let mut input = Input {
+        bytes: Vec::new(alloc),
+    };
+    match read_into(source, limit, &mut input) {
+        Ok(()) => Ok(input),
+        Err(error) => Err(error),
+    }
+}
+
+/// Hands all that the source has to an accumulator, as it comes, and no more than one byte past the limit. The first
+/// fault ends the reading.
+pub fn read_into<R: Read, A: Accumulator>(
+    source: &mut Source<R>,
+    limit: u32,
+    accumulator: &mut A,
+) -> Result<(), InputError>
+    requires { A.takes accumulator.old [] accumulator.old }
+    ensures { ReadsInto limit source.old source.new (λ bytes. A.takes accumulator.old bytes accumulator.new) result }
+{
     let most = limit as usize;
-    let mut bytes = Vec::new(alloc);
+    let mut count = 0;
     let mut chunk = [0u8; CHUNK];
-    while bytes.len() <= most {
-        let part = &mut chunk[..CHUNK.min(most + 1 - bytes.len())];
+    while count <= most {
+        let part = &mut chunk[..CHUNK.min(most + 1 - count)];
         match source.read(part) {
-            Ok(0) => return Ok(Input { bytes }),
+            Ok(0) => return Ok(()),
             Ok(n) => {
-                if bytes.extend_from_slice(&part[..n]).is_err() {
+                if accumulator.add(&part[..n]).is_err() {
                     return Err(InputError::Memory);
                 }
+                count += n;
             }
             Err(error) => return Err(error),
         }

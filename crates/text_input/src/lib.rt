@@ -1,9 +1,9 @@
-//! What an engine reads and where it writes: an input that is read whole, up to a limit, and cut into lines; and a
-//! sink that keeps the fault that it met.
+//! What an engine reads and where it writes: an input that is read up to a limit, whole or part by part as it comes,
+//! and cut into lines; and a sink that keeps the fault that it met.
 #![tactic(auto)]
 
-pub use input::{Input, InputError, read_input, read_up_to};
-pub use lines::cut_line;
+pub use input::{Accumulator, Input, InputError, read_input, read_into, read_up_to};
+pub use lines::{cut_line, cut_whole_lines};
 pub use sink::Sink;
 pub use source::Source;
 

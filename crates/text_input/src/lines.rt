@@ -1,7 +1,7 @@
-ghost use Rattle.std.specs.Prelude.{◌≡◌, ◌<◌, ◌∷◌, length};
-ghost use Rattle.text_input.specs.Lines.{lines_of};
+ghost use Rattle.std.specs.Prelude.{◌≡◌, ◌<◌, ◌∷◌, ◌++◌, length, MatchOption};
+ghost use Rattle.text_input.specs.Lines.{lines_of, EndsLine, IsUnended};
 
-use memchr::memchr;
+use memchr::{memchr, memrchr};
 
 /// The first line of bytes that are not empty, without its LF, and what follows. Linear in the line.
 pub fn cut_line(bytes: &[u8]) -> (&[u8], &[u8])
@@ -12,5 +12,16 @@ pub fn cut_line(bytes: &[u8]) -> (&[u8], &[u8])
     match memchr(b'\n', bytes) {
         Some(end) => (&bytes[..end], &bytes[end + 1..]),
         None => (bytes, &bytes[bytes.len()..]),
+    }
+}
+
+/// The whole lines of bytes, with their LFs, and what follows the last of them; nothing where there is no LF. Linear in
+/// what follows.
+pub fn cut_whole_lines(bytes: &[u8]) -> Option<(&[u8], &[u8])>
+    ensures { MatchOption result (IsUnended bytes.now) (λ it. (bytes.now ≡ it.0.now ++ it.1.now) × EndsLine it.0.now × IsUnended it.1.now) }
+{
+    match memrchr(b'\n', bytes) {
+        Some(end) => Some((&bytes[..=end], &bytes[end + 1..])),
+        None => None,
     }
 }

@@ -1,4 +1,4 @@
-use crate::{InputError, Sink, Source, cut_line, read_input};
+use crate::{InputError, Sink, Source, cut_line, cut_whole_lines, read_input};
 use std::alloc::Global;
 use std::io;
 use std::io::{Error, ErrorKind, Read, Write};
@@ -127,6 +127,25 @@ fn lines_are_cut_at_each_lf(rt: HostRuntime) {
             assert_eq!(&rt; cut.1, rest.as_bytes());
         }
     }
+}
+
+const WHOLE_LINES: [(&str, &str, &str); 6] = [
+    ("a\n", "a\n", ""),
+    ("\n", "\n", ""),
+    ("\n\n", "\n\n", ""),
+    ("ab\ncd", "ab\n", "cd"),
+    ("\na", "\n", "a"),
+    ("a\nb\r\n\nc ", "a\nb\r\n\n", "c "),
+];
+
+#[test]
+fn whole_lines_end_at_the_last_lf(rt: HostRuntime) {
+    for (text, lines, rest) in WHOLE_LINES {
+        let cut = cut_whole_lines(text.as_bytes());
+        assert_eq!(&rt; cut, Some((lines.as_bytes(), rest.as_bytes())));
+    }
+    assert!(&rt; cut_whole_lines(b"").is_none());
+    assert!(&rt; cut_whole_lines(b"ab\r").is_none());
 }
 
 // How many lines 4,000,000 LF are: a cut whose cost is the length of what follows takes hours.

@@ -112,10 +112,11 @@ fn a_text_that_is_cut_off_is_refused(rt: HostRuntime) {
 }
 
 // Bytes, a byte that follows them so many times, and what is written.
-const INPUTS: [(&[u8], u8, usize, &str); 12] = [
-    // lines of 2,097,152 and 2,097,153 bytes
+const INPUTS: [(&[u8], u8, usize, &str); 13] = [
+    // lines of 2,097,152 and 2,097,153 bytes, and one as long as an input may be
     (b"{}", b' ', 2_097_150, "line 1 refused NotCanonical\n"),
     (b"{}", b' ', 2_097_151, "line 1 refused TooLong\n"),
+    (b"", b' ', 16_777_216, "line 1 refused TooLong\n"),
     (b"", 0, 2_097_152, "line 1 refused NotJson\n"),
     (b"", 255, 2_097_152, "line 1 refused NotUtf8\n"),
     (b"", 255, 2_097_153, "line 1 refused TooLong\n"),

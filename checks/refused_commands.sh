@@ -1,0 +1,48 @@
+#!/usr/bin/env bash
+# Runs `join` and `play` over the examples once for each of their allocations, with that one refused, until a run meets
+# no refusal. Each run has to end with status 6, `memory` and no answer, or with the whole answer; and the last one, of
+# which nothing is refused, with the whole answer.
+#
+#     checks/refused_commands.sh    needs gcc, and builds the program where it is not built
+set -eu
+cd "$(dirname "$0")/.."
+./seat_cli --version >/dev/null
+program=$PWD/crates/seat_cli/out/seat_cli
+work=$(mktemp -d)
+trap 'rm -rf "$work"' EXIT
+gcc -O1 -shared -fPIC -o "$work/refuse.so" checks/refuse.c -ldl
+
+# refused_in_turn ANSWER STATUS INPUT ARGUMENT..: what the program has to answer to these arguments and this input.
+refused_in_turn() {
+    answer=$1 wanted=$2 input=$3 whole=0 none=0 n=0
+    shift 3
+    while :; do
+        n=$((n + 1))
+        rm -f "$work/mark"
+        status=0
+        REFUSE_NTH=$n REFUSE_MARK=$work/mark LD_PRELOAD=$work/refuse.so \
+            "$program" "$@" <"$input" >"$work/out" 2>"$work/errors" || status=$?
+        is_whole=0
+        [ "$status" = "$wanted" ] && cmp -s "$work/out" "$answer" && [ ! -s "$work/errors" ] && is_whole=1
+        [ "$is_whole" = 1 ] && [ ! -e "$work/mark" ] && break
+        if [ "$is_whole" = 1 ]; then
+            whole=$((whole + 1))
+        elif [ "$status" = 6 ] && [ ! -s "$work/out" ] && [ "$(cat "$work/errors")" = memory ]; then
+            none=$((none + 1))
+        else
+            echo "$1: allocation $n refused: status $status, $(head -c 999 "$work/out" "$work/errors")"
+            exit 1
+        fi
+    done
+    [ "$n" -gt 1 ] || { echo "$1: no allocation was refused"; exit 1; }
+    echo "$1: each of $((n - 1)) allocations was refused in turn: $none runs ended with status 6, $whole with the whole answer"
+}
+
+cat examples/site_1.deltas examples/site_0.deltas >"$work/deltas"
+refused_in_turn examples/joined.txt 0 "$work/deltas" join --layout examples/three_sites.toml
+printf '\n' >>"$work/deltas"
+echo "line $(wc -l <"$work/deltas") refused NotJson" >"$work/refusal"
+refused_in_turn "$work/refusal" 4 "$work/deltas" join --layout examples/three_sites.toml
+for _ in $(seq 200); do cat examples/site_1.deltas examples/site_0.deltas; done >"$work/many"
+refused_in_turn examples/joined.txt 0 "$work/many" join --layout examples/three_sites.toml
+refused_in_turn examples/maintenance.txt 0 examples/maintenance.script play --tables --layout examples/three_sites.toml
