@@ -5,12 +5,9 @@
 #
 #     checks/refused_commands.sh    needs gcc, and builds the program where it is not built
 set -eu
-cd "$(dirname "$0")/.."
+. "$(dirname "$0")/refusing.sh"
 ./seat_cli --version >/dev/null
 program=$PWD/crates/seat_cli/out/seat_cli
-work=$(mktemp -d)
-trap 'rm -rf "$work"' EXIT
-gcc -O1 -shared -fPIC -o "$work/refuse.so" checks/refuse.c -ldl
 
 # refused_in_turn ANSWER STATUS INPUT ARGUMENT..: what the program has to answer to these arguments and this input.
 refused_in_turn() {

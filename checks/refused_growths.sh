@@ -6,16 +6,12 @@
 #
 # Without arguments: the tests of admission_core on calls that find no memory. Needs gcc.
 set -eu
-cd "$(dirname "$0")/.."
+. "$(dirname "$0")/refusing.sh"
 crate=${1:-admission_core}
 word=${2:-growths}
 tests=crates/$crate/out/${crate}_tests
 
 [ -x "$tests" ] || (cd "crates/$crate" && rt test)
-
-work=$(mktemp -d)
-trap 'rm -rf "$work"' EXIT
-gcc -O1 -shared -fPIC -o "$work/refuse.so" checks/refuse.c -ldl
 
 for name in $("$tests" --list | sed -n "s/: test$//p" | grep "$word"); do
     n=0

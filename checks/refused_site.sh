@@ -5,12 +5,9 @@
 #
 #     checks/refused_site.sh    needs gcc, and builds the program where it is not built; takes some minutes
 set -eu
-cd "$(dirname "$0")/.."
+. "$(dirname "$0")/refusing.sh"
 ./seat_cli --version >/dev/null
 program=$PWD/crates/seat_cli/out/seat_cli
-work=$(mktemp -d)
-trap 'rm -rf "$work"' EXIT
-gcc -O1 -shared -fPIC -o "$work/refuse.so" checks/refuse.c -ldl
 cd "$work"
 
 wanted='admitted;admitted;{"from":0,"rows":[{"ann":0,"fin":0,"out":[2,0],"r":0,"s":0,"taken":2}],"v":1};'
