@@ -1,18 +1,18 @@
 -- What an input that comes in parts came to: the lines before what is pending, and what is pending.
-use Rattle.std.proofs.Common.{◌≡◌, ℕ, ◌+◌, ◌^◌, ◌≤◌, List, [], ◌∷◌, ◌++◌, length, map, Option, None, Some, refl, sym, ap, ◌∙◌, subst, append_assoc, append-nil, arith}
+use Rattle.std.proofs.Common.{true≢false, ◌≡◌, ℕ, ◌+◌, ◌^◌, ◌≤◌, List, [], ◌∷◌, ◌++◌, length, map, true, Option, None, Some, is_some, refl, sym, ap, ◌∙◌, subst, append_assoc, append-nil, arith}
 use Rattle.std.specs.List.{AllByRecursion}
 use Rattle.std.proofs.lemmas.List.{length-append, length-map, map-append}
 use Rattle.merge_core.specs.Layout.{Shape}
 use Rattle.merge_core.specs.Delta.{DeltaState}
 use Rattle.merge_core.specs.Book.{BookState, book_shape}
 use Rattle.delta_codec.specs.DeltaText.{delta_text}
-use Rattle.text_input.specs.Lines.{lines_of, EndsLine}
-use Rattle.text_input.proofs.LineLemmas.{lines_behind, lines_bounded}
+use Rattle.text_input.specs.Lines.{lines_of, EndsLine, HasNoLf}
+use Rattle.text_input.proofs.LineLemmas.{lines_behind, lines_bounded, no_lf_behind}
 use Rattle.join_engine.specs.declared.fault.LineFault.{LineFault}
 use Rattle.join_engine.specs.declared.fault.Refusal.{Refusal}
 use Rattle.join_engine.specs.Joins.{AreTexts, IsFirstRefused, IsJoinOf, IsTaken}
 use Rattle.join_engine.specs.Stops.{counted_on, JoinsFront, JoinsLines, JoinsSoFar, KnownOf}
-use Rattle.join_engine.proofs.LineLemmas.{refused_behind, taken_on}
+use Rattle.join_engine.proofs.LineLemmas.{joined_on, refused_behind, taken_on}
 
 -- whole lines behind what was pending, and what follows them
 whole_lines : (pending before rest more : List ℕ)
@@ -55,13 +55,14 @@ taken_both shape ds es b is front back =
 
 -- before the first byte
 pub front_of_none : (shape : Shape) (b : BookState) → IsJoinOf shape [] b → JoinsFront shape [] [] 0 b
-front_of_none shape b is = record { deltas = []; split = λ more. refl; taken = tt; joined = is; counted = refl }
+front_of_none shape b is = record { deltas = []; unended = λ i within. absurd (omega (arith, within)); split = λ more. refl; taken = tt; joined = is; counted = refl }
 
--- what came is pending
-front_waits : (shape : Shape) (bytes part pending : List ℕ) (n : ℕ) (b : BookState) → JoinsFront shape bytes pending n b
-    → JoinsFront shape (bytes ++ part) (pending ++ part) n b
-front_waits shape bytes part pending n b front = record {
+-- no end of a line came, so that all of it is pending
+pub front_waits : (shape : Shape) (bytes part pending : List ℕ) (n : ℕ) (b : BookState) → JoinsFront shape bytes pending n b
+    → HasNoLf part → JoinsFront shape (bytes ++ part) (pending ++ part) n b
+front_waits shape bytes part pending n b front none = record {
   deltas = front.deltas;
+  unended = no_lf_behind pending part front.unended none;
   split = λ more. ap lines_of (append_assoc bytes part more) ∙ front.split (part ++ more)
       ∙ ap (λ (l : List ℕ). map delta_text front.deltas ++ lines_of l) (sym (append_assoc pending part more));
   taken = front.taken;
@@ -71,13 +72,15 @@ front_waits shape bytes part pending n b front = record {
 
 -- what was pending is joined with the whole lines that came
 front_joined : (shape : Shape) (bytes part lines rest pending : List ℕ) (n m : ℕ) (b new : BookState) → JoinsFront shape bytes pending n b
-    → part ≡ lines ++ rest → EndsLine lines → JoinsSoFar (lines_of (pending ++ lines)) [] m b new → JoinsFront shape (bytes ++ part) rest (n + m) new
-front_joined shape bytes part lines rest pending n m b new front cut ended joins = record {
+    → part ≡ lines ++ rest → EndsLine lines → HasNoLf rest → JoinsSoFar (lines_of (pending ++ lines)) [] m b new
+    → JoinsFront shape (bytes ++ part) rest (n + m) new
+front_joined shape bytes part lines rest pending n m b new front cut ended none joins = record {
   deltas = front.deltas ++ joins.deltas;
+  unended = none;
   split = λ more. lines_then shape bytes part lines rest pending n b front cut ended more
       ∙ texts_on front.deltas joins.deltas (lines_of (pending ++ lines)) (lines_of (rest ++ more)) joins.split;
   taken = taken_both shape front.deltas joins.deltas b front.joined front.taken joins.taken;
-  joined = joins.joins shape front.deltas front.joined;
+  joined = joined_on shape front.deltas joins.deltas b new front.joined joins.joins (joins.book front.joined.book);
   counted = omega (arith, length-append front.deltas joins.deltas, front.counted, joins.counted);
 }
 
@@ -115,28 +118,41 @@ refused_bounded shape bytes n fault first = omega (
 exact : (n m k : ℕ) → n + m ≤ k → k ≤ 2 ^ 32 → counted_on n m ≡ n + m
 exact n m k few most = omega (arith, few, most)
 
--- whole lines came
-pub known_lines : (shape : Shape) (bytes part lines rest pending : List ℕ) (n : ℕ) (b : BookState) (refused : Option Refusal) (joined : ℕ) (new : BookState)
-    → JoinsFront shape bytes pending n b → part ≡ lines ++ rest → EndsLine lines → length bytes + length part ≤ 2 ^ 32
-    → JoinsLines (lines_of (pending ++ lines)) n b refused joined new → KnownOf shape (bytes ++ part) refused rest joined new
-known_lines shape bytes part lines rest pending n b None joined new front cut ended few joins =
-    let more = front_joined shape bytes part lines rest pending n joins.0 b new front cut ended joins.1 in
+-- whole lines came, and all of them are joined
+pub known_lines : (shape : Shape) (bytes part lines rest pending : List ℕ) (n : ℕ) (b : BookState) (joined : ℕ) (new : BookState)
+    → JoinsFront shape bytes pending n b → part ≡ lines ++ rest → EndsLine lines → HasNoLf rest → length (bytes ++ part) ≤ 2 ^ 32
+    → JoinsLines (lines_of (pending ++ lines)) n b None joined new → JoinsFront shape (bytes ++ part) rest joined new
+known_lines shape bytes part lines rest pending n b joined new front cut ended none few joins =
+    let more = front_joined shape bytes part lines rest pending n joins.0 b new front cut ended none joins.1 in
     let few_lines = joined_bounded shape (bytes ++ part) rest (n + joins.0) new more in
-    subst (λ (k : ℕ). JoinsFront shape (bytes ++ part) rest k new)
-    (sym (joins.2 ∙ exact n joins.0 (length (bytes ++ part)) few_lines (omega (arith, few, length-append bytes part)))) more
-known_lines shape bytes part lines rest pending n b (Some it) joined new front cut ended few joins =
+    subst (λ (k : ℕ). JoinsFront shape (bytes ++ part) rest k new) (sym (joins.2 ∙ exact n joins.0 (length (bytes ++ part)) few_lines few)) more
+
+-- whole lines came, of which one is refused
+known_stop : (shape : Shape) (bytes part lines rest pending : List ℕ) (n : ℕ) (b : BookState) (it : Refusal) (joined : ℕ) (new : BookState)
+    → JoinsFront shape bytes pending n b → part ≡ lines ++ rest → EndsLine lines → length (bytes ++ part) ≤ 2 ^ 32
+    → JoinsLines (lines_of (pending ++ lines)) n b (Some it) joined new → (more : List ℕ)
+    → IsFirstRefused shape (lines_of ((bytes ++ part) ++ more)) it.number it.fault
+known_stop shape bytes part lines rest pending n b it joined new front cut ended few joins =
     let refused = front_refused shape bytes part lines rest pending n joins.0 b it.fault front cut ended joins.1 in
     let at_end = subst (λ (l : List ℕ). IsFirstRefused shape (lines_of l) (n + joins.0) it.fault) (append-nil (bytes ++ part)) (refused []) in
     let few_lines = refused_bounded shape (bytes ++ part) (n + joins.0) it.fault at_end in
     λ more. subst (λ (k : ℕ). IsFirstRefused shape (lines_of ((bytes ++ part) ++ more)) k it.fault)
-    (sym (joins.2 ∙ exact n joins.0 (length (bytes ++ part)) few_lines (omega (arith, few, length-append bytes part)))) (refused more)
+    (sym (joins.2 ∙ exact n joins.0 (length (bytes ++ part)) few_lines few)) (refused more)
 
--- what came is the front of a line alone, or comes behind a line that is refused
-pub known_part : (shape : Shape) (bytes part pending : List ℕ) (n : ℕ) (b : BookState) (refused : Option Refusal)
-    → KnownOf shape bytes refused pending n b → KnownOf shape (bytes ++ part) refused (pending ++ part) n b
-known_part shape bytes part pending n b None known = front_waits shape bytes part pending n b known
-known_part shape bytes part pending n b (Some it) known =
-    λ more. subst (λ (l : List ℕ). IsFirstRefused shape (lines_of l) it.number it.fault) (sym (append_assoc bytes part more)) (known (part ++ more))
+-- the same, whatever is pending then
+pub known_stopped : (shape : Shape) (bytes part lines rest pending after : List ℕ) (n : ℕ) (b : BookState) (refused : Option Refusal) (joined : ℕ) (new : BookState)
+    → is_some refused ≡ true → JoinsFront shape bytes pending n b → part ≡ lines ++ rest → EndsLine lines → length (bytes ++ part) ≤ 2 ^ 32
+    → JoinsLines (lines_of (pending ++ lines)) n b refused joined new → KnownOf shape (bytes ++ part) refused after joined new
+known_stopped shape bytes part lines rest pending after n b None joined new some front cut ended few joins = absurd (true≢false (sym some))
+known_stopped shape bytes part lines rest pending after n b (Some it) joined new some front cut ended few joins =
+    known_stop shape bytes part lines rest pending n b it joined new front cut ended few joins
+
+-- what comes behind a line that is refused changes nothing
+pub known_behind : (shape : Shape) (bytes part : List ℕ) (it : Refusal)
+    → ((more : List ℕ) → IsFirstRefused shape (lines_of (bytes ++ more)) it.number it.fault) → (more : List ℕ)
+    → IsFirstRefused shape (lines_of ((bytes ++ part) ++ more)) it.number it.fault
+known_behind shape bytes part it known more =
+    subst (λ (l : List ℕ). IsFirstRefused shape (lines_of l) it.number it.fault) (sym (append_assoc bytes part more)) (known (part ++ more))
 
 -- nothing more came, and what was pending is joined
 pub known_all : (shape : Shape) (bytes pending : List ℕ) (n : ℕ) (b : BookState) (joined : ℕ) (new : BookState) → JoinsFront shape bytes pending n b
@@ -149,7 +165,7 @@ known_all shape bytes pending n b joined new front joins = (
         ∙ append-nil (map delta_text (front.deltas ++ joins.1.deltas));
     taken = taken_both shape front.deltas joins.1.deltas b front.joined front.taken joins.1.taken;
   },
-  joins.1.joins shape front.deltas front.joined,
+  joined_on shape front.deltas joins.1.deltas b new front.joined joins.1.joins (joins.1.book front.joined.book),
 )
 
 -- the same where a line of it is refused

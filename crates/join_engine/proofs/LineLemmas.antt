@@ -1,13 +1,13 @@
 -- One line more of an input.
-use Rattle.std.proofs.Common.{◌≡◌, ℕ, ◌+◌, List, [], ◌∷◌, ◌++◌, length, map, refl, sym, ap, ◌∙◌, subst, append_assoc, append-nil, arith}
+use Rattle.std.proofs.Common.{◌≡◌, ℕ, ◌+◌, max, List, [], ◌∷◌, ◌++◌, length, map, refl, sym, ap, ◌∙◌, subst, append_assoc, arith}
 use Rattle.std.proofs.lemmas.List.{length-append, length-map, map-append}
 use Rattle.std.specs.List.{AllByRecursion}
 use Rattle.merge_core.specs.declared.cell.Cell.{Cell}
 use Rattle.merge_core.specs.Layout.{Shape}
 use Rattle.merge_core.specs.Delta.{DeltaState}
-use Rattle.merge_core.specs.Naming.{shown_by}
+use Rattle.merge_core.specs.Naming.{greatest_shown, shown_by}
 use Rattle.merge_core.specs.Book.{BookState, IsBook, counter_of, book_shape}
-use Rattle.merge_core.specs.Changes.{JoinsRows}
+use Rattle.merge_core.specs.Changes.{JoinsAll, JoinsRows}
 use Rattle.merge_core.specs.Rows.{start_counter}
 use Rattle.merge_core.proofs.KnownLemmas.{greatest_shown-push}
 use Rattle.delta_codec.specs.DeltaText.{delta_text}
@@ -16,20 +16,46 @@ use Rattle.join_engine.specs.declared.fault.LineFault.{LineFault}
 use Rattle.join_engine.specs.Joins.{joined_counter, IsJoinOf, IsTaken, IsFaultOf, IsFirstRefused}
 use Rattle.join_engine.specs.Stops.{JoinsSoFar}
 
--- a join takes one delta more in
-joined_more : (shape : Shape) (ds : List DeltaState) (d : DeltaState) (old new : BookState) → IsJoinOf shape ds old
-    → JoinsRows old new d.rows → IsBook new → IsJoinOf shape (ds ++ d ∷ []) new
-joined_more shape ds d old new before joins book = record {
+-- what one delta more shows, and many more
+joined_more : (old b new : BookState) (ds : List DeltaState) (d : DeltaState) → JoinsAll old b ds → JoinsRows b new d.rows → JoinsAll old new (ds ++ d ∷ [])
+joined_more old b new ds d before joins = record {
+  shape = joins.shape ∙ before.shape;
+  counters = λ r s cell. at_place r s cell;
+}
+  where
+    at_place : (r s : ℕ) (cell : Cell) → counter_of new r s cell ≡ greatest_shown (book_shape old) (counter_of old r s cell) (ds ++ d ∷ []) r s cell
+    at_place r s cell =
+        let shown : shown_by (book_shape b) d.rows r s cell ≡ shown_by (book_shape old) d.rows r s cell =
+        ap (λ (it : Shape). shown_by it d.rows r s cell) before.shape in
+        omega (arith, joins.counters r s cell, before.counters r s cell, greatest_shown-push (book_shape old) (counter_of old r s cell) ds d r s cell, shown)
+
+greatest_shown-max : (shape : Shape) (m n : ℕ) (ds : List DeltaState) (r s : ℕ) (cell : Cell)
+    → greatest_shown shape (max m n) ds r s cell ≡ max m (greatest_shown shape n ds r s cell)
+greatest_shown-max shape m n [] r s cell = refl
+greatest_shown-max shape m n (d ∷ ds) r s cell = omega (arith, greatest_shown-max shape m n ds r s cell)
+
+greatest_shown-append : (shape : Shape) (known : ℕ) (ds es : List DeltaState) (r s : ℕ) (cell : Cell)
+    → greatest_shown shape known (ds ++ es) r s cell ≡ greatest_shown shape (greatest_shown shape known ds r s cell) es r s cell
+greatest_shown-append shape known [] es r s cell = refl
+greatest_shown-append shape known (d ∷ ds) es r s cell =
+    ap (λ (n : ℕ). max (shown_by shape d.rows r s cell) n) (greatest_shown-append shape known ds es r s cell)
+    ∙ sym (greatest_shown-max shape (shown_by shape d.rows r s cell) (greatest_shown shape known ds r s cell) es r s cell)
+
+-- a join takes more deltas in
+pub joined_on : (shape : Shape) (ds es : List DeltaState) (old new : BookState) → IsJoinOf shape ds old → JoinsAll old new es → IsBook new
+    → IsJoinOf shape (ds ++ es) new
+joined_on shape ds es old new before joins book = record {
   one_shape = joins.shape ∙ before.one_shape;
   counters = λ r s cell. at_place r s cell;
   book = book;
 }
   where
-    at_place : (r s : ℕ) (cell : Cell) → counter_of new r s cell ≡ joined_counter shape (ds ++ d ∷ []) r s cell
+    at_place : (r s : ℕ) (cell : Cell) → counter_of new r s cell ≡ joined_counter shape (ds ++ es) r s cell
     at_place r s cell =
-        let shown : shown_by (book_shape old) d.rows r s cell ≡ shown_by shape d.rows r s cell =
-        ap (λ (it : Shape). shown_by it d.rows r s cell) before.one_shape in
-        omega (arith, joins.counters r s cell, before.counters r s cell, greatest_shown-push shape (start_counter shape r s cell) ds d r s cell, shown)
+        joins.counters r s cell
+        ∙ ap (λ (it : Shape). greatest_shown it (counter_of old r s cell) es r s cell) before.one_shape
+        ∙ ap (λ (n : ℕ). greatest_shown shape n es r s cell) (before.counters r s cell)
+        ∙ sym (greatest_shown-append shape (start_counter shape r s cell) ds es r s cell)
 
 pub taken_on : (shape : Shape) (ds es : List DeltaState) → AllByRecursion (IsTaken shape) ds → AllByRecursion (IsTaken shape) es
     → AllByRecursion (IsTaken shape) (ds ++ es)
@@ -42,8 +68,8 @@ joined_none lines b = record {
   deltas = [];
   split = refl;
   taken = tt;
-  one_shape = refl;
-  joins = λ shape before is. subst (λ (ds : List DeltaState). IsJoinOf shape ds b) (sym (append-nil before)) is;
+  joins = record { shape = refl; counters = λ r s cell. refl };
+  book = λ is. is;
   counted = refl;
 }
 
@@ -57,10 +83,9 @@ joined_line lines rest later line number d old b new before next taken text join
       before.split ∙ ap (λ (ls : List (List ℕ)). map delta_text before.deltas ++ ls) (next ∙ ap (λ (l : List ℕ). l ∷ later) text)
       ∙ sym (append_assoc (map delta_text before.deltas) (delta_text d ∷ []) later)
       ∙ ap (λ (ls : List (List ℕ)). ls ++ later) (sym (map-append delta_text before.deltas (d ∷ [])));
-  taken = taken_on (book_shape old) before.deltas (d ∷ []) before.taken (subst (λ (it : Shape). IsTaken it d) before.one_shape taken, tt);
-  one_shape = joins.shape ∙ before.one_shape;
-  joins = λ shape first is. subst (λ (ds : List DeltaState). IsJoinOf shape ds new) (append_assoc first before.deltas (d ∷ []))
-      (joined_more shape (first ++ before.deltas) d b new (before.joins shape first is) joins book);
+  taken = taken_on (book_shape old) before.deltas (d ∷ []) before.taken (subst (λ (it : Shape). IsTaken it d) before.joins.shape taken, tt);
+  joins = joined_more old b new before.deltas d before.joins joins;
+  book = λ is. book;
   counted = length-append before.deltas (d ∷ []) ∙ ap (λ (n : ℕ). n + 1) before.counted;
 }
 
@@ -112,5 +137,5 @@ refused_line lines rest later line number old b fault so_far next refused =
       split = refl;
       joined = record { texts = refl; taken = tt };
       counted = refl;
-      refused = subst (λ (it : Shape). IsFaultOf it line fault) so_far.one_shape refused;
+      refused = subst (λ (it : Shape). IsFaultOf it line fault) so_far.joins.shape refused;
     }

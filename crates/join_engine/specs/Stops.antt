@@ -3,9 +3,10 @@ use Rattle.std.specs.Prelude.{◌≡◌, ℕ, ◌+◌, ◌-◌, ◌^◌, List, [
 use Rattle.std.specs.List.{AllByRecursion}
 use Rattle.merge_core.specs.Layout.{Shape}
 use Rattle.merge_core.specs.Delta.{DeltaState}
-use Rattle.merge_core.specs.Book.{BookState, book_shape}
+use Rattle.merge_core.specs.Book.{BookState, IsBook, book_shape}
+use Rattle.merge_core.specs.Changes.{JoinsAll}
 use Rattle.delta_codec.specs.DeltaText.{delta_text}
-use Rattle.text_input.specs.Lines.{lines_of}
+use Rattle.text_input.specs.Lines.{lines_of, HasNoLf}
 use Rattle.join_engine.specs.declared.fault.Refusal.{Refusal}
 use Rattle.join_engine.specs.declared.joining.Joining.{Joining}
 use Rattle.join_engine.specs.declared.lines.LineStop.{LineStop}
@@ -27,13 +28,15 @@ pub record JoinsSoFar (lines rest : List (List ℕ)) (number : ℕ) (old b : Boo
   pub deltas : List DeltaState
   pub split : lines ≡ map delta_text deltas ++ rest
   pub taken : AllByRecursion (IsTaken (book_shape old)) deltas
-  pub one_shape : book_shape b ≡ book_shape old
-  pub joins : (shape : Shape) (before : List DeltaState) → IsJoinOf shape before old → IsJoinOf shape (before ++ deltas) b
+  pub joins : JoinsAll old b deltas
+  pub book : IsBook old → IsBook b
   pub counted : length deltas ≡ number
 
--- so many lines of the bytes that came are joined, whatever follows, and the pending ones are still to be
+-- so many lines of the bytes that came are joined, whatever follows: all whose ends came, so that the front of one
+-- more line alone is pending
 pub record JoinsFront (shape : Shape) (bytes pending : List ℕ) (number : ℕ) (b : BookState) : Type 0 where
   pub deltas : List DeltaState
+  pub unended : HasNoLf pending
   pub split : (more : List ℕ) → lines_of (bytes ++ more) ≡ map delta_text deltas ++ lines_of (pending ++ more)
   pub taken : AllByRecursion (IsTaken shape) deltas
   pub joined : IsJoinOf shape deltas b

@@ -16,13 +16,13 @@ use text_input::{Accumulator, cut_whole_lines};
 #[derive(Drop)]
 pub struct Joining {
     alloc: Global,
-    // The join of the lines.
+    // The join of the lines before the first that is refused.
     book: Book,
-    // How many they are.
+    // How many they are, while none is refused.
     joined: u64,
-    // The first that is refused; nothing is joined behind it.
+    // The first that is refused; what comes behind it is not looked at.
     refused: Option<Refusal>,
-    // What is not joined yet.
+    // The front of a line whose end has not come yet.
     pending: Vec<u8>,
 }
 
@@ -41,7 +41,7 @@ impl Joining {
         })
     }
 
-    // Joins the lines that are pending, up to the first that is refused.
+    // Joins what is pending, whole lines but for the last of an input, up to the first line that is refused.
     fn join_pending(&mut self) -> Result<(), AllocError>
         requires { self.old.refused ≡ None }
         ensures { IfOk result (λ _. JoinsPending self.old self.new) }
@@ -54,7 +54,8 @@ impl Joining {
                 self.refused = Some(Refusal { number, fault });
             }
         }
-        self.pending.clear();
+        // Given back whole: so allocators that learn from great blocks keep the memory of the deltas that follow.
+        self.pending = Vec::new(self.alloc);
         Ok(())
     }
 
@@ -79,7 +80,7 @@ impl Joining {
 }
 
 impl Accumulator for Joining {
-    ghost takes = { λ first bytes now. (shape : Shape) → Knows shape [] first → Knows shape bytes now };
+    ghost takes = { λ first bytes now. (shape : Shape) → length bytes ≤ 2 ^ 32 → Knows shape [] first → Knows shape bytes now };
 
     fn add(&mut self, part: &[u8]) -> Result<(), AllocError> {
         if self.refused.is_some() {
@@ -89,7 +90,9 @@ impl Accumulator for Joining {
             Some((lines, rest)) => {
                 self.pending.extend_from_slice(lines)?;
                 self.join_pending()?;
-                self.pending.extend_from_slice(rest)?;
+                if self.refused.is_none() {
+                    self.pending.extend_from_slice(rest)?;
+                }
             }
             None => self.pending.extend_from_slice(part)?,
         }

@@ -3,7 +3,7 @@
 #![tactic(auto)]
 
 pub use engine::join_engine;
-pub use fault::{LineFault, Refusal};
+pub use fault::LineFault;
 
 mod engine;
 mod fault;

@@ -1,7 +1,7 @@
 -- Where the first line of some bytes ends, and what comes behind their last one.
 use Rattle.std.proofs.Common.{◌≡◌, ℕ, zero, suc, Bool, ◌+◌, ◌<◌, ◌≤◌, true, false, ◌==◌, List, [], ◌∷◌, ◌++◌, length, take, drop, slice_index, refl, ap, ◌∙◌, arith}
 use Rattle.std.proofs.lemmas.Bool.{false_from_ne_true}
-use Rattle.text_input.specs.Lines.{lines_of, onto_first}
+use Rattle.text_input.specs.Lines.{lines_of, onto_first, HasNoLf}
 
 -- the first LF stands at place k
 pub first_line : (bs : List ℕ) (k : ℕ) → k < length bs
@@ -78,3 +78,12 @@ bounded_onto b bs few = at (b == 10) refl
 pub lines_bounded : (bs : List ℕ) → length (lines_of bs) ≤ length bs
 lines_bounded [] = omega arith
 lines_bounded (b ∷ bs) = omega (arith, bounded_onto b bs (lines_bounded bs))
+
+-- bytes without an LF behind bytes without one
+pub no_lf_behind : (front back : List ℕ) → HasNoLf front → HasNoLf back → HasNoLf (front ++ back)
+no_lf_behind [] back none more = more
+no_lf_behind (b ∷ bs) back none more = onto (no_lf_behind bs back (λ j low. none (suc j) (omega (arith, low))) more)
+  where
+    onto : HasNoLf (bs ++ back) → HasNoLf ((b ∷ bs) ++ back)
+    onto rest zero within = none 0 (omega arith)
+    onto rest (suc i) within = rest i (omega (arith, within))

@@ -17,5 +17,5 @@ abbrev pub EndsLine : List ℕ → Type 0
 EndsLine bytes = (before : List ℕ) × (bytes ≡ before ++ 10 ∷ [])
 
 -- no byte is an LF
-abbrev pub IsUnended : List ℕ → Type 0
-IsUnended bytes = (i : ℕ) → i < length bytes → ¬ ((slice_index bytes i == 10) ≡ true)
+abbrev pub HasNoLf : List ℕ → Type 0
+HasNoLf bytes = (i : ℕ) → i < length bytes → ¬ ((slice_index bytes i == 10) ≡ true)

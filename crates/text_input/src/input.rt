@@ -1,4 +1,4 @@
-ghost use Rattle.std.specs.Prelude.{◌≡◌, ◌+◌, ◌^◌, ◌≤◌, ◌++◌, ℕ, List, [], length, IfOk};
+ghost use Rattle.std.specs.Prelude.{◌≡◌, ◌++◌, ℕ, List, [], IfOk};
 ghost use Rattle.text_input.specs.Input.{ReadsInput, ReadsInto, ReadsUpTo};
 
 use crate::{INPUT_LIMIT, Source};
@@ -53,17 +53,17 @@ pub trait Accumulator {
     /// It has come from the first state to the last by taking these bytes in.
     ghost takes: { Self → List ℕ → Self → Type 0 };
 
-    /// Takes the next part in, where that has room.
+    /// Takes the next part in, where that has room; where it has none, nothing is known of it any more.
     fn add(&mut self, part: &[u8]) -> Result<(), AllocError>
-        ensures { (first : Self) (before : List ℕ) → takes first before self.old → length before + length part.now ≤ 2 ^ 32 → IfOk result (λ _. takes first (before ++ part.now) self.new) };
+        ensures { (first : Self) (before : List ℕ) → takes first before self.old → IfOk result (λ _. takes first (before ++ part.now) self.new) };
 }
 
 // The bytes themselves.
-impl Accumulator for Input {
-    ghost takes = { λ first bytes now. now ≡ first ++ bytes };
+impl Accumulator for Vec<u8> {
+    ghost takes = { λ first bytes now. now.items ≡ first.items ++ bytes };
 
     fn add(&mut self, part: &[u8]) -> Result<(), AllocError> {
-        self.bytes.extend_from_slice(part)
+        self.extend_from_slice(part)
     }
 }
 
@@ -82,11 +82,9 @@ pub fn read_up_to<R: Read>(
 ) -> Result<Input, InputError>
     ensures { ReadsUpTo limit source.old source.new result }
 {
-    let mut input = Input {
-        bytes: Vec::new(alloc),
-    };
-    match read_into(source, limit, &mut input) {
-        Ok(()) => Ok(input),
+    let mut bytes = Vec::new(alloc);
+    match read_into(source, limit, &mut bytes) {
+        Ok(()) => Ok(Input { bytes }),
         Err(error) => Err(error),
     }
 }

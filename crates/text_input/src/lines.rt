@@ -1,5 +1,5 @@
 ghost use Rattle.std.specs.Prelude.{◌≡◌, ◌<◌, ◌∷◌, ◌++◌, length, MatchOption};
-ghost use Rattle.text_input.specs.Lines.{lines_of, EndsLine, IsUnended};
+ghost use Rattle.text_input.specs.Lines.{lines_of, EndsLine, HasNoLf};
 
 use memchr::{memchr, memrchr};
 
@@ -18,7 +18,7 @@ pub fn cut_line(bytes: &[u8]) -> (&[u8], &[u8])
 /// The whole lines of bytes, with their LFs, and what follows the last of them; nothing where there is no LF. Linear in
 /// what follows.
 pub fn cut_whole_lines(bytes: &[u8]) -> Option<(&[u8], &[u8])>
-    ensures { MatchOption result (IsUnended bytes.now) (λ it. (bytes.now ≡ it.0.now ++ it.1.now) × EndsLine it.0.now × IsUnended it.1.now) }
+    ensures { MatchOption result (HasNoLf bytes.now) (λ it. (bytes.now ≡ it.0.now ++ it.1.now) × EndsLine it.0.now × HasNoLf it.1.now) }
 {
     match memrchr(b'\n', bytes) {
         Some(end) => Some((&bytes[..=end], &bytes[end + 1..])),
