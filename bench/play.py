@@ -2,8 +2,9 @@
 """Measures `play` on three scripts, on the whole and on half of each, beside `join` on lines of 8 rows.
 
 Run it from anywhere, once ./seat_cli has built the program: python3 bench/play.py [FOLDER]
-FOLDER keeps the inputs; without it they lie in a temporary folder, which is removed. Each time is the least of
-three runs, the memory the greatest. The share is the time beside that of `join`, measured in the same run.
+FOLDER keeps the inputs; without it they lie in a temporary folder, which is removed. All runs are on one core. Each
+time is the least of three runs; memory is told by GNU time. The share is the time beside that of `join`, measured in
+the same run.
 """
 import os
 import random
@@ -91,7 +92,7 @@ def half(number, lines):
 def measure(keep):
     subprocess.run([sys.executable, __file__, "--make", keep], check=True)
     print(f"{os.cpu_count()} cores of {join.processor()}, {time.strftime('%Y-%m-%d')}")
-    print(f"times: the least of {join.RUNS} runs; memory: the greatest")
+    print(f"times: the least of {join.RUNS} runs on one core")
     base, _ = join.measured([join.PROGRAM, "join", "--layout", f"{keep}/join.toml"], f"{keep}/join")
     print(f"join of lines of 8 rows: {base:.3f} s")
     head = ("MB", "CPU s", "half s", "ratio", "peak MB", "of join")

@@ -4,7 +4,8 @@ through Python's own `sqlite3`.
 
 Run it from anywhere, once ./seat_cli has built the program: python3 bench/site.py [FOLDER]
 FOLDER keeps the inputs and stores; without it they lie in a temporary folder, which is removed. A store is made new for
-each run. Each time is the least of three runs, the memory the greatest. At the end the tables of both are compared.
+each run. All runs are on one core. Each time is the least of three runs, the memory, told by GNU time, the greatest. At
+the end the tables of both are compared.
 """
 import os
 import random
@@ -157,14 +158,15 @@ def measured(words, source, output, store):
                 os.remove(name)
         with open(source, "rb") as lines, open(output, "wb") as sink:
             began = time.monotonic()
-            child = subprocess.Popen(words, stdin=lines, stdout=sink)
+            child = subprocess.Popen(["time", "-f", "%M", "-o", f"{store}-peak", *words], stdin=lines, stdout=sink)
             _, status, used = os.wait4(child.pid, 0)
             wall = min(wall, time.monotonic() - began)
             child.returncode = os.waitstatus_to_exitcode(status)
         if child.returncode:
             sys.exit(f"{words}: status {child.returncode}")
         seconds = min(seconds, used.ru_utime + used.ru_stime)
-        peak = max(peak, used.ru_maxrss / 1024)
+        with open(f"{store}-peak", encoding="ascii") as told:
+            peak = max(peak, int(told.read()) / 1024)
     return wall, seconds, peak
 
 
@@ -181,7 +183,7 @@ def content(store):
 def measure(keep):
     subprocess.run([sys.executable, __file__, "--make", keep], check=True)
     print(f"{os.cpu_count()} cores of {join.processor()}, SQLite {sqlite3.sqlite_version}, {time.strftime('%Y-%m-%d')}")
-    print(f"times: the least of {join.RUNS} runs; memory: the greatest")
+    print(f"times: the least of {join.RUNS} runs on one core; memory: the greatest")
     print(f"{'program':<25}" + "".join(f"{it:>10}" for it in ("calls", "wall s", "CPU s", "peak MB")))
     for part, calls in (("whole", CALLS), ("half", CALLS // 2)):
         own, other = f"{keep}/{part}.db", f"{keep}/{part}_python.db"

@@ -1,5 +1,5 @@
 -- What a caller of a site holds: its receipts, and whether it was told that the site has stopped or that its log is full.
-use Rattle.std.specs.Prelude.{ℕ, ◌+◌, ◌==◌, ◌||◌, Bool, true, false, List, [], ◌∷◌, ◌++◌, length, if◌then◌else◌}
+use Rattle.std.specs.Prelude.{◌≡◌, ◌≢◌, ℕ, zero, suc, ◌+◌, ◌==◌, ◌||◌, Bool, true, false, List, [], ◌∷◌, ◌++◌, length, if◌then◌else◌}
 use Rattle.admission_model.specs.declared.ask.Call.{Call}
 use Rattle.admission_model.specs.declared.reply.Refusal.TheVariants.{Frozen, LogFull}
 use Rattle.admission_model.specs.declared.reply.Reply.{Reply}
@@ -43,6 +43,13 @@ abbrev pub receipts_of : ℕ → List Entry → List Receipt
 receipts_of n [] = []
 receipts_of n (e ∷ es) =
     if e.pass == n then (record { call = e.call; reply = e.reply } ∷ receipts_of n es) else receipts_of n es
+
+-- two lists of receipts are alike before this place and no further; where the second ends, it is the place behind its last
+abbrev pub IsFirstOther : List Receipt → List Receipt → ℕ → Type 0
+IsFirstOther qs [] at = at ≡ 0
+IsFirstOther [] (r ∷ rs) at = at ≡ 0
+IsFirstOther (q ∷ qs) (r ∷ rs) zero = q ≢ r
+IsFirstOther (q ∷ qs) (r ∷ rs) (suc at) = (q ≡ r) × IsFirstOther qs rs at
 
 -- how many receipts passes have together
 abbrev pub receipts_in : List PassState → ℕ

@@ -15,7 +15,7 @@ use Rattle.desk_log.specs.Log.{begun, account_after, account_tried, ends_in_faul
 use Rattle.desk_log.specs.Desk.{DeskState, first_account, account_of, account_if_kept, is_frozen, AreGood, IsMadeFor, KeepsOn, Finds, Leaves, IsNoBegin}
 use Rattle.session_book.specs.declared.error.CloseError.{CloseError}
 use Rattle.session_book.specs.declared.error.CloseError.TheVariants.{PassMissing, Mismatch, Memory}
-use Rattle.session_book.specs.Passes.{PassState, new_pass, receipts_of, receipts_in}
+use Rattle.session_book.specs.Passes.{PassState, new_pass, receipts_of, receipts_in, IsFirstOther}
 
 -- what a site was opened with: layout, number, durable part, places of the log and number of passes
 pub record SiteState : Type 0 where
@@ -97,14 +97,16 @@ pub record BearsOut (limit : ℕ) (entries : List Entry) (p : PassState) : Type 
   pub frozen : p.frozen ≡ true → ends_in_fault false entries ≡ true
   pub log_full : p.log_full ≡ true → length entries ≡ limit
 
--- among these passes is one with this number that a log does not bear out
-pub record IsAstray (limit : ℕ) (entries : List Entry) (ps : List PassState) (number : ℕ) : Type 0 where
+-- Among these passes is one with this number that a log does not bear out, and its receipts are the log's before this
+-- place and no further: all of them, where one is lacking or a mark is not borne out.
+pub record IsAstray (limit : ℕ) (entries : List Entry) (ps : List PassState) (number at : ℕ) : Type 0 where
   pub pass : PassState
   pub place : ℕ
   pub within : place < length ps
   pub there : pass ≡ slice_index_or ps place pass
   pub numbered : pass.number ≡ number
   pub astray : ¬ BearsOut limit entries pass
+  pub first : IsFirstOther (receipts_of number entries) pass.receipts at
 
 module _ {K : Type 0} where
   -- a desk is that of an opening

@@ -3,7 +3,7 @@ ghost use Rattle.std.specs.Prelude.{◌≡◌, ◌≢◌, ℕ, List, ◌+◌, �
 ghost use Rattle.desk_log.specs.Log.{ends_in_fault};
 ghost use Rattle.desk_log.specs.declared.entry.Entry.{Entry as EntryThere};
 ghost use Rattle.session_book.specs.declared.error.CloseError.TheVariants.{PassMissing, Mismatch};
-ghost use Rattle.session_book.specs.Passes.{receipts_of, receipts_in};
+ghost use Rattle.session_book.specs.Passes.{receipts_of, receipts_in, IsFirstOther};
 ghost use Rattle.session_book.specs.Sites.{AreAll, BearsOut, has_number, IsAstray, IsSameOpening};
 
 use crate::error::CloseError;
@@ -53,7 +53,7 @@ pub(crate) fn checked<K: Keeper, L: Ledger>(
     ensures room { IfOk result (λ runs. (runs.items ≡ []) × (1 ≤ vec_capacity runs)) }
     ensures all_there { IfErr result (λ e. e ≢ PassMissing) }
     ensures astray { IfErr result (λ e. (pass at : ℕ) → e ≡ Mismatch pass at → IsSameOpening desk.now layout.now site first.now limit
-        → IsAstray limit desk.now.log.entries passes.now pass) }
+        → IsAstray limit desk.now.log.entries passes.now pass at) }
 {
     if !is_same_opening(desk, layout, site, first, limit) {
         return Err(CloseError::Mismatch { pass: 0, at: 0 });
@@ -91,7 +91,8 @@ fn is_same_opening<K: Keeper>(
 // The first receipt of a pass that a log does not bear out, or the number of its receipts, where that is a mark.
 fn astray<L: Ledger>(entries: &[Entry], frozen: bool, limit: usize, pass: &Pass<L>) -> Option<usize>
     requires { frozen ≡ ends_in_fault false entries.now }
-    ensures { (result ≡ None) ↔ BearsOut limit entries.now pass.now }
+    ensures none { (result ≡ None) ↔ BearsOut limit entries.now pass.now }
+    ensures first { IfSome result (λ at. IsFirstOther (receipts_of pass.now.number entries.now) pass.now.receipts at) }
 {
     if let Some(at) = first_other(entries, pass.number(), pass.receipts()) {
         return Some(at);
@@ -107,7 +108,8 @@ fn astray<L: Ledger>(entries: &[Entry], frozen: bool, limit: usize, pass: &Pass<
 
 // The first receipt that is not the log's, of the pass with this number.
 fn first_other(entries: &[Entry], number: u16, receipts: &[Receipt]) -> Option<usize>
-    ensures { (result ≡ None) ↔ (receipts_of number entries.now ≡ receipts.now) }
+    ensures none { (result ≡ None) ↔ (receipts_of number entries.now ≡ receipts.now) }
+    ensures first { IfSome result (λ at. IsFirstOther (receipts_of number entries.now) receipts.now at) }
 {
     let mut next = 0;
     'entries: for i in 0..entries.len() {
@@ -128,6 +130,7 @@ fn followed(entry: &Entry, number: u16, receipts: &[Receipt], next: usize) -> Op
     ensures followed { IfSome result (λ after. (after ≤ length receipts.now)
         × (take after receipts.now ≡ take next receipts.now ++ receipts_of number (entry.now ∷ []))) }
     ensures other { result ≡ None → (rest : List EntryThere) → take next receipts.now ++ receipts_of number (entry.now ∷ rest) ≢ receipts.now }
+    ensures first { result ≡ None → (rest : List EntryThere) → IsFirstOther (take next receipts.now ++ receipts_of number (entry.now ∷ rest)) receipts.now next }
 {
     if entry.pass != number {
         return Some(next);
