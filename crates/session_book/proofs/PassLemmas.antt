@@ -41,9 +41,15 @@ other_receipts n i next es e rs below is so_far other same =
     other (drop (i + 1) es) (sym (whole_receipts n i next es e rs below is so_far) ∙ same)
 
 -- a list of receipts is alike up to its end
-pub alike_to_end : (rs : List Receipt) → IsFirstOther rs rs (length rs)
+alike_to_end : (rs : List Receipt) → IsFirstOther rs rs (length rs)
 alike_to_end [] = refl
 alike_to_end (r ∷ rs) = (refl, alike_to_end rs)
+
+-- a log that has the receipts of a pass, and no other
+pub all_alike : (qs rs ps : List Receipt) → qs ≡ rs → ps ≡ rs → IsFirstOther qs rs (length ps)
+all_alike qs rs ps same all =
+    subst (λ (xs : List Receipt). IsFirstOther xs rs (length ps)) (sym same)
+    (subst (λ (xs : List Receipt). IsFirstOther rs rs (length xs)) (sym all) (alike_to_end rs))
 
 -- the front of a list is alike as far as it goes
 pub front_first : (next : ℕ) (rs : List Receipt) → next ≤ length rs → IsFirstOther (take next rs) rs next
