@@ -54,7 +54,7 @@ impl Joining {
                 self.refused = Some(Refusal { number, fault });
             }
         }
-        // Given back whole: so allocators that learn from great blocks keep the memory of the deltas that follow.
+        // Given back, not emptied: an allocator that has had a great block back keeps the memory of the next deltas.
         self.pending = Vec::new(self.alloc);
         Ok(())
     }

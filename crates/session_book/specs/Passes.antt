@@ -44,7 +44,7 @@ receipts_of n [] = []
 receipts_of n (e ∷ es) =
     if e.pass == n then (record { call = e.call; reply = e.reply } ∷ receipts_of n es) else receipts_of n es
 
--- two lists of receipts are alike before this place and no further; where the second ends, it is the place behind its last
+-- two lists of receipts are alike before this place and no further: there a pair differs, or a list has ended
 abbrev pub IsFirstOther : List Receipt → List Receipt → ℕ → Type 0
 IsFirstOther qs [] at = at ≡ 0
 IsFirstOther [] (r ∷ rs) at = at ≡ 0
