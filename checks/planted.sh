@@ -1,0 +1,48 @@
+#!/usr/bin/env bash
+# Tries each planted wrong body by itself, in a copy of the crates: those of crates/NAME/must-fail/, which the gate tries
+# too, and those of crates/NAME/planted/, which it leaves out. A file several_bodies.edit holds a body behind each line
+# "# body: NAME". Prints each body that the prover did not refuse, and how many it refused.
+#
+#     checks/planted.sh [CRATE ..]
+#
+# Without arguments: all crates, which takes hours. What was tried before, and has not changed since, is not tried again.
+# The exit status is 1 where a body was not refused, could not be applied, or was not tried.
+set -eu
+cd "$(dirname "$0")/.."
+work=$(mktemp -d)
+trap 'rm -rf "$work"' EXIT
+
+mkdir "$work/crates" "$work/.git"
+cp crates.txt HANDLES "$work/"
+for crate in crates/*/; do
+    name=$(basename "$crate")
+    mkdir "$work/crates/$name"
+    for part in src specs proofs must-fail planted; do
+        [ -d "$crate$part" ] && cp -R "$crate$part" "$work/crates/$name/"
+    done
+done
+
+[ $# -gt 0 ] || set -- $(cd crates && ls -d */must-fail */planted 2>/dev/null | sed 's|/.*||' | sort -u)
+for name in "$@"; do
+    crate=$work/crates/$name
+    mkdir -p "$crate/must-fail"
+    if [ -d "$crate/planted" ]; then mv "$crate"/planted/*.edit "$crate/must-fail/"; fi
+    several=$crate/must-fail/several_bodies.edit
+    if [ -f "$several" ]; then
+        awk -v folder="$crate/must-fail" '/^# body: / { file = folder "/" $3 ".edit"; next } file { print > file }' "$several"
+        rm "$several"
+    fi
+done
+
+cd "$work"
+missed=0
+for name in "$@"; do
+    rt must-fail "$name" > "$work/log" 2>&1 || true
+    planted=$(ls "crates/$name/must-fail" | wc -l)
+    refused=$(grep -c 'must-fail .*: refused' "$work/log" || true)
+    echo "$name: $refused of $planted planted bodies refused"
+    grep 'must-fail .*: \(NOT REFUSED\|NOT TRIED\|BAD EDIT\)' "$work/log" || true
+    [ "$refused" = "$planted" ] || { missed=$((missed + planted - refused)); tail -n 3 "$work/log"; }
+done
+echo "planted bodies that were not refused: $missed"
+[ "$missed" = 0 ]
