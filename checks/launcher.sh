@@ -2,7 +2,7 @@
 # Tries the launcher, the README's commands, the examples and the built program, all in a fresh clone.
 #
 #   checks/launcher.sh           takes as long as a build from nothing, and some minutes more
-#   checks/launcher.sh --gate    runs the README's last command, rt ci, as well: half an hour more
+#   checks/launcher.sh --gate    runs the README's last command, rt ci, as well: an hour or two more
 #   checks/launcher.sh --quick   takes along what the checks of this folder kept, and so builds faster
 #
 # Prints a line for each thing tried, and ends with 0 where all of them went well.
@@ -45,7 +45,7 @@ plays() { # whether the script of the examples is answered as they say
 echo "building the program in $work/clone"
 plays
 tell $? "the README's first command builds the program and prints examples/maintenance.txt"
-[ "$(builds)" = 1 ] && [ "$(wc -l <"$work/errors")" = 1 ] && grep -q "7 GB" "$work/errors"
+[ "$(builds)" -le 2 ] && [ "$(wc -l <"$work/errors")" = 1 ] && grep -q "7 GB" "$work/errors"
 tell $? "the build is told in one line"
 checks/examples.sh >"$work/output" 2>&1 && [ "$(builds)" = 0 ]
 tell $? "every example prints what stands beside it, without a build"
@@ -72,7 +72,7 @@ tell $? "it runs where nothing can be written"
 chmod -R u+w "$work/clone"
 
 sleep 1
-touch README.md docs/*.md crates/*/must-fail/*.edit
+touch README.md docs/*.md crates/*/must-fail/*.edit crates/*/planted/*.edit
 ./seat_cli --version >/dev/null 2>&1 && [ "$(builds)" = 0 ]
 tell $? "a change of what the program does not stand on builds nothing"
 for source in crates/grow_counters/specs/Counts.antt crates/seat_cli/src/main.rt crates.txt; do

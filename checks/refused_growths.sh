@@ -1,13 +1,14 @@
 #!/usr/bin/env bash
-# Runs a crate's tests once for each of their allocations, with that one refused, until a run meets no refusal.
+# Runs tests of a crate of tests once for each of their allocations, with that one refused, until a run meets no refusal.
 # The tests are those whose names hold a word; they have to pass whatever is refused.
 #
 #     checks/refused_growths.sh [CRATE [WORD]]
 #
-# Without arguments: the tests of admission_core on calls that find no memory. Needs gcc.
+# Without arguments: the tests of site_tests on calls that find no memory. Of serving_tests, session_tests and
+# store_tests the tests with the same word are such tests too. Needs gcc.
 set -eu
 . "$(dirname "$0")/refusing.sh"
-crate=${1:-admission_core}
+crate=${1:-site_tests}
 word=${2:-growths}
 tests=crates/$crate/out/${crate}_tests
 

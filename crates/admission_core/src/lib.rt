@@ -17,5 +17,3 @@ mod prepared;
 mod restoring;
 mod site_core;
 mod starts;
-#[cfg(test)]
-mod tests;

@@ -13,5 +13,3 @@ mod durable;
 pub mod laws;
 mod operation;
 mod reply;
-#[cfg(test)]
-mod tests;

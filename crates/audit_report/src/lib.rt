@@ -8,5 +8,3 @@ mod lines;
 mod rows;
 mod sessions;
 mod tables;
-#[cfg(test)]
-mod tests;

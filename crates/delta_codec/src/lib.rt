@@ -13,6 +13,4 @@ mod fault;
 pub mod laws;
 mod reading;
 mod rows;
-#[cfg(test)]
-mod tests;
 mod writing;

@@ -4,5 +4,3 @@
 pub use counts::{COUNTER_LIMIT, CounterError, Counts};
 
 mod counts;
-#[cfg(test)]
-mod tests;

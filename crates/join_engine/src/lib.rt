@@ -10,5 +10,3 @@ mod fault;
 mod joining;
 pub mod laws;
 mod lines;
-#[cfg(test)]
-mod tests;

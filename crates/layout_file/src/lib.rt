@@ -6,5 +6,3 @@ pub use reading::{LAYOUT_LIMIT, built_in, read_layout, read_layout_file};
 
 mod fault;
 mod reading;
-#[cfg(test)]
-mod tests;

@@ -10,9 +10,6 @@ use merge_core::{Layout, RecordSpec};
 use std::alloc::{AllocError, Global};
 use text_parts::{number_at, push_field};
 
-#[cfg(test)]
-mod tests;
-
 /// How a line compares with a layout, at one of its sites.
 #[derive(Clone, Copy, Debug, PartialEq, Eq)]
 pub enum Line {

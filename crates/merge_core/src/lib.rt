@@ -17,5 +17,3 @@ mod delta;
 pub mod laws;
 mod layout;
 mod record;
-#[cfg(test)]
-mod tests;

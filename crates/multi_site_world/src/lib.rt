@@ -9,6 +9,4 @@ pub use world::{World, run_grown, run_world};
 mod event;
 mod growth;
 pub mod laws;
-#[cfg(test)]
-mod tests;
 mod world;

@@ -4,5 +4,3 @@
 pub use scripts::play_engine;
 
 mod scripts;
-#[cfg(test)]
-mod tests;

@@ -6,5 +6,3 @@ pub use shell::{run, run_with};
 
 mod shell;
 mod standard_error;
-#[cfg(test)]
-mod tests;

@@ -7,5 +7,3 @@ pub use rights::{MOST_SITES, Rights};
 mod faults;
 mod grid;
 mod rights;
-#[cfg(test)]
-mod tests;

@@ -8,6 +8,4 @@ pub use words::{cut_word, number_word, record_word, short_word};
 mod asks;
 pub mod laws;
 mod replies;
-#[cfg(test)]
-mod tests;
 mod words;

@@ -7,5 +7,3 @@ pub use seats::SeatRow;
 mod balances;
 mod faults;
 mod seats;
-#[cfg(test)]
-mod tests;

@@ -14,5 +14,3 @@ mod locked;
 mod opening;
 mod pass;
 mod site;
-#[cfg(test)]
-mod tests;

@@ -6,5 +6,3 @@ pub use sessions::Sessions;
 
 mod session;
 mod sessions;
-#[cfg(test)]
-mod tests;

@@ -5,5 +5,3 @@
 pub use sites::site_engine;
 
 mod sites;
-#[cfg(test)]
-mod tests;

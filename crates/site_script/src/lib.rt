@@ -7,5 +7,3 @@ pub use serving::{Served, serve_script};
 pub mod laws;
 mod lines;
 mod serving;
-#[cfg(test)]
-mod tests;

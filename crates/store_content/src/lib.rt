@@ -12,5 +12,3 @@ mod durable;
 mod index;
 mod laws;
 mod rows;
-#[cfg(test)]
-mod tests;

@@ -1,9 +1,8 @@
-//! Databases that tests begin with: in memory, on files, and with the tables of a store as they are documented.
+//! Databases that tests begin with: in memory, on files that stop, and with the tables of a store as they are documented.
 use merge_core::{Layout, RecordName, RecordSpec};
 use sqlite::{Alter, Connection, FileStore, Files, MemStore, Options};
-use sqlite_disk::Crash;
+use sqlite_disk::{Crash, Fuse, Memory};
 use std::alloc::Global;
-use store_tables::Tables;
 
 /// The line of the layout of two sites with record `a` of two seats at site 0.
 pub const LAYOUT: &str = "2;a,2,0,1";
@@ -25,24 +24,43 @@ UPDATE meta SET value = '2' WHERE name = 'version';";
 /// What counts one seat of record `a` as taken.
 pub const COUNTER: &str = "INSERT INTO cells VALUES (0, 200, 1)";
 
-/// Record `a` of so many seats at site 0, at so many sites.
+/// Record `a` of so many seats at site 0.
+fn record(alloc: Global, seats: u32) -> Option<RecordSpec> {
+    let name = String::from_str(alloc, "a").ok()?;
+    Some(RecordSpec {
+        name: RecordName::from_string(name),
+        seats,
+        home: 0,
+        problem: 1,
+    })
+}
+
+/// The layout of so many sites with this record alone.
 pub fn layout(alloc: Global, sites: u16, seats: u32) -> Option<Layout> {
-    let name = RecordName::from_string(String::from_str(alloc, "a").ok()?);
     let mut records = Vec::new(alloc);
-    records
-        .push(RecordSpec {
-            name,
-            seats,
-            home: 0,
-            problem: 1,
-        })
-        .ok()?;
+    records.push(record(alloc, seats)?).ok()?;
     Layout::new(sites, records).ok()
 }
 
 /// A new database in memory.
 pub fn in_memory(alloc: Global) -> Option<Connection<MemStore>> {
     Connection::open_in_memory(alloc).ok()
+}
+
+/// Empty files.
+pub fn empty_files(alloc: Global) -> Files<Memory> {
+    Files {
+        log: Memory::new(alloc),
+        db: Memory::new(alloc),
+    }
+}
+
+/// Files of which each stops after so many calls.
+pub fn fused(files: Files<Memory>, log: u64, db: u64) -> Files<Fuse<Memory>> {
+    Files {
+        log: Fuse::new(files.log, log),
+        db: Fuse::new(files.db, db),
+    }
 }
 
 /// A database on files, or the files where they do not open.
@@ -59,15 +77,43 @@ pub fn opened<D: Crash + Drop>(
     }
 }
 
+/// The files as a crash leaves them.
+pub fn crashed<D: Crash + Drop>(files: Files<D>) -> Files<D> {
+    let mut left = files;
+    left.log.crash();
+    left.db.crash();
+    left
+}
+
+/// The files of a database, which are not closed in order.
+pub fn files_of<D: Crash + Drop>(connection: Connection<FileStore<D>>) -> Files<D> {
+    connection.into_store().close()
+}
+
 /// Whether a database takes these statements.
 pub fn run<S: Alter>(connection: &mut Connection<S>, texts: &str) -> bool {
     connection.execute_batch(texts).is_ok()
 }
 
-/// The tables over a connection that has no transaction open.
-pub fn idle<S: Alter + Drop>(connection: Connection<S>) -> Option<Tables<S>> {
-    if !connection.is_autocommit() {
-        return None;
+/// Whether it takes all of these.
+pub fn run_all<S: Alter>(connection: &mut Connection<S>, texts: &[&str]) -> bool {
+    for text in texts {
+        if !run(connection, text) {
+            return false;
+        }
     }
-    Some(Tables::over(connection))
+    true
+}
+
+/// A database after all of these.
+pub fn after_texts<S: Alter + Drop>(
+    connection: Connection<S>,
+    texts: &[&str],
+) -> Option<Connection<S>> {
+    let mut connection = connection;
+    if run_all(&mut connection, texts) {
+        Some(connection)
+    } else {
+        None
+    }
 }

@@ -1,15 +1,15 @@
-//! Desks of one site, and what they keep as a list of numbers.
+//! Desks of site 0, what they answer to calls in turn, and what their keepers hold then.
 use crate::databases::layout;
 use admission_core::{Ask, Call, Durable, DurableCell, Phase, Refusal, Reply, Session};
 use desk_log::Desk;
-use site_store::{Keeper, MemoryKeeper, OpenError, SqlKeeper};
+use site_store::{Keeper, KeeperError, MemoryKeeper, SqlKeeper};
 use sqlite::{Alter, Connection};
 use std::alloc::Global;
 
 /// The fewest entries that a log may have places for.
-pub const PLACES: usize = 16;
+const PLACES: usize = 16;
 
-/// A desk of site 0 of two over a new keeper in memory.
+/// A desk of two sites over a new keeper in memory.
 pub fn over_memory(alloc: Global) -> Option<Desk<MemoryKeeper>> {
     let layout = layout(alloc, 2, 2)?;
     let Ok(keeper) = MemoryKeeper::new(alloc, &layout, 0) else {
@@ -18,52 +18,60 @@ pub fn over_memory(alloc: Global) -> Option<Desk<MemoryKeeper>> {
     Desk::open(alloc, keeper, layout, 0, PLACES).ok()
 }
 
-/// The keeper of site 0 over a connection, or why there is none.
-pub fn keeper_over<S: Alter + Drop>(
-    alloc: Global,
-    connection: Connection<S>,
-    sites: u16,
-) -> Option<Result<SqlKeeper<S>, (OpenError, Connection<S>)>> {
-    let layout = layout(alloc, sites, 2)?;
-    if !connection.is_autocommit() {
-        return None;
-    }
-    Some(SqlKeeper::open(alloc, connection, &layout, 0))
-}
-
-/// A desk of site 0 over a connection, at so many sites.
+/// A desk over a connection, at so many sites, or the connection where there is none.
 pub fn over<S: Alter + Drop>(
     alloc: Global,
     connection: Connection<S>,
     sites: u16,
-) -> Option<Desk<SqlKeeper<S>>> {
-    let layout = layout(alloc, sites, 2)?;
-    if !connection.is_autocommit() {
-        return None;
-    }
-    let Ok(keeper) = SqlKeeper::open(alloc, connection, &layout, 0) else {
-        return None;
+) -> Result<Desk<SqlKeeper<S>>, Connection<S>> {
+    let Some(layout) = layout(alloc, sites, 2) else {
+        return Err(connection);
     };
-    Desk::open(alloc, keeper, layout, 0, PLACES).ok()
+    if !connection.is_autocommit() {
+        return Err(connection);
+    }
+    match SqlKeeper::open(alloc, connection, &layout, 0) {
+        Ok(keeper) => match Desk::open(alloc, keeper, layout, 0, PLACES) {
+            Ok(desk) => Ok(desk),
+            Err((_, keeper)) => Err(keeper.into_connection()),
+        },
+        Err((_, back)) => Err(back),
+    }
 }
 
-/// A reader's call at record `a`.
-pub fn read(h: u64) -> Call {
-    Call::Ask(Ask::Read { r: 0, h })
+/// Calls at record `a`: readers enter, the first leaves, and a seat is given to site 1.
+pub const READ_7: Ask = Ask::Read { r: 0, h: 7 };
+
+pub const READ_8: Ask = Ask::Read { r: 0, h: 8 };
+
+pub const LEAVE_7: Ask = Ask::Leave { r: 0, h: 7 };
+
+pub const GIVE: Ask = Ask::Give {
+    r: 0,
+    to: 1,
+    seats: 1,
+};
+
+/// The counter of record `a` at a slot.
+macro_rules! cell {
+    ($slot:expr, $value:expr) => {
+        DurableCell {
+            r: 0,
+            slot: $slot,
+            value: $value,
+        }
+    };
 }
 
-/// The call with which a holder leaves record `a`.
-pub fn leave(h: u64) -> Call {
-    Call::Ask(Ask::Leave { r: 0, h })
-}
-
-/// The call with which a site gives a seat of record `a` to site 1.
-pub fn give() -> Call {
-    Call::Ask(Ask::Give {
-        r: 0,
-        to: 1,
-        seats: 1,
-    })
+/// A reader of record `a`.
+macro_rules! reader {
+    ($h:expr) => {
+        Session {
+            r: 0,
+            h: $h,
+            phase: Phase::Reader,
+        }
+    };
 }
 
 /// A reply, as far as these stories tell them apart.
@@ -82,8 +90,7 @@ pub enum Told {
     Other,
 }
 
-/// What a reply tells.
-pub fn told_by(reply: &Reply) -> Told {
+fn told_by(reply: &Reply) -> Told {
     match reply {
         Reply::Admitted => Told::Admitted,
         Reply::Left(_) => Told::Left,
@@ -100,25 +107,100 @@ pub fn told_by(reply: &Reply) -> Told {
 }
 
 /// What a desk answers to a call of pass 0.
-pub fn ask<K: Keeper>(desk: &mut Desk<K>, call: Call) -> Told {
-    told_by(&desk.serve(0, &call))
+pub fn ask<K: Keeper>(desk: &mut Desk<K>, ask: Ask) -> Told {
+    told_by(&desk.serve(0, &Call::Ask(ask)))
 }
 
-/// The counter of record `a` at a slot.
-pub fn cell(slot: u16, value: u64) -> DurableCell {
-    DurableCell { r: 0, slot, value }
+/// How many calls a desk answers as it is to, and its first other answer.
+pub fn answered<K: Keeper>(desk: &mut Desk<K>, calls: &[(Ask, Told)]) -> (usize, Option<Told>) {
+    let mut right = 0usize;
+    for (call, wanted) in calls {
+        let told = ask(desk, *call);
+        if told != *wanted {
+            return (right, Some(told));
+        }
+        right = right.saturating_add(1);
+    }
+    (right, None)
 }
 
-/// A reader of record `a`.
-pub fn reader(h: u64) -> Session {
-    Session {
-        r: 0,
-        h,
-        phase: Phase::Reader,
+/// Counters and sessions of a durable part.
+#[derive(Clone, Copy)]
+pub struct Part {
+    pub cells: &'static [DurableCell],
+    pub sessions: &'static [Session],
+}
+
+pub const NOTHING: Part = Part {
+    cells: &[],
+    sessions: &[],
+};
+
+/// A reader has entered.
+pub const ONE_READER: Part = Part {
+    cells: &[cell!(200, 1)],
+    sessions: &[reader!(7)],
+};
+
+/// Another has entered behind it.
+pub const TWO_READERS: Part = Part {
+    cells: &[cell!(200, 2)],
+    sessions: &[reader!(7), reader!(8)],
+};
+
+/// The first has left.
+pub const ONE_LEFT: Part = Part {
+    cells: &[cell!(0, 3), cell!(200, 2)],
+    sessions: &[reader!(8)],
+};
+
+/// It has come back.
+pub const ONE_BACK: Part = Part {
+    cells: &[cell!(0, 3), cell!(200, 3)],
+    sessions: &[reader!(8), reader!(7)],
+};
+
+pub fn is_part(durable: &Durable, part: Part) -> bool {
+    durable.cells() == part.cells && durable.sessions() == part.sessions
+}
+
+/// Whether a keeper holds this; or whether its store has failed, where it is to hold nothing that can be read.
+fn holds<K: Keeper>(alloc: Global, keeper: &mut K, part: Option<Part>) -> bool {
+    match (keeper.load(alloc), part) {
+        (Ok(durable), Some(part)) => is_part(&durable, part) && keeper.faults() == 0,
+        (Err(KeeperError::StoreFault), None) => keeper.faults() == 1,
+        _ => false,
     }
 }
 
-/// Whether a durable part is this one.
-pub fn is_part(durable: &Durable, cells: &[DurableCell], sessions: &[Session]) -> bool {
-    durable.cells() == cells && durable.sessions() == sessions
+/// A desk from its opening to its end: the number of sites, what it begins with, its calls and their replies, and what
+/// its keeper holds then; `None` where the store has failed.
+#[derive(Clone, Copy)]
+pub struct Shift {
+    pub sites: u16,
+    pub first: Part,
+    pub calls: &'static [(Ask, Told)],
+    pub left: Option<Part>,
+}
+
+/// A reader enters.
+pub const ENTERS: Shift = Shift {
+    sites: 2,
+    first: NOTHING,
+    calls: &[(READ_7, Told::Admitted)],
+    left: Some(ONE_READER),
+};
+
+/// The keeper of a desk after a shift, if that goes as it is told.
+pub fn serves<K: Keeper + Drop>(alloc: Global, desk: Desk<K>, shift: Shift) -> Option<K> {
+    let mut desk = desk;
+    if !is_part(desk.first(), shift.first) || answered(&mut desk, shift.calls).1.is_some() {
+        return None;
+    }
+    let mut keeper = desk.into_keeper();
+    if holds(alloc, &mut keeper, shift.left) {
+        Some(keeper)
+    } else {
+        None
+    }
 }

@@ -1,19 +1,33 @@
 //! A desk over files that stop at each call in turn: what is found then is what was answered, or that and the one call in
 //! doubt.
-ghost use Rattle.desk_log.specs.Desk.{IsMadeFor};
-
-use crate::databases::{layout, opened};
-use crate::desks::{PLACES, Told, ask, cell, is_part, leave, over, read, reader};
-use admission_core::Durable;
+use crate::databases::{crashed, empty_files, files_of, fused, opened};
+use crate::desks::{
+    LEAVE_7, NOTHING, ONE_BACK, ONE_LEFT, ONE_READER, Part, READ_7, READ_8, TWO_READERS, Told,
+    answered, ask, is_part, over,
+};
+use admission_core::{Ask, Durable};
 use desk_log::Desk;
-use merge_core::Layout;
 use site_store::{Keeper, SqlKeeper};
-use sqlite::{Alter, Connection, Files};
-use sqlite_disk::{Crash, Fuse, Memory};
+use sqlite::{Alter, Connection, FileStore, Files};
+use sqlite_disk::Crash;
 use std::alloc::Global;
 
-/// How many calls the story has.
-const CALLS: usize = 4;
+/// A reader enters, another does, the first leaves and enters again.
+const STORY: [(Ask, Told); 4] = [
+    (READ_7, Told::Admitted),
+    (READ_8, Told::Admitted),
+    (LEAVE_7, Told::Left),
+    (READ_7, Told::Admitted),
+];
+
+/// What is kept after none of these calls, one, two and so on, and what the first reader's call is answered then.
+const KEPT: [(Part, Told); 5] = [
+    (NOTHING, Told::Admitted),
+    (ONE_READER, Told::AlreadyHere),
+    (TWO_READERS, Told::AlreadyHere),
+    (ONE_LEFT, Told::Admitted),
+    (ONE_BACK, Told::AlreadyHere),
+];
 
 /// What a run of the story was answered: how many calls were kept, and whether the next one is in doubt.
 #[derive(Clone, Copy, Debug, PartialEq, Eq)]
@@ -22,167 +36,144 @@ struct Answered {
     in_doubt: bool,
 }
 
-const NOTHING: Answered = Answered {
+const UNOPENED: Answered = Answered {
     kept: 0,
     in_doubt: false,
 };
 
-/// The number of calls after which a durable part is that of the story: a reader enters, another does, the first
-/// leaves and enters again.
-fn calls_kept(durable: &Durable) -> Option<usize> {
-    if is_part(durable, &[], &[]) {
-        Some(0)
-    } else if is_part(durable, &[cell(200, 1)], &[reader(7)]) {
-        Some(1)
-    } else if is_part(durable, &[cell(200, 2)], &[reader(7), reader(8)]) {
-        Some(2)
-    } else if is_part(durable, &[cell(0, 3), cell(200, 2)], &[reader(8)]) {
-        Some(3)
-    } else if is_part(
-        durable,
-        &[cell(0, 3), cell(200, 3)],
-        &[reader(8), reader(7)],
-    ) {
-        Some(4)
-    } else {
-        None
-    }
+/// Whether a desk is frozen, and says so.
+fn is_stopped<K: Keeper>(desk: &mut Desk<K>) -> bool {
+    ask(desk, Ask::Leave { r: 0, h: 9 }) == Told::Frozen && desk.is_frozen()
 }
 
 /// Plays the story at a desk, up to the first call that the store doesn't take; the desk has to be frozen then.
 fn play<K: Keeper>(desk: &mut Desk<K>) -> Option<Answered> {
-    let story = [
-        (read(7), Told::Admitted),
-        (read(8), Told::Admitted),
-        (leave(7), Told::Left),
-        (read(7), Told::Admitted),
-    ];
-    let mut kept = 0usize;
-    for (call, wanted) in story {
-        let told = ask(desk, call);
-        if told == Told::StoreFault {
-            let frozen = ask(desk, leave(9)) == Told::Frozen && desk.is_frozen();
-            return frozen.then_some(Answered {
-                kept,
-                in_doubt: true,
-            });
-        }
-        if told != wanted {
-            return None;
-        }
-        kept = kept.saturating_add(1);
+    let (kept, other) = answered(desk, &STORY);
+    let in_doubt = other.is_some();
+    if in_doubt && (other != Some(Told::StoreFault) || !is_stopped(desk)) {
+        return None;
     }
-    Some(Answered {
-        kept,
-        in_doubt: false,
-    })
+    Some(Answered { kept, in_doubt })
 }
 
-/// Opens a desk over a connection and plays the story, as far as that is opened, and hands the connection back.
-fn played<S: Alter + Drop>(
+/// What a desk is answered, and its connection.
+fn played<S: Alter + Drop>(desk: Desk<SqlKeeper<S>>) -> Option<(Answered, Connection<S>)> {
+    let mut desk = desk;
+    match play(&mut desk) {
+        Some(answered) => Some((answered, desk.into_keeper().into_connection())),
+        None => None,
+    }
+}
+
+/// The same over a connection, which a desk may not open on.
+fn played_over<S: Alter + Drop>(
     alloc: Global,
     connection: Connection<S>,
 ) -> Option<(Answered, Connection<S>)> {
-    let layout = layout(alloc, 2, 2)?;
-    if !connection.is_autocommit() {
-        return None;
+    match over(alloc, connection, 2) {
+        Ok(desk) => played(desk),
+        Err(back) => Some((UNOPENED, back)),
     }
-    match SqlKeeper::open(alloc, connection, &layout, 0) {
-        Ok(keeper) => {
-            let (answered, keeper) = played_by(alloc, keeper, layout)?;
-            Some((answered, keeper.into_connection()))
+}
+
+/// How many calls of the story a durable part holds, and what the first reader is answered then.
+fn calls_kept(durable: &Durable) -> Option<(usize, Told)> {
+    let mut calls = 0usize;
+    for (part, told) in KEPT {
+        if is_part(durable, part) {
+            return Some((calls, told));
         }
-        Err((_, back)) => Some((NOTHING, back)),
+        calls = calls.saturating_add(1);
+    }
+    None
+}
+
+/// How many calls of the story a desk finds, if it goes on as after these.
+fn goes_on<K: Keeper>(desk: &mut Desk<K>) -> Option<usize> {
+    let (calls, told) = calls_kept(desk.first())?;
+    (ask(desk, READ_7) == told).then_some(calls)
+}
+
+fn found_in<K: Keeper + Drop>(desk: Desk<K>) -> Option<usize> {
+    let mut desk = desk;
+    goes_on(&mut desk)
+}
+
+/// How many calls of the story are found in a database.
+fn found_over<S: Alter + Drop>(alloc: Global, connection: Connection<S>) -> Option<usize> {
+    match over(alloc, connection, 2) {
+        Ok(desk) => found_in(desk),
+        Err(_) => None,
     }
 }
 
-/// The same over a keeper, which is handed back.
-fn played_by<K: Keeper + Drop>(alloc: Global, keeper: K, layout: Layout) -> Option<(Answered, K)>
-    requires { IsMadeFor K.Keeper keeper layout 0 }
-{
-    match Desk::open(alloc, keeper, layout, 0, PLACES) {
-        Ok(mut desk) => {
-            let answered = play(&mut desk)?;
-            Some((answered, desk.into_keeper()))
-        }
-        Err((_, keeper)) => Some((NOTHING, keeper)),
-    }
-}
+// What speaks of files hands a database on at once: it is dear to prove here.
 
-/// Empty files of which each stops after so many calls.
-fn fused(alloc: Global, log: u64, db: u64) -> Files<Fuse<Memory>> {
-    Files {
-        log: Fuse::new(Memory::new(alloc), log),
-        db: Fuse::new(Memory::new(alloc), db),
-    }
-}
-
-/// What a run was answered over files, and what it left of them.
-fn run_over<D: Crash + Drop>(alloc: Global, files: Files<D>) -> Option<(Answered, Files<D>)> {
-    match opened(alloc, files) {
-        Err(left) => Some((NOTHING, left)),
-        Ok(connection) => {
-            let (answered, back) = played(alloc, connection)?;
-            Some((answered, back.into_store().close()))
-        }
-    }
-}
-
-/// The same, with the files as a crash leaves them.
-fn stopped<D: Crash + Drop>(alloc: Global, files: Files<D>) -> Option<(Answered, Files<D>)> {
-    let (answered, mut left) = run_over(alloc, files)?;
-    left.log.crash();
-    left.db.crash();
-    Some((answered, left))
-}
-
-/// How many calls of the story are found in files after a crash, and whether a desk over them goes on as after these.
+/// How many calls of the story are found in files.
 fn found<D: Crash + Drop>(alloc: Global, files: Files<D>) -> Option<usize> {
-    let connection = opened(alloc, files).ok()?;
-    let mut desk = over(alloc, connection, 2)?;
-    let kept = calls_kept(desk.first())?;
-    let wanted = if kept == 1 || kept == 2 || kept == 4 {
-        Told::AlreadyHere
-    } else {
-        Told::Admitted
-    };
-    (ask(&mut desk, read(7)) == wanted).then_some(kept)
+    match opened(alloc, files) {
+        Ok(connection) => found_over(alloc, connection),
+        Err(_) => None,
+    }
 }
 
-/// At how many calls of both files the story was stopped until it ran to its end, if each stop left what was answered,
-/// or that and the call in doubt.
-fn stops(alloc: Global) -> Option<u64> {
-    let mut count = 0u64;
-    let mut of_log = true;
-    let mut calls = 0u64;
-    'stops: for _ in 0..600u64 {
+/// What is answered over a database, and its files.
+fn played_on<D: Crash + Drop>(
+    alloc: Global,
+    connection: Connection<FileStore<D>>,
+) -> Option<(Answered, Files<D>)> {
+    match played_over(alloc, connection) {
+        Some((answered, connection)) => Some((answered, files_of(connection))),
+        None => None,
+    }
+}
+
+/// What is answered over files, which may not open, and how many calls are found once they have crashed.
+fn stopped_on<D: Crash + Drop>(alloc: Global, files: Files<D>) -> Option<(Answered, usize)> {
+    let (answered, left) = match opened(alloc, files) {
+        Ok(connection) => played_on(alloc, connection)?,
+        Err(left) => (UNOPENED, left),
+    };
+    Some((answered, found(alloc, crashed(left))?))
+}
+
+/// The same over empty files of which each stops after so many calls.
+fn stopped(alloc: Global, log: u64, db: u64) -> Option<(Answered, usize)> {
+    stopped_on(alloc, fused(empty_files(alloc), log, db))
+}
+
+fn is_kept(answered: Answered, found: usize) -> bool {
+    found == answered.kept || (answered.in_doubt && found == answered.kept.saturating_add(1))
+}
+
+/// At how many calls of one file the story was stopped until it ran to its end, if each stop left what was answered, or
+/// that and the call in doubt.
+fn stops(alloc: Global, of_log: bool) -> Option<u64> {
+    for calls in 0..600u64 {
         let (log, db) = if of_log {
             (calls, 10000)
         } else {
             (10000, calls)
         };
-        let (answered, files) = stopped(alloc, fused(alloc, log, db))?;
-        let kept = found(alloc, files)?;
-        if kept != answered.kept
-            && !(answered.in_doubt && kept == answered.kept.saturating_add(1))
-        {
+        let (answered, found) = stopped(alloc, log, db)?;
+        if !is_kept(answered, found) {
             return None;
         }
-        if answered.kept < CALLS {
-            count = count.saturating_add(1);
-            calls = calls.saturating_add(1);
-        } else if of_log {
-            of_log = false;
-            calls = 0;
-        } else {
-            return Some(count);
+        if answered.kept == STORY.len() {
+            return Some(calls);
         }
     }
     None
 }
 
+/// The same of both files.
+fn all_stops(alloc: Global) -> Option<u64> {
+    let of_log = stops(alloc, true)?;
+    Some(of_log.saturating_add(stops(alloc, false)?))
+}
+
 #[test]
 fn a_desk_is_found_again_after_each_stop(rt: HostRuntime) {
-    let count = stops(rt.alloc()).unwrap_or(0);
+    let count = all_stops(rt.alloc()).unwrap_or(0);
     assert!(rt; count >= 20);
 }

@@ -1,7 +1,8 @@
 //! Want of memory at each call of a keeper and a desk. These tests pass with ample memory and with any one allocation
 //! refused: what then finds no memory has changed nothing.
 use crate::databases::in_memory;
-use crate::desks::{Told, ask, cell, is_part, keeper_over, over, over_memory, read, reader};
+use crate::desks::{ENTERS, NOTHING, ONE_READER, READ_7, Told, ask, is_part, over, over_memory};
+use crate::stores::{At, HERE, Opened, opened_at, serves_over};
 use admission_core::Durable;
 use desk_log::Desk;
 use site_store::{Keeper, KeeperError, OpenError};
@@ -17,68 +18,96 @@ fn kept<K: Keeper>(alloc: Global, keeper: &mut K) -> Option<Durable> {
     }
 }
 
+/// Whether a keeper keeps what a desk answered to a reader, or nothing where that found no memory.
+fn keeps<K: Keeper>(alloc: Global, keeper: &mut K, told: Told) -> bool {
+    match (told, kept(alloc, keeper)) {
+        (Told::Admitted, Some(durable)) => is_part(&durable, ONE_READER),
+        (Told::Memory, Some(durable)) => is_part(&durable, NOTHING),
+        _ => false,
+    }
+}
+
 /// Whether a desk admits a reader and keeps that, or finds no memory and keeps nothing.
 fn admits_or_keeps_nothing<K: Keeper + Drop>(alloc: Global, desk: Desk<K>) -> bool {
     let mut desk = desk;
-    let told = ask(&mut desk, read(7));
+    let told = ask(&mut desk, READ_7);
     let mut keeper = desk.into_keeper();
-    match (told, kept(alloc, &mut keeper)) {
-        (Told::Admitted, Some(durable)) => is_part(&durable, &[cell(200, 1)], &[reader(7)]),
-        (Told::Memory, Some(durable)) => is_part(&durable, &[], &[]),
-        _ => false,
-    }
+    keeps(alloc, &mut keeper, told)
 }
 
 /// Whether a connection is opened as a store, or for want of memory not, and is opened then.
 fn opens_now_or_then<S: Alter + Drop>(
     alloc: Global,
     connection: Connection<S>,
-    sites: u16,
+    at: At,
 ) -> Option<bool> {
-    match keeper_over(alloc, connection, sites)? {
-        Ok(_) => Some(true),
-        Err((OpenError::Memory, back)) => Some(keeper_over(alloc, back, sites)?.is_ok()),
-        Err(_) => Some(false),
+    match opened_at(alloc, connection, at) {
+        (Opened::Refused(OpenError::Memory), back) => is_open(opened_at(alloc, back, at).0),
+        (first, _) => is_open(first),
     }
 }
 
-/// The connection of a store with one reader, made over an empty database.
-fn with_reader<S: Alter + Drop>(alloc: Global, empty: Connection<S>) -> Option<Connection<S>> {
-    let mut desk = over(alloc, empty, 2)?;
-    match ask(&mut desk, read(7)) {
-        Told::Admitted => Some(desk.into_keeper().into_connection()),
-        _ => None,
+/// Whether an opening came to a store; nothing where it was not tried.
+fn is_open(opened: Opened) -> Option<bool> {
+    match opened {
+        Opened::Holds(_, _, _) | Opened::Unread => Some(true),
+        Opened::Refused(_) | Opened::Failed => Some(false),
+        Opened::Untried => None,
     }
 }
 
-/// Whether a store with one reader is opened, now or then, at so many sites.
-fn finds_reader(alloc: Global, sites: u16) -> Option<bool> {
-    opens_now_or_then(alloc, with_reader(alloc, in_memory(alloc)?)?, sites)
+/// Whether a store with one reader, made over an empty database, is opened, now or then.
+fn finds_reader<S: Alter + Drop>(alloc: Global, empty: Connection<S>, sites: u16) -> Option<bool> {
+    let at = At {
+        sites,
+        seats: 2,
+        site: 0,
+    };
+    match serves_over(alloc, empty, ENTERS) {
+        Some(connection) => opens_now_or_then(alloc, connection, at),
+        None => None,
+    }
 }
 
 /// Whether a desk over an empty database admits a reader or keeps nothing.
 fn admits_over<S: Alter + Drop>(alloc: Global, empty: Connection<S>) -> Option<bool> {
-    Some(admits_or_keeps_nothing(alloc, over(alloc, empty, 2)?))
+    match over(alloc, empty, 2) {
+        Ok(desk) => Some(admits_or_keeps_nothing(alloc, desk)),
+        Err(_) => None,
+    }
+}
+
+fn makes(alloc: Global) -> Option<bool> {
+    opens_now_or_then(alloc, in_memory(alloc)?, HERE)
+}
+
+fn finds(alloc: Global, sites: u16) -> Option<bool> {
+    finds_reader(alloc, in_memory(alloc)?, sites)
+}
+
+fn admits_in_memory(alloc: Global) -> Option<bool> {
+    Some(admits_or_keeps_nothing(alloc, over_memory(alloc)?))
+}
+
+fn admits(alloc: Global) -> Option<bool> {
+    admits_over(alloc, in_memory(alloc)?)
 }
 
 #[test]
 fn a_store_is_made_or_not_for_want_of_memory(rt: HostRuntime) {
-    let alloc = rt.alloc();
-    let made = in_memory(alloc).and_then(|connection| opens_now_or_then(alloc, connection, 2));
-    assert_ne!(rt; made, Some(false));
+    assert_ne!(rt; makes(rt.alloc()), Some(false));
 }
 
 #[test]
 fn a_store_is_found_or_not_for_want_of_memory(rt: HostRuntime) {
-    assert_ne!(rt; finds_reader(rt.alloc(), 2), Some(false));
-    assert_ne!(rt; finds_reader(rt.alloc(), 3), Some(false));
+    for sites in [2u16, 3] {
+        assert_ne!(rt; finds(rt.alloc(), sites), Some(false), "{sites}");
+    }
 }
 
 #[test]
 fn a_reader_is_admitted_or_not_for_want_of_memory(rt: HostRuntime) {
     let alloc = rt.alloc();
-    let memory = over_memory(alloc).map(|desk| admits_or_keeps_nothing(alloc, desk));
-    assert_ne!(rt; memory, Some(false));
-    let stored = in_memory(alloc).and_then(|connection| admits_over(alloc, connection));
-    assert_ne!(rt; stored, Some(false));
+    assert_ne!(rt; admits_in_memory(alloc), Some(false));
+    assert_ne!(rt; admits(alloc), Some(false));
 }

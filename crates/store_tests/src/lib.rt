@@ -4,6 +4,8 @@
 #![tactic(auto)]
 
 #[cfg(test)]
+mod content;
+#[cfg(test)]
 mod databases;
 #[cfg(test)]
 mod desks;
@@ -14,7 +16,13 @@ mod desks_stopped;
 #[cfg(test)]
 mod growths;
 #[cfg(test)]
+mod layout_lines;
+#[cfg(test)]
+mod stores;
+#[cfg(test)]
 mod stores_opened;
+#[cfg(test)]
+mod tables;
 #[cfg(test)]
 mod tables_judged;
 #[cfg(test)]

@@ -1,41 +1,38 @@
 //! Each kind of database that is no store is told from one, and a full store is read.
-use crate::databases::{FIRST, LAYOUT, NEXT, SECOND, idle, in_memory, run};
-use crate::tables_stopped::made;
-use sqlite::Alter;
+use crate::databases::{FIRST, LAYOUT, NEXT, SECOND, in_memory, run, run_all};
+use crate::tables::{Found, MADE, idle, is_made, is_renewed, look, sizes, steps_done};
+use sqlite::{Alter, Connection};
 use std::alloc::Global;
-use store_tables::{
-    SessionEdit, Stage, StoredCell, StoredNotice, StoredSession, TableError, Tables, Version,
-};
+use store_tables::{SessionEdit, Stage, StoredCell, StoredNotice, StoredSession, Tables, Version};
 
 // ---- what is a store
 
-/// What a look finds after statements: 0 nothing, 1 a store, 2 no store, 3 a fault; 4 where a statement is refused.
-fn seen_after(alloc: Global, first: &str, second: &str, third: &str) -> Option<u64> {
-    let mut conn = in_memory(alloc)?;
-    if !run(&mut conn, first) || !run(&mut conn, second) || !run(&mut conn, third) {
-        return Some(4);
+/// What is found in a database after these statements.
+fn found_after<S: Alter + Drop>(
+    alloc: Global,
+    empty: Connection<S>,
+    texts: &[&str],
+) -> Option<Found> {
+    let mut connection = empty;
+    if !run_all(&mut connection, texts) {
+        return Some(Found::Refused);
     }
-    let mut tables = idle(conn)?;
-    Some(match tables.look(alloc) {
-        Ok(None) => 0,
-        Ok(Some(_)) => 1,
-        Err(TableError::BadStore) => 2,
-        Err(_) => 3,
-    })
+    let mut tables = idle(connection)?;
+    Some(look(alloc, &mut tables))
 }
 
-fn seen(alloc: Global, change: &str) -> Option<u64> {
-    seen_after(alloc, FIRST, SECOND, change)
+fn found_in_memory(alloc: Global, texts: &[&str]) -> Option<Found> {
+    found_after(alloc, in_memory(alloc)?, texts)
 }
 
-/// Whether a store of the second version with each of these changes is seen so.
-fn all_seen(alloc: Global, changes: &[&str], wanted: u64) -> bool {
-    'changes: for change in changes {
-        if seen(alloc, change) != Some(wanted) {
-            return false;
+/// The first of these changes of a store of the second version after which something else is found.
+fn first_other(alloc: Global, changes: &[&'static str], wanted: Found) -> Option<&'static str> {
+    for change in changes {
+        if found_in_memory(alloc, &[FIRST, SECOND, change]) != Some(wanted) {
+            return Some(change);
         }
     }
-    true
+    None
 }
 
 // Statements that the tables of a store refuse.
@@ -112,53 +109,93 @@ const AT_LIMITS: [&str; 3] = [
     "INSERT INTO notices VALUES (65535, 15, 9223372036854775807, 9223372036854775807)",
 ];
 
-#[test]
-fn tables_and_marks_are_judged(rt: HostRuntime) {
-    assert!(rt; all_seen(rt.alloc(), &UNWRITABLE, 4));
-    assert!(rt; all_seen(rt.alloc(), &HARMLESS, 1));
-    assert!(rt; all_seen(rt.alloc(), &MISSING, 2));
-    assert_eq!(rt; seen_after(rt.alloc(), FIRST, "", ""), Some(1));
-    assert_eq!(rt; seen_after(rt.alloc(), "", "", ""), Some(0));
-    assert_eq!(rt;
-        seen_after(rt.alloc(), "CREATE TABLE other (x INTEGER)", "", ""),
-        Some(0)
-    );
-    assert_eq!(rt;
-        seen_after(rt.alloc(), "CREATE TABLE cells (x INTEGER)", "", ""),
-        Some(2)
-    );
+// What is found after other beginnings.
+const BEGINNINGS: [(&[&str], Found); 4] = [
+    (&[FIRST], Found::Store),
+    (&[], Found::Blank),
+    (&["CREATE TABLE other (x INTEGER)"], Found::Blank),
+    (&["CREATE TABLE cells (x INTEGER)"], Found::BadStore),
+];
+
+/// The first beginning after which something else is found.
+fn other_beginning(alloc: Global) -> Option<usize> {
+    let mut at = 0usize;
+    for (texts, wanted) in BEGINNINGS {
+        if found_in_memory(alloc, texts) != Some(wanted) {
+            return Some(at);
+        }
+        at = at.saturating_add(1);
+    }
+    None
+}
+
+// What is found after each kind of change.
+const JUDGED: [(&[&'static str], Found); 5] = [
+    (&UNWRITABLE, Found::Refused),
+    (&HARMLESS, Found::Store),
+    (&MISSING, Found::BadStore),
+    (&OUTSIDE, Found::BadStore),
+    (&AT_LIMITS, Found::Store),
+];
+
+/// The first change after which something else is found.
+fn other_change(alloc: Global) -> Option<&'static str> {
+    for (changes, wanted) in JUDGED {
+        let other = first_other(alloc, changes, wanted);
+        if other.is_some() {
+            return other;
+        }
+    }
+    None
 }
 
 #[test]
-fn values_are_judged(rt: HostRuntime) {
-    assert!(rt; all_seen(rt.alloc(), &OUTSIDE, 2));
-    assert!(rt; all_seen(rt.alloc(), &AT_LIMITS, 1));
+fn tables_marks_and_values_are_judged(rt: HostRuntime) {
+    assert_eq!(rt; other_change(rt.alloc()), None);
+    assert_eq!(rt; other_beginning(rt.alloc()), None);
 }
 
 // ---- beside another table, and at the limits
 
-/// How many counters, sessions and notices a store has that is made beside another table, and whether that stays.
-fn beside(alloc: Global) -> Option<(usize, usize, usize, bool)> {
-    let mut conn = in_memory(alloc)?;
+/// How many rows another table has.
+fn other_rows<S: Alter>(connection: &mut Connection<S>) -> Option<usize> {
+    let rows = connection
+        .query_all("SELECT x FROM other WHERE x = 5", &[])
+        .ok()?;
+    Some(rows.len())
+}
+
+/// How much a store holds that is made in a database, and how many rows another table has then.
+fn made_in<S: Alter + Drop>(
+    alloc: Global,
+    connection: Connection<S>,
+) -> Option<([usize; 3], usize)> {
+    let mut tables = idle(connection)?;
+    if steps_done(&mut tables, &MADE) != 3 {
+        return None;
+    }
+    let held = sizes(alloc, &mut tables)?;
+    let mut connection = tables.into_connection();
+    Some((held, other_rows(&mut connection)?))
+}
+
+fn made_beside<S: Alter + Drop>(
+    alloc: Global,
+    empty: Connection<S>,
+) -> Option<([usize; 3], usize)> {
+    let mut connection = empty;
     if !run(
-        &mut conn,
+        &mut connection,
         "CREATE TABLE other (x INTEGER); INSERT INTO other VALUES (5)",
     ) {
         return None;
     }
-    let mut tables = idle(conn)?;
-    if made(&mut tables) != 3 {
-        return None;
-    }
-    let content = tables.load(alloc).ok()?;
-    let mut conn = tables.into_connection();
-    let rows = conn.query_all("SELECT x FROM other WHERE x = 5", &[]).ok()?;
-    let counts = (
-        content.cells.len(),
-        content.sessions.len(),
-        content.notices.len(),
-    );
-    Some((counts.0, counts.1, counts.2, rows.len() == 1))
+    made_in(alloc, connection)
+}
+
+/// How much a store holds that is made beside another table, and how many rows that has then.
+fn beside(alloc: Global) -> Option<([usize; 3], usize)> {
+    made_beside(alloc, in_memory(alloc)?)
 }
 
 fn put_cell<S: Alter>(tables: &mut Tables<S>, r: u16, slot: u16) -> bool {
@@ -179,7 +216,7 @@ fn put_notice<S: Alter>(tables: &mut Tables<S>, r: u16, site: u16) -> bool {
     tables.commit(&[], &[notice], None).is_ok()
 }
 
-fn put_reader<S: Alter>(tables: &mut Tables<S>, r: u16, place: u16) -> bool {
+fn put_waiting<S: Alter>(tables: &mut Tables<S>, r: u16, place: u16) -> bool {
     let session = StoredSession {
         r,
         h: u64::from(place),
@@ -191,64 +228,84 @@ fn put_reader<S: Alter>(tables: &mut Tables<S>, r: u16, place: u16) -> bool {
         .is_ok()
 }
 
-/// The counters and notices of a record.
-fn fill_record<S: Alter>(tables: &mut Tables<S>, r: u16) -> bool {
-    'slots: for k in 0..16u16 {
-        if !put_cell(tables, r, k) || !put_cell(tables, r, 100 + k) || !put_notice(tables, r, k) {
-            return false;
-        }
-    }
-    put_cell(tables, r, 200) && put_cell(tables, r, 201) && put_cell(tables, r, 202)
-}
+/// The slots of what a site took, left and withdrew, beside those of what it gave and was given.
+const OWN_SLOTS: [u16; 3] = [200, 201, 202];
 
-fn fill<S: Alter>(tables: &mut Tables<S>) -> bool {
-    'records: for r in 0..256u16 {
-        if !fill_record(tables, r) {
-            return false;
-        }
-    }
-    'sessions: for place in 0..2000u16 {
-        if !put_reader(tables, place % 256, place) {
+fn fill_slots<S: Alter>(tables: &mut Tables<S>, r: u16) -> bool {
+    for slot in OWN_SLOTS {
+        if !put_cell(tables, r, slot) {
             return false;
         }
     }
     true
 }
 
-/// How much a full store holds once it is filled, and once it has come from the first version.
-fn full(alloc: Global) -> Option<(usize, usize, usize, usize, usize, usize)> {
-    let mut tables = idle(in_memory(alloc)?)?;
-    if tables.make("0", LAYOUT).is_err() || !fill(&mut tables) {
-        return None;
+/// The counters and notices of a record.
+fn fill_record<S: Alter>(tables: &mut Tables<S>, r: u16) -> bool {
+    for k in 0..16u16 {
+        if !put_cell(tables, r, k) || !put_cell(tables, r, 100 + k) || !put_notice(tables, r, k) {
+            return false;
+        }
     }
-    let one = tables.load(alloc).ok()?;
-    let mut conn = tables.into_connection();
+    fill_slots(tables, r)
+}
+
+fn fill_records<S: Alter>(tables: &mut Tables<S>) -> bool {
+    for r in 0..256u16 {
+        if !fill_record(tables, r) {
+            return false;
+        }
+    }
+    true
+}
+
+fn fill_sessions<S: Alter>(tables: &mut Tables<S>) -> bool {
+    for place in 0..2000u16 {
+        if !put_waiting(tables, place % 256, place) {
+            return false;
+        }
+    }
+    true
+}
+
+/// How much a store holds once it is made and filled.
+fn filled<S: Alter>(alloc: Global, tables: &mut Tables<S>) -> Option<[usize; 3]> {
+    if is_made(tables) && fill_records(tables) && fill_sessions(tables) {
+        sizes(alloc, tables)
+    } else {
+        None
+    }
+}
+
+/// How much a store holds that goes back to the first version, and comes from there to the second.
+fn renewed<S: Alter + Drop>(alloc: Global, connection: Connection<S>) -> Option<[usize; 3]> {
+    let mut connection = connection;
     if !run(
-        &mut conn,
+        &mut connection,
         "DROP TABLE notices; UPDATE meta SET value = '1' WHERE name = 'version'",
     ) {
         return None;
     }
-    let mut again = idle(conn)?;
-    if again.renew(Version::First, NEXT).is_err() {
+    let mut tables = idle(connection)?;
+    if !is_renewed(&mut tables, Version::First, NEXT) {
         return None;
     }
-    let two = again.load(alloc).ok()?;
-    let of_one = (one.cells.len(), one.sessions.len(), one.notices.len());
-    Some((
-        of_one.0,
-        of_one.1,
-        of_one.2,
-        two.cells.len(),
-        two.sessions.len(),
-        two.notices.len(),
-    ))
+    sizes(alloc, &mut tables)
 }
 
-/// The place of the last session that is put at the greatest place.
-fn last_place(alloc: Global) -> Option<u64> {
-    let mut tables = idle(in_memory(alloc)?)?;
-    tables.make("0", LAYOUT).ok()?;
+fn full_over<S: Alter + Drop>(alloc: Global, empty: Connection<S>) -> Option<[[usize; 3]; 2]> {
+    let mut tables = idle(empty)?;
+    let held = filled(alloc, &mut tables)?;
+    Some([held, renewed(alloc, tables.into_connection())?])
+}
+
+/// How much a full store holds once it is filled, and once it has come from the first version.
+fn full(alloc: Global) -> Option<[[usize; 3]; 2]> {
+    full_over(alloc, in_memory(alloc)?)
+}
+
+/// Whether a session is put at the greatest place.
+fn put_last<S: Alter>(tables: &mut Tables<S>) -> bool {
     let session = StoredSession {
         r: 0,
         h: 9223372036854775807,
@@ -257,14 +314,35 @@ fn last_place(alloc: Global) -> Option<u64> {
     };
     tables
         .commit(&[], &[], Some(SessionEdit::Put(session)))
-        .ok()?;
+        .is_ok()
+}
+
+/// The place of the last session of a store.
+fn last_place<S: Alter>(alloc: Global, tables: &mut Tables<S>) -> Option<u64> {
     let content = tables.load(alloc).ok()?;
     Some(content.sessions.as_slice().last()?.place)
 }
 
+fn last_place_over<S: Alter + Drop>(alloc: Global, empty: Connection<S>) -> Option<u64> {
+    let mut tables = idle(empty)?;
+    if is_made(&mut tables) && put_last(&mut tables) {
+        last_place(alloc, &mut tables)
+    } else {
+        None
+    }
+}
+
+/// The place of the last session that is put at the greatest place.
+fn greatest_place(alloc: Global) -> Option<u64> {
+    last_place_over(alloc, in_memory(alloc)?)
+}
+
 #[test]
 fn limits_are_reached(rt: HostRuntime) {
-    assert_eq!(rt; beside(rt.alloc()), Some((1, 0, 1, true)));
-    assert_eq!(rt; last_place(rt.alloc()), Some(4611686018427387904));
-    assert_eq!(rt; full(rt.alloc()), Some((8960, 2000, 4096, 8960, 2000, 0)));
+    assert_eq!(rt; beside(rt.alloc()), Some(([1, 0, 1], 1)));
+    assert_eq!(rt; greatest_place(rt.alloc()), Some(4611686018427387904));
+    assert_eq!(rt;
+        full(rt.alloc()),
+        Some([[8960, 2000, 4096], [8960, 2000, 0]])
+    );
 }

@@ -1,178 +1,226 @@
 //! Tables over files that stop at each call in turn: what is found then is what a step left, or what the step in hand
 //! leaves.
-use crate::databases::{COUNTER, FIRST, LAYOUT, NEXT, SECOND, idle, opened, run};
-use sqlite::{Alter, Files, Options};
-use sqlite_disk::{Crash, Fuse, Memory};
+use crate::databases::{
+    COUNTER, FIRST, LAYOUT, NEXT, SECOND, after_texts, crashed, empty_files, files_of, fused,
+    opened,
+};
+use crate::tables::{CELL, MADE, NOTICE, READER, Step, idle, steps_done};
+use sqlite::{Alter, Connection, FileStore, Files, Options};
+use sqlite_disk::Crash;
 use std::alloc::Global;
 use store_tables::restart::restart;
-use store_tables::{
-    Content, SessionEdit, Stage, StoredCell, StoredNotice, StoredSession, Tables, Version,
-};
+use store_tables::{Content, StoredCell, StoredNotice, StoredSession, Tables, Version};
 
-const CELL: StoredCell = StoredCell {
-    r: 0,
-    slot: 200,
-    n: 1,
-};
-
-const READER: StoredSession = StoredSession {
-    r: 0,
-    h: 7,
-    stage: Stage::Reader,
-    place: 1,
-};
-
-const NOTICE: StoredNotice = StoredNotice {
-    r: 0,
-    site: 1,
-    announced: 2,
-    finished: 1,
-};
-
-/// What a run does from its start, of which each stop has to leave the outcome of a step.
-#[derive(Clone, Copy, Debug, PartialEq, Eq)]
-enum Story {
-    /// A store is made, a counter, a notice and a session are put, the session is dropped.
-    Made,
-    /// A store of the first version is migrated.
-    Migrated,
-    /// A layout line is changed.
-    Renewed,
-    /// Both at once.
-    Both,
+/// What a store holds.
+struct Held {
+    version: Version,
+    layout: &'static str,
+    cells: &'static [StoredCell],
+    notices: &'static [StoredNotice],
+    sessions: &'static [StoredSession],
 }
 
-/// How many steps are done.
-pub fn made<S: Alter>(tables: &mut Tables<S>) -> u64 {
-    if tables.make("0", LAYOUT).is_err() {
-        return 0;
-    }
-    if tables
-        .commit(&[CELL], &[NOTICE], Some(SessionEdit::Put(READER)))
-        .is_err()
-    {
-        return 1;
-    }
-    if tables
-        .commit(&[], &[], Some(SessionEdit::Dropped { r: 0, h: 7 }))
-        .is_err()
-    {
-        return 2;
-    }
-    3
+/// A run: what its database begins with, its steps, and what is found after none of them, one, two and so on; `None`
+/// where there is no store.
+struct Story {
+    first: &'static [&'static str],
+    steps: &'static [Step],
+    left: &'static [Option<Held>],
 }
 
-fn steps_of<S: Alter>(story: Story, tables: &mut Tables<S>) -> u64 {
-    let done = match story {
-        Story::Made => return made(tables),
-        Story::Migrated => tables.renew(Version::First, LAYOUT),
-        Story::Renewed => tables.renew(Version::Second, NEXT),
-        Story::Both => tables.renew(Version::First, NEXT),
+/// What a store of one counter holds at this version and layout line.
+macro_rules! counter {
+    ($version:ident, $layout:expr) => {
+        Some(Held {
+            version: Version::$version,
+            layout: $layout,
+            cells: &[CELL],
+            notices: &[],
+            sessions: &[],
+        })
     };
-    if done.is_ok() { 1 } else { 0 }
 }
 
-/// The number of steps after which a store that was made holds a content, if it is one.
-fn made_step(content: &Content) -> Option<u64> {
-    let has_cell = content.cells.as_slice() == [CELL].as_slice();
-    let has_notice = content.notices.as_slice() == [NOTICE].as_slice();
-    if !has_cell || !has_notice {
-        let is_empty = content.cells.is_empty() && content.notices.is_empty();
-        return if is_empty && content.sessions.is_empty() {
-            Some(1)
-        } else {
-            None
-        };
-    }
-    if content.sessions.as_slice() == [READER].as_slice() {
-        return Some(2);
-    }
-    if content.sessions.is_empty() {
-        Some(3)
-    } else {
-        None
+/// What a store of the second version holds that was made in the run.
+macro_rules! made {
+    ($cells:expr, $notices:expr, $sessions:expr) => {
+        Some(Held {
+            version: Version::Second,
+            layout: LAYOUT,
+            cells: $cells,
+            notices: $notices,
+            sessions: $sessions,
+        })
+    };
+}
+
+static STORIES: [Story; 4] = [
+    // A store is made, a counter, a notice and a session are put, the session is dropped.
+    Story {
+        first: &[],
+        steps: &MADE,
+        left: &[
+            None,
+            made!(&[], &[], &[]),
+            made!(&[CELL], &[NOTICE], &[READER]),
+            made!(&[CELL], &[NOTICE], &[]),
+        ],
+    },
+    // A store of the first version is migrated.
+    Story {
+        first: &[FIRST, COUNTER],
+        steps: &[Step::Renew(Version::First, LAYOUT)],
+        left: &[counter!(First, LAYOUT), counter!(Second, LAYOUT)],
+    },
+    // A layout line is changed.
+    Story {
+        first: &[FIRST, COUNTER, SECOND],
+        steps: &[Step::Renew(Version::Second, NEXT)],
+        left: &[counter!(Second, LAYOUT), counter!(Second, NEXT)],
+    },
+    // Both at once.
+    Story {
+        first: &[FIRST, COUNTER],
+        steps: &[Step::Renew(Version::First, NEXT)],
+        left: &[counter!(First, LAYOUT), counter!(Second, NEXT)],
+    },
+];
+
+fn has_rows(content: &Content, held: &Held) -> bool {
+    content.cells.as_slice() == held.cells
+        && content.notices.as_slice() == held.notices
+        && content.sessions.as_slice() == held.sessions
+}
+
+fn is_held(content: Option<&Content>, held: Option<&Held>) -> bool {
+    match (content, held) {
+        (None, None) => true,
+        (Some(content), Some(held)) => {
+            content.version == held.version
+                && content.layout.as_slice() == held.layout.as_bytes()
+                && has_rows(content, held)
+        }
+        _ => false,
     }
 }
 
-/// The same of a store that is brought to this version and layout line.
-fn renewed_step(content: &Content, from: Version, before: &str, after: &str) -> Option<u64> {
-    if content.cells.as_slice() != [CELL].as_slice() {
-        return None;
-    }
-    if content.version == Version::Second && content.layout.as_slice() == after.as_bytes() {
-        return Some(1);
-    }
-    if content.version == from && content.layout.as_slice() == before.as_bytes() {
-        return Some(0);
+/// The number of steps after which tables hold what they do.
+fn step_found<S: Alter>(alloc: Global, story: &Story, tables: &mut Tables<S>) -> Option<usize> {
+    let found = tables.look(alloc).ok()?;
+    let mut step = 0usize;
+    for held in story.left {
+        if is_held(found.as_ref(), held.as_ref()) {
+            return Some(step);
+        }
+        step = step.saturating_add(1);
     }
     None
 }
 
-fn step_in<S: Alter>(alloc: Global, story: Story, tables: &mut Tables<S>) -> Option<u64> {
-    let found = tables.look(alloc).ok()?;
-    let Some(content) = found else {
-        return if story == Story::Made { Some(0) } else { None };
-    };
-    match story {
-        Story::Made => made_step(&content),
-        Story::Migrated => renewed_step(&content, Version::First, LAYOUT, LAYOUT),
-        Story::Renewed => renewed_step(&content, Version::Second, LAYOUT, NEXT),
-        Story::Both => renewed_step(&content, Version::First, LAYOUT, NEXT),
+fn step_in<S: Alter + Drop>(alloc: Global, story: &Story, tables: Tables<S>) -> Option<usize> {
+    let mut tables = tables;
+    step_found(alloc, story, &mut tables)
+}
+
+fn step_over<S: Alter + Drop>(
+    alloc: Global,
+    story: &Story,
+    connection: Connection<S>,
+) -> Option<usize> {
+    step_in(alloc, story, idle(connection)?)
+}
+
+/// The steps that are done over a database, and its tables then.
+fn played<S: Alter + Drop>(story: &Story, connection: Connection<S>) -> Option<(usize, Tables<S>)> {
+    let mut tables = idle(connection)?;
+    let done = steps_done(&mut tables, story.steps);
+    Some((done, tables))
+}
+
+// What speaks of files hands a database on at once: it is dear to prove here.
+
+/// The step that is found once files have crashed.
+fn after_crash<D: Crash + Drop>(alloc: Global, story: &Story, files: Files<D>) -> Option<usize> {
+    match opened(alloc, crashed(files)) {
+        Ok(connection) => step_over(alloc, story, connection),
+        Err(_) => None,
     }
 }
 
-/// The files of the store that a story begins with.
-fn first_files(alloc: Global, story: Story) -> Option<Files<Memory>> {
-    let files = Files {
-        log: Memory::new(alloc),
-        db: Memory::new(alloc),
-    };
-    if story == Story::Made {
-        return Some(files);
+/// The same of the files of tables.
+fn restarted<D: Crash + Drop>(
+    alloc: Global,
+    story: &Story,
+    tables: Tables<FileStore<D>>,
+) -> Option<usize> {
+    match restart(alloc, tables, Options::new(1)) {
+        Ok(again) => step_in(alloc, story, again),
+        Err(left) => after_crash(alloc, story, left),
     }
-    let mut conn = opened(alloc, files).ok()?;
-    if !run(&mut conn, FIRST) || !run(&mut conn, COUNTER) {
-        return None;
+}
+
+/// The steps that are done over a database, and the step that is found after a crash.
+fn played_again<D: Crash + Drop>(
+    alloc: Global,
+    story: &Story,
+    connection: Connection<FileStore<D>>,
+) -> (Option<usize>, Option<usize>) {
+    match played(story, connection) {
+        Some((done, tables)) => (Some(done), restarted(alloc, story, tables)),
+        None => (None, None),
     }
-    if story == Story::Renewed && !run(&mut conn, SECOND) {
-        return None;
+}
+
+/// The same over files, which may not open.
+fn played_over<D: Crash + Drop>(
+    alloc: Global,
+    story: &Story,
+    files: Files<D>,
+) -> (Option<usize>, Option<usize>) {
+    match opened(alloc, files) {
+        Ok(connection) => played_again(alloc, story, connection),
+        Err(left) => (Some(0), after_crash(alloc, story, left)),
     }
-    Some(conn.into_store().close())
+}
+
+/// Empty files after these statements; without one, no database is opened on them.
+fn files_after<D: Crash + Drop>(
+    alloc: Global,
+    empty: Files<D>,
+    texts: &[&str],
+) -> Option<Files<D>> {
+    if texts.is_empty() {
+        return Some(empty);
+    }
+    match opened(alloc, empty) {
+        Ok(connection) => files_with(connection, texts),
+        Err(_) => None,
+    }
+}
+
+fn files_with<D: Crash + Drop>(
+    connection: Connection<FileStore<D>>,
+    texts: &[&str],
+) -> Option<Files<D>> {
+    match after_texts(connection, texts) {
+        Some(connection) => Some(files_of(connection)),
+        None => None,
+    }
 }
 
 /// The steps that were done before a file stopped after so many calls, and the step that is found after a crash.
-fn stopped(alloc: Global, story: Story, log: u64, db: u64) -> Option<(u64, u64)> {
-    let first = first_files(alloc, story)?;
-    let files = Files {
-        log: Fuse::new(first.log, log),
-        db: Fuse::new(first.db, db),
-    };
-    let (done, left) = match opened(alloc, files) {
-        Ok(conn) => {
-            let mut tables = idle(conn)?;
-            let done = steps_of(story, &mut tables);
-            match restart(alloc, tables, Options::new(1)) {
-                Ok(mut again) => return Some((done, step_in(alloc, story, &mut again)?)),
-                Err(left) => (done, left),
-            }
-        }
-        Err(left) => (0, left),
-    };
-    let mut left = left;
-    left.log.crash();
-    left.db.crash();
-    let mut again = idle(opened(alloc, left).ok()?)?;
-    Some((done, step_in(alloc, story, &mut again)?))
+fn stopped(alloc: Global, story: &Story, log: u64, db: u64) -> Option<(usize, usize)> {
+    let first = files_after(alloc, empty_files(alloc), story.first)?;
+    match played_over(alloc, story, fused(first, log, db)) {
+        (Some(done), Some(found)) => Some((done, found)),
+        _ => None,
+    }
 }
 
-/// At how many calls of both files a story was stopped until it ran to its end, if each stop left what was done, or
-/// that and the step in hand.
-fn stops(alloc: Global, story: Story) -> Option<u64> {
-    let last = if story == Story::Made { 3 } else { 1 };
-    let mut count = 0u64;
-    let mut of_log = true;
-    let mut calls = 0u64;
-    'stops: for _ in 0..400u64 {
+/// At how many calls of one file a story was stopped until it ran to its end, if each stop left what was done, or that
+/// and the step in hand.
+fn stops(alloc: Global, story: &Story, of_log: bool) -> Option<u64> {
+    for calls in 0..400u64 {
         let (log, db) = if of_log {
             (calls, 10000)
         } else {
@@ -182,21 +230,23 @@ fn stops(alloc: Global, story: Story) -> Option<u64> {
         if found != done && found != done.saturating_add(1) {
             return None;
         }
-        if done < last {
-            count = count.saturating_add(1);
-            calls = calls.saturating_add(1);
-        } else if of_log {
-            of_log = false;
-            calls = 0;
-        } else {
-            return Some(count);
+        if done == story.steps.len() {
+            return Some(calls);
         }
     }
     None
 }
 
-fn is_stopped_often(alloc: Global, story: Story) -> bool {
-    match stops(alloc, story) {
+/// The same of both files.
+fn all_stops(alloc: Global, story: usize) -> Option<u64> {
+    let story = STORIES.get(story)?;
+    let of_log = stops(alloc, story, true)?;
+    Some(of_log.saturating_add(stops(alloc, story, false)?))
+}
+
+/// Whether a story is stopped often, and each stop leaves what it may.
+fn survives(alloc: Global, story: usize) -> bool {
+    match all_stops(alloc, story) {
         Some(count) => count >= 10,
         None => false,
     }
@@ -204,12 +254,12 @@ fn is_stopped_often(alloc: Global, story: Story) -> bool {
 
 #[test]
 fn a_store_that_is_made_survives_each_stop(rt: HostRuntime) {
-    assert!(rt; is_stopped_often(rt.alloc(), Story::Made));
+    assert!(rt; survives(rt.alloc(), 0));
 }
 
 #[test]
 fn a_migration_survives_each_stop(rt: HostRuntime) {
-    assert!(rt; is_stopped_often(rt.alloc(), Story::Migrated));
-    assert!(rt; is_stopped_often(rt.alloc(), Story::Renewed));
-    assert!(rt; is_stopped_often(rt.alloc(), Story::Both));
+    for story in 1..4usize {
+        assert!(rt; survives(rt.alloc(), story), "{story}");
+    }
 }

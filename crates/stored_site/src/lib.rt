@@ -5,5 +5,3 @@
 pub use serving::serve_over;
 
 mod serving;
-#[cfg(test)]
-mod tests;

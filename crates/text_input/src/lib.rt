@@ -14,5 +14,3 @@ mod input;
 mod lines;
 mod sink;
 mod source;
-#[cfg(test)]
-mod tests;

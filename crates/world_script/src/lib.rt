@@ -9,5 +9,3 @@ mod events;
 pub mod laws;
 mod playing;
 mod replies;
-#[cfg(test)]
-mod tests;

@@ -4,5 +4,3 @@
 pub use notices::{MOST_WRITERS, NoticeError, Notices};
 
 mod notices;
-#[cfg(test)]
-mod tests;

@@ -1,3 +1,0 @@
-mod programs;
-mod runtime;
-mod site_programs;

@@ -1,0 +1,5 @@
+//! The whole program on a fake runtime.
+mod helps;
+mod programs;
+mod runtime;
+mod site_programs;

@@ -1,0 +1,15 @@
+//! Tests of what serves: input, layout files, scripts of calls, and the engines of the commands.
+#![tactic(auto)]
+
+#[cfg(test)]
+mod input;
+#[cfg(test)]
+mod joins;
+#[cfg(test)]
+mod layouts;
+#[cfg(test)]
+mod lines;
+#[cfg(test)]
+mod plays;
+#[cfg(test)]
+mod served;

@@ -1,0 +1,168 @@
+//! A keeper in memory that fails or waits at a commit that the test chooses, and desks over it.
+ghost use Rattle.std.specs.Prelude.{◌≡◌, IfSome, if◌then◌else◌};
+
+use admission_core::{Change, Durable};
+use durable_keeper::{Keeper, KeeperError, MemoryKeeper};
+use merge_core::{Layout, RecordName, RecordSpec};
+use session_book::{Desk, OpenError};
+use std::alloc::Global;
+use std::sync::Arc;
+use std::sync::atomic::{AtomicU64, Ordering};
+use std::thread;
+
+/// What a commit meets.
+#[derive(Drop)]
+pub enum Fault {
+    /// It is kept.
+    Never,
+    /// The device refuses it, and each call behind it. It is kept all the same where the flag says so.
+    Refused(bool),
+    /// It waits until the mark is set, if that comes soon, and is kept.
+    Waits(Arc<AtomicU64, Global>),
+}
+
+/// What the device does: `fault` comes at the commit after so many others.
+#[derive(Drop)]
+pub struct Store {
+    /// What loading gives back in place of what is kept.
+    pub first: Option<Durable>,
+    pub left: u64,
+    pub fault: Fault,
+    pub failed: bool,
+    /// Whether a commit that waited saw the mark.
+    pub saw: bool,
+}
+
+/// A device that has this fault at the commit after so many others.
+pub fn store_with(left: u64, fault: Fault) -> Store {
+    Store {
+        first: None,
+        left,
+        fault,
+        failed: false,
+        saw: false,
+    }
+}
+
+/// It keeps in memory, and promises to keep nothing.
+#[derive(Drop)]
+pub struct Fake {
+    pub kept: MemoryKeeper,
+    pub store: Store,
+}
+
+impl Fake {
+    /// Nothing is kept yet.
+    pub fn new(alloc: Global, layout: &Layout, site: u16, store: Store) -> Option<Fake>
+        ensures layout { IfSome result (λ k. k.kept.layout ≡ layout.now) }
+        ensures site { IfSome result (λ k. k.kept.site ≡ site) }
+    {
+        let kept = MemoryKeeper::new(alloc, layout, site).ok()?;
+        Some(Fake { kept, store })
+    }
+}
+
+// Whether the mark is set within so many turns.
+fn is_set_soon(mark: &AtomicU64) -> bool {
+    for _ in 0..1_000_000_000u64 {
+        if mark.load(Ordering::SeqCst) == 1 {
+            return true;
+        }
+        thread::yield_now();
+    }
+    false
+}
+
+impl Keeper for Fake {
+    ghost layout = { λ k. k.kept.layout };
+
+    ghost site = { λ k. k.kept.site };
+
+    ghost keeps = { λ _ _. ⊥ };
+
+    ghost keeps_either = { λ _ _ _. ⊥ };
+
+    ghost is_honest = { λ _. Unit {0} };
+
+    ghost faults_of = { λ k. if k.store.failed then 1 else 0 };
+
+    fn commit(&mut self, change: &Change) -> Result<(), KeeperError> {
+        if self.store.failed {
+            return Err(KeeperError::StoreFault);
+        }
+        if change.is_empty() {
+            return Ok(());
+        }
+        if self.store.left > 0 {
+            self.store.left -= 1;
+            return self.kept.commit(change);
+        }
+        match &self.store.fault {
+            Fault::Never | Fault::Refused(true) => self.kept.commit(change)?,
+            Fault::Refused(false) => {}
+            Fault::Waits(mark) => {
+                self.store.saw = is_set_soon(mark);
+                return self.kept.commit(change);
+            }
+        }
+        if let Fault::Never = &self.store.fault {
+            return Ok(());
+        }
+        self.store.failed = true;
+        Err(KeeperError::StoreFault)
+    }
+
+    fn load(&mut self, alloc: Global) -> Result<Durable, KeeperError> {
+        if self.store.failed {
+            return Err(KeeperError::StoreFault);
+        }
+        match &self.store.first {
+            Some(first) => Ok(first.try_copy(alloc)?),
+            None => self.kept.load(alloc),
+        }
+    }
+
+    fn faults(&self) -> u64 {
+        u64::from(self.store.failed)
+    }
+}
+
+/// The layout of one record with so many seats, which start at site 0.
+pub fn layout_of(alloc: Global, sites: u16, seats: u32, problem: u16) -> Option<Layout> {
+    let name = RecordName::from_string(String::from_str(alloc, "a").ok()?);
+    let mut records = Vec::new(alloc);
+    records
+        .push(RecordSpec {
+            name,
+            seats,
+            home: 0,
+            problem,
+        })
+        .ok()?;
+    Layout::new(sites, records).ok()
+}
+
+/// A desk of this site, over a new keeper with this device.
+pub fn desk_of(
+    alloc: Global,
+    (sites, seats): (u16, u32),
+    site: u16,
+    limit: usize,
+    store: Store,
+) -> Result<Desk<Fake>, Option<OpenError>> {
+    let Some(layout) = layout_of(alloc, sites, seats, 1) else {
+        return Err(None);
+    };
+    let Some(keeper) = Fake::new(alloc, &layout, site, store) else {
+        return Err(None);
+    };
+    match Desk::open(alloc, keeper, layout, site, limit) {
+        Ok(desk) => Ok(desk),
+        Err((error, _keeper)) => Err(Some(error)),
+    }
+}
+
+/// A desk of one of two sites with two seats, whose device never fails.
+pub fn small_desk(alloc: Global, site: u16) -> Option<Desk<Fake>> {
+    desk_of(alloc, (2, 2), site, 16, store_with(0, Fault::Never)).ok()
+}

@@ -1,2 +1,0 @@
-mod keepers;
-mod sites;

@@ -1,3 +1,0 @@
-mod failed_runs;
-mod stopped_stores;
-mod stored_sites;
