@@ -19,7 +19,7 @@ use Rattle.admission_model.proofs.CounterLemmas.{known_own}
 use Rattle.admission_model.proofs.StandsLemmas.{known_again}
 use Rattle.admission_model.proofs.StartLemmas.{sound_start}
 use Rattle.admission_core.specs.Core.{Core, core_view, Stands}
-use Rattle.admission_core.proofs.CoreLemmas.{shows_account}
+use Rattle.admission_core.proofs.CoreLemmas.{shows_account, stands_from}
 
 -- what is known at the start
 known_begun : (layout : LayoutState) (i r s : ℕ) (cell : Cell) → known (begin (start_origin layout i)) r s cell ≡ start_counter (shape_of layout) r s cell
@@ -31,38 +31,38 @@ known_begun layout i r s cell = at (cases_eq s i)
 
 -- the core of the start
 pub stands_begun : (layout : LayoutState) (c : Core) → c.site < layout.sites → c.layout ≡ layout → IsBook c.book → book_shape c.book ≡ shape_of layout → c.sessions ≡ [] → ((r s : ℕ) (cell : Cell) → counter_of c.book r s cell ≡ start_counter (shape_of layout) r s cell) → Stands (begin (start_origin layout c.site)) c
-stands_begun layout c below same book shape none counters = record {
-  reached = record { from = start_origin layout c.site; may_begin = sound_start layout c.site below; steps = []; reached = refl };
-  book = book;
-  shape = ap shape_of same ∙ sym shape;
-  shows = record {
-    layout = same;
-    site = refl;
-    phases = λ r h. ap (λ (ss : List Session). phase_in ss r h) none;
-    order_kept = none;
-    counters = λ r s cell. counters r s cell ∙ sym (known_begun layout c.site r s cell);
-  };
-}
+stands_begun layout c below same book shape none counters =
+    stands_from (begin (start_origin layout c.site)) c
+    record { from = start_origin layout c.site; may_begin = sound_start layout c.site below; steps = []; reached = refl }
+    book
+    (ap shape_of same ∙ sym shape)
+    record {
+      layout = same;
+      site = refl;
+      phases = λ r h. ap (λ (ss : List Session). phase_in ss r h) none;
+      order_kept = none;
+      counters = λ r s cell. counters r s cell ∙ sym (known_begun layout c.site r s cell);
+    }
 
 -- the core after a restart
 pub stands_restarted : (a : Account) (c d : Core) → Stands a c → d.layout ≡ c.layout → d.site ≡ c.site → d.sessions ≡ c.sessions → IsBook d.book → KeepsOwn c.site c.book d.book → Stands (restarted a) d
-stands_restarted a c d is layout site sessions book keeps = record {
-  reached = record {
-    from = is.reached.from;
-    may_begin = is.reached.may_begin;
-    steps = Restarts ∷ is.reached.steps;
-    reached = ap restarted is.reached.reached;
-  };
-  book = book;
-  shape = ap shape_of layout ∙ (is.shape ∙ sym keeps.shape);
-  shows = record {
-    layout = layout ∙ is.shows.layout;
-    site = site ∙ is.shows.site;
-    phases = λ r h. ap (λ (ss : List Session). phase_in ss r h) sessions ∙ is.shows.phases r h;
-    order_kept = sessions ∙ is.shows.order_kept;
-    counters = counters;
-  };
-}
+stands_restarted a c d is layout site sessions book keeps =
+    stands_from (restarted a) d
+    record {
+      from = is.reached.from;
+      may_begin = is.reached.may_begin;
+      steps = Restarts ∷ is.reached.steps;
+      reached = ap restarted is.reached.reached;
+    }
+    book
+    (ap shape_of layout ∙ (is.shape ∙ sym keeps.shape))
+    record {
+      layout = layout ∙ is.shows.layout;
+      site = site ∙ is.shows.site;
+      phases = λ r h. ap (λ (ss : List Session). phase_in ss r h) sessions ∙ is.shows.phases r h;
+      order_kept = sessions ∙ is.shows.order_kept;
+      counters = counters;
+    }
   where
     start : (r s : ℕ) (cell : Cell) → start_counter (book_shape c.book) r s cell ≡ start_counter (shape_of a.origin.layout) r s cell
     start r s cell =

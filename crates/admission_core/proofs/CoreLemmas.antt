@@ -3,21 +3,37 @@ use Rattle.std.proofs.Common.{◌≡◌, ℕ, ◌<◌, List, length, Some, None,
 use Rattle.std.specs.Prelude.{◌↔◌, IfOk, Result, Ok, Err}
 use Rattle.merge_core.specs.Layout.{LayoutState, IsLayout, shape_of}
 use Rattle.merge_core.specs.Rows.{start_counter}
+use Rattle.merge_core.specs.declared.cell.Cell.{Cell}
+use Rattle.merge_core.specs.Naming.{ReachesUnit}
 use Rattle.admission_model.specs.declared.durable.DurableCell.{DurableCell}
 use Rattle.admission_model.specs.Durable.{at_slot, places, kept_cells, durable_cells}
 use Rattle.admission_core.specs.Kept.{DurableState, durable_of}
-use Rattle.merge_core.specs.Book.{seats_at, notices_at}
+use Rattle.merge_core.specs.Book.{IsBook, book_shape, seats_at, notices_at}
 use Rattle.seat_rows.specs.Seats.{seat_rights, HasSeatRights}
 use Rattle.writer_notices.specs.Notices.{IsOpen, IsLeastOpen}
 use Rattle.admission_model.specs.Account.{Account, layout_of}
 use Rattle.admission_model.specs.declared.reply.Plan.{Plan}
 use Rattle.admission_model.specs.View.{View, view_of, rights_of, first_unfinished, plan_of}
 use Rattle.admission_model.specs.Books.{ShowsBook, HasBook}
-use Rattle.admission_model.proofs.LawLemmas.{sound_reached}
+use Rattle.admission_model.specs.Knowledge.{SourceNames}
+use Rattle.admission_model.specs.Reached.{IsReached}
+use Rattle.admission_model.specs.Laws.{StandsFor}
+use Rattle.admission_model.proofs.LawLemmas.{sound_reached, units}
 use Rattle.admission_model.proofs.LeastLemmas.{plan_of-fits}
 use Rattle.admission_model.proofs.StandsLemmas.{same_view}
 use Rattle.admission_model.proofs.BookLemmas.{layout_sites, layout_records, rights_there, rights_in, writers_in, no_writers_in}
 use Rattle.admission_core.specs.Core.{Core, core_view, Stands, IsCore}
+
+-- A core with the account's layout, number, sessions and counters stands for the account: its book names what the
+-- account knows, since known counters count units.
+pub stands_from : (a : Account) (c : Core) → IsReached a → IsBook c.book → shape_of c.layout ≡ book_shape c.book → StandsFor (core_view c) c.sessions a → Stands a c
+stands_from a c reached book shape shows = record {
+  reached = reached;
+  book = book;
+  shape = shape;
+  shows = shows;
+  names = λ r s cell k. subst (λ (n : ℕ). ReachesUnit n k ↔ SourceNames a r s cell k) (sym (shows.counters r s cell)) (units a reached r s cell k);
+}
 
 -- the core shows the account's view
 pub shows_account : (a : Account) (c : Core) → Stands a c → core_view c ≡ view_of a

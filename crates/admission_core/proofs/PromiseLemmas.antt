@@ -1,5 +1,5 @@
 -- What one call promises beside its reply: a session that is there may leave, and announced writers go first.
-use Rattle.std.proofs.Common.{◌≡◌, ◌≢◌, ℕ, ◌<◌, ◌⊎◌, inl, inr, true, false, length, Option, Some, None, refl, sym, ap, ◌∙◌, arith}
+use Rattle.std.proofs.Common.{◌≡◌, ◌≢◌, ℕ, ◌<◌, ◌⊎◌, inl, inr, true, false, length, Option, Some, None, refl, sym, ap, subst, ◌∙◌, arith}
 use Rattle.std.specs.Prelude.{is_none}
 use Rattle.std.proofs.lemmas.Bool.{cases_Bool, lt-leb, le-ltb}
 use Rattle.merge_core.specs.declared.cell.Cell.TheVariants.{Ann, Fin}
@@ -10,17 +10,21 @@ use Rattle.session_list.specs.Sessions.{phase_in}
 use Rattle.admission_model.specs.declared.ask.Ask.TheVariants.{Read, Leave}
 use Rattle.admission_model.specs.declared.ask.Call.TheVariants.{Ask as AskCall}
 use Rattle.admission_model.specs.declared.reply.Refusal.{Refusal}
-use Rattle.admission_model.specs.declared.reply.Refusal.TheVariants.{Memory}
+use Rattle.admission_model.specs.declared.reply.Refusal.TheVariants.{Memory, WriterAnnounced}
 use Rattle.admission_model.specs.declared.reply.Reply.{Reply}
 use Rattle.admission_model.specs.declared.reply.Reply.TheVariants.{Admitted, Left, Refused}
 use Rattle.admission_model.specs.Account.{Account, phase_of}
 use Rattle.admission_model.specs.View.{View, view_of, problem_in}
 use Rattle.admission_model.specs.Replies.{leave_lines, holder_limit, first_reason}
 use Rattle.admission_model.specs.Serving.{replied, left_reply, reply_of}
+use Rattle.admission_model.specs.Laws.{IsFirstUnfinished, MayAsk}
 use Rattle.admission_model.specs.Sound.{IsSound}
 use Rattle.admission_model.proofs.LawLemmas.{sound_reached, none_admitted_reached}
+use Rattle.admission_model.proofs.ReaderLemmas.{reader_held}
+use Rattle.admission_model.proofs.ReasonLemmas.{reason_told}
 use Rattle.admission_model.proofs.ServingLemmas.{first_reason-none}
-use Rattle.admission_core.specs.Core.{Core, IsCore, IsServed, is_memory}
+use Rattle.admission_core.specs.Core.{Core, core_view, IsCore, IsServed, is_memory}
+use Rattle.admission_core.proofs.CoreLemmas.{shows_account}
 
 -- there is one reply that is want of memory
 memory_is : (reply : Reply) → is_memory reply ≡ true → reply ≡ Refused Memory
@@ -64,3 +68,15 @@ announced_first c d is r h reply served s second open_writer admitted =
   where
     a : Account
     a = is.account
+
+-- .. and a reader whom nothing else refuses is told of the least site whose writer the book shows unfinished
+pub announced_named : (c d : Core) → IsCore c → (r h : ℕ) (reply : Reply) → IsServed c d (AskCall (Read r h)) reply → (s : ℕ) → problem_in c.layout r ≡ 2 → MayAsk (core_view c) r h → IsFirstUnfinished (core_view c) r s → reply ≡ Refused (WriterAnnounced s)
+announced_named c d is r h reply served s second may first =
+    served.refused (WriterAnnounced s) a is.stands (reason_told (view_of a) (AskCall (Read r h)) (WriterAnnounced s) held)
+  where
+    a : Account
+    a = is.account
+
+    held : reply_of (view_of a) (AskCall (Read r h)) ≡ Refused (WriterAnnounced s)
+    held = subst (λ (v : View). reply_of v (AskCall (Read r h)) ≡ Refused (WriterAnnounced s)) (shows_account a c is.stands)
+        (reader_held (core_view c) r h s second may first)

@@ -127,7 +127,7 @@ ready_nothing a c is call p ready no_operation no_rows = at (cases_Bool (is_memo
 -- what room there is decides nothing
 pub stands_along : (a : Account) (old new : Core) → SameContent old new → Stands a old → Stands a new
 stands_along a old new same is =
-    let there : Stands a (record old { room = new.room }) = record { reached = is.reached; book = is.book; shape = is.shape; shows = is.shows } in
+    let there : Stands a (record old { room = new.room }) = record { reached = is.reached; book = is.book; shape = is.shape; shows = is.shows; names = is.names } in
     subst (Stands a) (sym same) there
 
 pub view_along : (old new : Core) → SameContent old new → core_view new ≡ core_view old

@@ -32,6 +32,7 @@ use Rattle.admission_model.proofs.CounterLemmas.{known_own, known_other}
 use Rattle.admission_model.proofs.RowLemmas.{start_below, start_past, start_diagonal}
 use Rattle.admission_model.proofs.HeardLemmas.{kept_yes, kept_no, kept_column}
 use Rattle.admission_model.proofs.LawLemmas.{sound_reached}
+use Rattle.admission_core.proofs.CoreLemmas.{stands_from}
 use Rattle.admission_model.proofs.OrderLemmas.{sessions_begun}
 use Rattle.admission_model.proofs.StoredLemmas.{stored_past}
 use Rattle.admission_model.proofs.SlotLemmas.{slot_past, slot_sent_past, slot_elsewhere, slot_not_taken}
@@ -299,18 +300,17 @@ core_made layout i d b held room there made agree same =
       site_there = there;
       cells = made.are_cells;
       sessions = sessions;
-      stands = record {
-        reached = record { from = origin_from layout i d.cells d.sessions; may_begin = origin; steps = []; reached = refl };
-        book = made.book;
-        shape = sym made.shape;
-        shows = record {
-          layout = refl;
-          site = refl;
-          phases = λ r h. ap (λ ss. phase_in ss r h) same;
-          order_kept = same ∙ sym (sessions_begun (origin_from layout i d.cells d.sessions) origin);
-          counters = λ r s cell. made.counters r s cell ∙ sym (begun_known layout i d.cells d.sessions r s cell);
-        };
-      };
+      stands = stands_from (begin (origin_from layout i d.cells d.sessions)) (record { layout = layout; site = i; book = b; sessions = held; room = room })
+          record { from = origin_from layout i d.cells d.sessions; may_begin = origin; steps = []; reached = refl }
+          made.book
+          (sym made.shape)
+          record {
+            layout = refl;
+            site = refl;
+            phases = λ r h. ap (λ ss. phase_in ss r h) same;
+            order_kept = same ∙ sym (sessions_begun (origin_from layout i d.cells d.sessions) origin);
+            counters = λ r s cell. made.counters r s cell ∙ sym (begun_known layout i d.cells d.sessions r s cell);
+          };
     }
 
 pub not_agree : (layout : LayoutState) (i : ℕ) (cells : List DurableCell) (sessions : List Session) (b : BookState) → IsBookFrom layout i cells b → (AgreeWith layout i (counter_of b) sessions → ⊥) → ¬ AreSessions layout i cells sessions
@@ -331,7 +331,7 @@ sessions_refused layout i d cells sessions b WrongCounters at_cells at_sessions 
 sessions_refused layout i d cells sessions b WrongSessions at_cells at_sessions there made fails =
     let own = subst (λ (cs : List DurableCell). IsBookFrom layout i cs b) at_cells made in
     (there, (own.are_cells, not_agree layout i d.cells d.sessions b own (subst (λ (ss : List Session). ¬ AgreeWith layout i (counter_of b) ss) at_sessions fails)))
-sessions_refused layout i d cells sessions b Memory at_cells at_sessions there made fails = tt
+sessions_refused layout i d cells sessions b Memory at_cells at_sessions there made fails = there
 
 -- ---- an account's own durable part
 
@@ -344,18 +344,15 @@ reached_grown a n is more = record {
 }
 
 stands_along : (a b : Account) (c : Core) → IsReached b → ShowTheSame a b → Stands a c → Stands b c
-stands_along a b c reached same stands = record {
-  reached = reached;
-  book = stands.book;
-  shape = stands.shape;
-  shows = record {
-    layout = stands.shows.layout ∙ same.layout;
-    site = stands.shows.site ∙ same.site;
-    phases = λ r h. stands.shows.phases r h ∙ same.phases r h;
-    order_kept = stands.shows.order_kept ∙ same.order_kept;
-    counters = λ r s cell. stands.shows.counters r s cell ∙ same.counters r s cell;
-  };
-}
+stands_along a b c reached same stands =
+    stands_from b c reached stands.book stands.shape
+    record {
+      layout = stands.shows.layout ∙ same.layout;
+      site = stands.shows.site ∙ same.site;
+      phases = λ r h. stands.shows.phases r h ∙ same.phases r h;
+      order_kept = stands.shows.order_kept ∙ same.order_kept;
+      counters = λ r s cell. stands.shows.counters r s cell ∙ same.counters r s cell;
+    }
 
 own_at : (a : Account) (n : ℕ) → IsReached a → a.sites ≤ n → n ≤ 16 → (result : Result Core RestoreError) → IsRestored (at_sites n a.origin.layout) a.origin.site (durable_of a) result → IsOwn (grown n a) result
 own_at a n is more few (Ok c) made =

@@ -38,7 +38,7 @@ use Rattle.admission_model.proofs.StandsLemmas.{known_asked, heard_other}
 use Rattle.admission_core.specs.Core.{Core, core_view, Stands, IsCore}
 use Rattle.admission_core.specs.Carrying.{RaisesOwn}
 use Rattle.admission_core.specs.Prepared.{IsOperationOf}
-use Rattle.admission_core.proofs.CoreLemmas.{shows_account}
+use Rattle.admission_core.proofs.CoreLemmas.{shows_account, stands_from}
 
 -- a served account is reached
 pub reached_after : (a : Account) (call : Call) → IsReached a → IsReached (after a call)
@@ -63,18 +63,15 @@ site_after a call = ap (λ (o : Origin). o.site) (origin_after a call)
 -- A core of the same layout and site, with the account's sessions and counters after a call, stands for the
 -- account after it.
 pub stands_after : (a : Account) (c d : Core) → Stands a c → (call : Call) → d.layout ≡ c.layout → d.site ≡ c.site → IsBook d.book → shape_of d.layout ≡ book_shape d.book → d.sessions ≡ sessions_of (after a call) → ((r s : ℕ) (cell : Cell) → counter_of d.book r s cell ≡ known (after a call) r s cell) → Stands (after a call) d
-stands_after a c d is call layout site book shape sessions counters = record {
-  reached = reached;
-  book = book;
-  shape = shape;
-  shows = record {
-    layout = layout ∙ (is.shows.layout ∙ sym (layout_after a call));
-    site = site ∙ (is.shows.site ∙ sym (site_after a call));
-    phases = λ r h. ap (λ (ss : List Session). phase_in ss r h) sessions ∙ phases_told (after a call) reached r h;
-    order_kept = sessions;
-    counters = counters;
-  };
-}
+stands_after a c d is call layout site book shape sessions counters =
+    stands_from (after a call) d reached book shape
+    record {
+      layout = layout ∙ (is.shows.layout ∙ sym (layout_after a call));
+      site = site ∙ (is.shows.site ∙ sym (site_after a call));
+      phases = λ r h. ap (λ (ss : List Session). phase_in ss r h) sessions ∙ phases_told (after a call) reached r h;
+      order_kept = sessions;
+      counters = counters;
+    }
   where
     reached : IsReached (after a call)
     reached = reached_after a call is.reached

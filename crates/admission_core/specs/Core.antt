@@ -1,7 +1,8 @@
 -- The core of a site as contracts see it, and for which accounts of the model it stands.
-use Rattle.std.specs.Prelude.{◌≡◌, ℕ, ◌<◌, length, Bool, true, false, List, if◌then◌else◌, Option, Some}
+use Rattle.std.specs.Prelude.{◌≡◌, ◌↔◌, ℕ, ◌<◌, length, Bool, true, false, List, if◌then◌else◌, Option, Some}
+use Rattle.merge_core.specs.declared.cell.Cell.{Cell}
 use Rattle.merge_core.specs.Layout.{LayoutState, IsLayout, shape_of}
-use Rattle.merge_core.specs.Book.{BookState, IsBook, book_shape, counter_of, seats_at}
+use Rattle.merge_core.specs.Book.{BookState, IsBook, book_shape, counter_of, Names, seats_at}
 use Rattle.seat_rows.specs.Seats.{HasSeatRights}
 use Rattle.session_list.specs.declared.session.Session.{Session}
 use Rattle.session_list.specs.Sessions.{phase_in}
@@ -11,6 +12,7 @@ use Rattle.admission_model.specs.declared.reply.Refusal.TheVariants.{Memory}
 use Rattle.admission_model.specs.declared.reply.Reply.{Reply}
 use Rattle.admission_model.specs.declared.reply.Reply.TheVariants.{Refused}
 use Rattle.admission_model.specs.Account.{Account}
+use Rattle.admission_model.specs.Knowledge.{SourceNames}
 use Rattle.admission_model.specs.View.{View, view_of}
 use Rattle.admission_model.specs.Serving.{after, reason, reply_of}
 use Rattle.admission_model.specs.Reached.{IsReached}
@@ -29,13 +31,14 @@ pub record Core : Type 0 where
 abbrev pub core_view : Core → View
 core_view c = record { layout = c.layout; site = c.site; phase = phase_in c.sessions; counter = counter_of c.book }
 
--- The core stands for an account: steps lead to the account, and it shows the core's layout, number, phases,
--- order of sessions and counters.
+-- The core stands for an account: steps lead to the account, it shows the core's layout, number, phases, order of
+-- sessions and counters, and the core's book names exactly the units that the account knows.
 pub record Stands (a : Account) (c : Core) : Type 0 where
   pub reached : IsReached a
   pub book : IsBook c.book
   pub shape : shape_of c.layout ≡ book_shape c.book
   pub shows : StandsFor (core_view c) c.sessions a
+  pub names : (r s : ℕ) (cell : Cell) (k : ℕ) → Names c.book r s cell k ↔ SourceNames a r s cell k
 
 -- Every core has a layout, and stands for some account. The facts between follow from these.
 pub record IsCore (c : Core) : Type 0 where

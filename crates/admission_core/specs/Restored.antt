@@ -27,13 +27,13 @@ pub record IsCoreFrom (layout : LayoutState) (i : ℕ) (d : DurableState) (c : C
   pub sessions : AreSessions layout i d.cells d.sessions
   pub stands : Stands (begin (origin_from layout i d.cells d.sessions)) c
 
--- the answer to a durable part: a core, or what is wrong with it
+-- The answer to a durable part: a core, or what is wrong with it. Out of memory never stands in place of `BadSite`.
 abbrev pub IsRestored : LayoutState → ℕ → DurableState → Result Core RestoreError → Type 0
 IsRestored layout i d (Ok c) = IsCoreFrom layout i d c
 IsRestored layout i d (Err BadSite) = ¬ (i < layout.sites)
 IsRestored layout i d (Err WrongCounters) = (i < layout.sites) × (¬ AreCells layout i d.cells)
 IsRestored layout i d (Err WrongSessions) = (i < layout.sites) × (AreCells layout i d.cells × (¬ AreSessions layout i d.cells d.sessions))
-IsRestored layout i d (Err Memory) = Unit {0}
+IsRestored layout i d (Err Memory) = i < layout.sites
 
 -- the answer to an account's own durable part
 abbrev pub IsOwn : Account → Result Core RestoreError → Type 0

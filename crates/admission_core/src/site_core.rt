@@ -53,11 +53,12 @@ impl SiteCore {
     ghost use Rattle.admission_model.specs.declared.ask.Call.{Call};
     ghost use Rattle.admission_model.specs.declared.ask.Ask.TheVariants.{Read, Announce, Quill, Leave, Give, Help};
     ghost use Rattle.admission_model.specs.declared.ask.Call.TheVariants.{Ask as AskCall, Merge};
-    ghost use Rattle.admission_model.specs.declared.reply.Refusal.TheVariants.{Memory};
+    ghost use Rattle.admission_model.specs.declared.reply.Refusal.TheVariants.{Memory, WriterAnnounced};
     ghost use Rattle.admission_model.specs.declared.reply.Reply.TheVariants.{Admitted, Left, Refused};
     ghost use Rattle.admission_model.specs.Account.{Account, begin, start_origin};
     ghost use Rattle.admission_model.specs.Knowledge.{restarted};
     ghost use Rattle.admission_model.specs.View.{view_of, plan_of, problem_in};
+    ghost use Rattle.admission_model.specs.Laws.{IsFirstUnfinished, MayAsk};
     ghost use Rattle.admission_model.specs.Durable.{AreRising};
     ghost use Rattle.admission_model.specs.Merging.{snapshot_of};
     ghost use Rattle.admission_model.specs.Serving.{reason, reply_of, after};
@@ -128,6 +129,7 @@ impl SiteCore {
     pub fn enter_read(&mut self, r: u16, h: u64) -> Reply
         ensures served { IsServed self.old self.new (AskCall (Read r h)) result }
         ensures announced_first { (s : ℕ) → problem_in self.old.layout r ≡ 2 → counter_of self.old.book r s Fin < counter_of self.old.book r s Ann → result ≢ Admitted }
+        ensures announced { (s : ℕ) → problem_in self.old.layout r ≡ 2 → MayAsk (core_view self.old) r h → IsFirstUnfinished (core_view self.old) r s → result ≡ Refused (WriterAnnounced s) }
     {
         let _ = &self.site; // tells the invariant: the core stands for an account
         self.ask(Ask::Read { r, h })
@@ -143,7 +145,7 @@ impl SiteCore {
 
     /// An announced writer enters, in its place in the order: `Admitted`. Refused, in this order: `NoRecord`;
     /// `BadHolder`; `NotAnnounced`, with no session or a reader's; `AlreadyInside`; `CounterFull`;
-    /// `MissingSeats`, where the site has not all seats of the record. Linear in the sites.
+    /// `MissingSeats`, where the site has not all seats of the record.
     pub fn enter_write(&mut self, r: u16, h: u64) -> Reply
         ensures { IsServed self.old self.new (AskCall (Quill r h)) result }
     {
@@ -161,7 +163,7 @@ impl SiteCore {
     }
 
     /// Seats of a record go to the site `to`: `Given`. Refused, in this order: `NoRecord`; `NoSite`; `ToSelf`;
-    /// `ZeroSeats`; `CounterFull`; `TooFewRights`. Linear in the sites.
+    /// `ZeroSeats`; `CounterFull`; `TooFewRights`.
     pub fn transfer(&mut self, r: u16, to: u16, seats: u64) -> Reply
         ensures { IsServed self.old self.new (AskCall (Give r to seats)) result }
     {

@@ -13,6 +13,7 @@ pub mod ToldLemmas
 pub mod UnitLemmas
 pub mod NoticeLemmas
 pub mod OrderLemmas
+pub mod ArrivalLemmas
 pub mod StandsLemmas
 pub mod DurableLemmas
 pub mod ReaderLemmas

@@ -1,5 +1,5 @@
 //! Laws of the definitions in specs/: functions that do nothing, whose contracts are the laws.
-ghost use Rattle.std.specs.Prelude.{◌≡◌, ◌≢◌, ◌↔◌, ℕ, ◌+◌, ◌<◌, ◌≤◌, List, length, Some, None};
+ghost use Rattle.std.specs.Prelude.{◌≡◌, ◌≢◌, ◌↔◌, ℕ, ◌+◌, ◌<◌, ◌≤◌, ◌++◌, List, length, map, Some, None};
 ghost use Rattle.merge_core.specs.declared.cell.Cell.{Cell};
 ghost use Rattle.merge_core.specs.declared.cell.Cell.TheVariants.{Out, Ann, Fin};
 ghost use Rattle.merge_core.specs.declared.delta.Row.{Row};
@@ -15,7 +15,7 @@ ghost use Rattle.admission_model.specs.declared.reply.Refusal.{Refusal};
 ghost use Rattle.admission_model.specs.declared.reply.Refusal.TheVariants.{WriterAnnounced};
 ghost use Rattle.admission_model.specs.declared.reply.Reply.TheVariants.{Admitted, Refused};
 ghost use Rattle.admission_model.specs.declared.reply.Plan.{Plan};
-ghost use Rattle.admission_model.specs.Account.{Account, Origin, begin, start_origin, phase_of, sessions_of, inside, writers, writers_here};
+ghost use Rattle.admission_model.specs.Account.{Account, Origin, begin, start_origin, key_of, phase_of, present, sessions_of, inside, writers, writers_here};
 ghost use Rattle.session_list.specs.declared.session.Session.{Session};
 ghost use Rattle.admission_model.specs.Knowledge.{known, hears, hears_all, durable_part, resumed, restarted, grown};
 ghost use Rattle.admission_model.specs.View.{View, view_of, rights_of, first_unfinished, plan_of, problem_in};
@@ -32,7 +32,7 @@ ghost use Rattle.admission_model.specs.Durable.{durable_cells, AreRising, put_ce
 ghost use Rattle.admission_model.specs.Asked.{operation_change};
 ghost use Rattle.admission_model.specs.declared.durable.DurableCell.{DurableCell};
 ghost use Rattle.admission_model.specs.Restoring.{origin_from, AreCells, AreSessions};
-ghost use Rattle.admission_model.specs.Order.{sessions_next};
+ghost use Rattle.admission_model.specs.Order.{sessions_next, arrived, last_of_each, unnamed};
 ghost use Rattle.admission_model.specs.Examples.{answers, wanted, read_cases, announce_cases, write_cases, leave_cases, give_cases, help_cases, merge_cases, snapshot_cases, slots_asked, slots_wanted, begun, asks, comings, comings_order};
 
 /// An account may begin at the start of each site, and wherever a stop leaves a reached account, under its
@@ -132,6 +132,12 @@ pub fn asked_law()
     ensures sessions { (a : Account) → (ask : Ask) → reason (view_of a) (AskCall ask) ≡ None → sessions_of (after a (AskCall ask)) ≡ sessions_next (operation_of (view_of a) ask) (sessions_of a) }
     ensures counters { (a : Account) → (ask : Ask) → reason (view_of a) (AskCall ask) ≡ None → (r s : ℕ) → (cell : Cell)
         → known (after a (AskCall ask)) r s cell ≡ known a r s cell + raised_to a (operation_of (view_of a) ask) r s cell }
+{}
+
+/// The sessions of a site stand in order of arrival: first, as in the base, those whose holder never arrived since, and
+/// then the others by their last arrival.
+pub fn order_law()
+    ensures { (a : Account) → sessions_of a ≡ present (phase_of a) (unnamed (arrived a.done) (map key_of a.origin.base.sessions) ++ last_of_each (arrived a.done)) }
 {}
 
 /// The cells of a durable part rise, and so do those of a change; those of a call's change, put at their places,

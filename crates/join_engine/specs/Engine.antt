@@ -36,12 +36,12 @@ pub record WritesRefusal (shape : Shape) (lines : List (List ℕ)) (old new : Si
   pub first : IsFirstRefused shape lines number fault
   pub written : Writes old new (refusal_text number fault)
 
--- What was written for an input, by the status. Nothing is said of it where memory ran out or a write failed;
--- and a failed write is told where the sink met a fault, and there alone.
+-- What was written for an input, by the status. Without memory nothing was written. Nothing is said of it where a
+-- write failed, which is told where the sink met a fault, and there alone.
 abbrev pub AnswersInput : Shape → List ℕ → SinkState → SinkState → Status → Type 0
 AnswersInput shape bytes old new Done = WritesJoin shape (lines_of bytes) old new
 AnswersInput shape bytes old new Refused = WritesRefusal shape (lines_of bytes) old new
-AnswersInput shape bytes old new Memory = new.fault ≡ old.fault
+AnswersInput shape bytes old new Memory = new ≡ old
 AnswersInput shape bytes old new Io = HasFault new.fault
 AnswersInput shape bytes old new Usage = ⊥
 AnswersInput shape bytes old new (NoLayout fault) = ⊥
@@ -49,8 +49,8 @@ AnswersInput shape bytes old new (NoStore refusal) = ⊥
 AnswersInput shape bytes old new Fault = ⊥
 
 -- The whole engine: the bytes read are all that the source had, within the limit, and their answer was written;
--- or there are more, and that refusal alone was written; or memory, a read or a write failed. In each case the
--- source lost at most one byte past the limit. A failed read or write is told where the source or the sink met
+-- or there are more, and that refusal alone was written; or memory, a read or a write failed. Without memory nothing was
+-- written. In each case the source lost at most one byte past the limit. A failed read or write is told where the source or the sink met
 -- a fault, and there alone; a read that failed for want of memory is told as that. An engine has no word for wrong
 -- arguments, for want of a layout, or for a store.
 abbrev pub EndsJoin : Shape → SourceState → SourceState → SinkState → SinkState → Status → Type 0
@@ -60,7 +60,7 @@ EndsJoin shape source source_after sink sink_after Refused =
     ((bytes : List ℕ) × ReadsInput source source_after (Ok bytes) × WritesRefusal shape (lines_of bytes) sink sink_after)
     ⊎ (ReadsInput source source_after (Err TooLong) × Writes sink sink_after too_long_text)
 EndsJoin shape source source_after sink sink_after Memory =
-    LosesSome source source_after (input_limit + 1) × LacksMemory source.fault source_after.fault × (sink_after.fault ≡ sink.fault)
+    LosesSome source source_after (input_limit + 1) × LacksMemory source.fault source_after.fault × (sink_after ≡ sink)
 EndsJoin shape source source_after sink sink_after Io =
     LosesSome source source_after (input_limit + 1) × (IsFailure source_after.fault ⊎ HasFault sink_after.fault)
 EndsJoin shape source source_after sink sink_after Usage = ⊥

@@ -93,7 +93,7 @@ impl Book {
         }
     }
 
-    /// How many seats of record `r` site `i` may still take by itself. Linear in the sites.
+    /// How many seats of record `r` site `i` may still take by itself.
     pub fn rights(&self, r: u16, i: u16) -> u64
         requires record { r < length self.now.records }
         requires site { i < self.now.sites }
@@ -135,7 +135,7 @@ impl Book {
         it.notices.open_at(i)
     }
 
-    /// Takes `w` seats of record `r` at site `i`, or refuses as `SeatRow::take` does. Linear in the sites.
+    /// Takes `w` seats of record `r` at site `i`, or refuses as `SeatRow::take` does.
     pub fn take(&mut self, r: u16, i: u16, w: u64) -> Result<(), SeatError>
         requires record { r < length self.old.records }
         requires site { i < self.old.sites }
@@ -169,7 +169,6 @@ impl Book {
     }
 
     /// Sends `n` rights of record `r` from site `i` to site `j`, or refuses as `SeatRow::transfer` does.
-    /// Linear in the sites.
     pub fn transfer(&mut self, r: u16, i: u16, j: u16, n: u64) -> Result<(), TransferError>
         requires record { r < length self.old.records }
         requires from { i < self.old.sites }

@@ -137,7 +137,7 @@ impl Model for Layout {
 }
 
 impl Layout {
-    ghost use Rattle.std.specs.Prelude.{◌≡◌, ◌≢◌, IfOk, MatchOption, MatchResult, None, Some};
+    ghost use Rattle.std.specs.Prelude.{◌≡◌, ◌≢◌, IfOk, MatchOption, MatchResult, None, Ok, Some};
     ghost use Rattle.merge_core.specs.Layout.{IsLayout, layout_fault, at_sites};
 
     /// The layout of these records at so many sites, or the first kind of fault that some of them has.
@@ -171,14 +171,19 @@ impl Layout {
         self.records.as_slice()
     }
 
-    /// The same records at so many sites, if that is a layout: every home has to be one of the sites.
+    /// The same records at so many sites, if that is a layout: every home has to be one of the sites. Memory is
+    /// taken only where it is one.
     pub fn at_sites(&self, alloc: Global, sites: u16) -> Result<Option<Layout>, AllocError>
-        ensures { IfOk result (λ found. MatchOption found
+        ensures answer { IfOk result (λ found. MatchOption found
             (layout_fault sites self.now.records ≢ None)
             (λ l. l ≡ at_sites sites self.now)) }
+        ensures certain { layout_fault sites self.now.records ≢ None → result ≡ Ok None }
     {
+        if fault_of(sites, self.records.as_slice()).is_some() {
+            return Ok(None);
+        }
         let records = copied(alloc, self.records.as_slice())?;
-        Ok(Layout::new(sites, records).ok())
+        Ok(Some(Layout { sites, records }))
     }
 
     /// An equal layout.

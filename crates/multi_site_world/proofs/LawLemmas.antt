@@ -201,7 +201,7 @@ equal_books w is i j below there same =
     equal_counters (account_at w i) (account_at w j) (sound.family.sound i below) (sound.family.sound j there) same
 
 -- the problem of a record, as each site reads it
-problem_here : (w : World) (i r : ℕ) → IsSoundWorld w → i < w.layout.sites → problem_in (account_at w i).origin.layout r ≡ problem_in w.layout r
+pub problem_here : (w : World) (i r : ℕ) → IsSoundWorld w → i < w.layout.sites → problem_in (account_at w i).origin.layout r ≡ problem_in w.layout r
 problem_here w i r sound below = ap (λ records. problem_in (record { sites = 0; records = records }) r) (sound.family.same_records i below)
 
 pub none_read : (w : World) → IsReachedWorld w → (i r h s : ℕ) → i < w.layout.sites → problem_in w.layout r ≡ 2 → known (account_at w i) r s Fin < known (account_at w i) r s Ann → world_reply w (Call i (Read r h)) ≢ Core Admitted

@@ -1,13 +1,15 @@
 -- What a world that stands for a world of the model promises of its running sites.
-use Rattle.std.proofs.Common.{◌≡◌, ◌≢◌, ℕ, ◌+◌, ◌-◌, ◌<◌, ◌≤◌, ◌⊎◌, inl, inr, Bool, true, false, cond, eqb, ltb, List, [], ◌∷◌, length, get_or, Option, Some, None, refl, sym, ap, subst, ◌∙◌, arith}
+use Rattle.std.proofs.Common.{◌≡◌, ◌≢◌, ℕ, ◌+◌, ◌-◌, ◌<◌, ◌≤◌, ◌⊎◌, inl, inr, Bool, true, false, cond, eqb, ltb, List, [], ◌∷◌, length, get_or, map, Option, Some, None, refl, sym, ap, subst, ◌∙◌, arith}
 use Rattle.std.specs.Prelude.{slice_get}
-use Rattle.std.proofs.lemmas.Bool.{cases_eq, cond-true, cond-false, ltb-true}
+use Rattle.std.proofs.lemmas.Bool.{cases_eq, cond-true, cond-false, ltb-true, lt-ltb}
 use Rattle.std.proofs.lemmas.Option.{get_or_from_slice_get, slice_get_within}
 use Rattle.merge_core.specs.declared.cell.Cell.{Cell}
 use Rattle.merge_core.specs.declared.cell.Cell.TheVariants.{Out, Ann, Fin}
 use Rattle.merge_core.specs.Delta.{DeltaState}
-use Rattle.merge_core.specs.Layout.{LayoutState}
-use Rattle.merge_core.specs.Book.{counter_of}
+use Rattle.merge_core.specs.Layout.{LayoutState, Shape, record_shape}
+use Rattle.merge_core.specs.Naming.{ReachesUnit}
+use Rattle.merge_core.specs.Book.{BookState, IsBook, book_shape, counter_of}
+use Rattle.merge_core.proofs.SameLemmas.{same_from_names}
 use Rattle.merge_core.specs.Sums.{total, total_others}
 use Rattle.merge_core.proofs.SumLemmas.{total_same, total_others_same}
 use Rattle.session_list.specs.declared.session.Phase.{Phase}
@@ -18,16 +20,17 @@ use Rattle.admission_model.specs.declared.ask.Ask.{Ask}
 use Rattle.admission_model.specs.declared.ask.Ask.TheVariants.{Read, Announce, Quill, Leave, Give, Help}
 use Rattle.admission_model.specs.declared.ask.Call.TheVariants.{Ask as AskCall, Merge}
 use Rattle.admission_model.specs.declared.reply.Refusal.{Refusal}
-use Rattle.admission_model.specs.declared.reply.Refusal.TheVariants.{OtherLayout, BadRow, OwnRowAhead}
+use Rattle.admission_model.specs.declared.reply.Refusal.TheVariants.{OtherLayout, BadRow, OwnRowAhead, WriterAnnounced}
 use Rattle.admission_model.specs.declared.reply.Reply.{Reply}
 use Rattle.admission_model.specs.declared.reply.Reply.TheVariants.{Admitted, Merged, Refused}
 use Rattle.admission_model.specs.Account.{Account, inside, own, phase_of, sessions_of, seats_in, session_total, weight}
 use Rattle.admission_model.specs.Knowledge.{known}
-use Rattle.admission_model.specs.Laws.{SourcesAgree}
+use Rattle.admission_model.specs.Laws.{SourcesAgree, IsFirstUnfinished, MayAsk}
 use Rattle.admission_model.specs.View.{View, view_of, rights_of, gained, spent, problem_in}
 use Rattle.admission_model.specs.Replies.{Line, first_reason, ask_lines}
 use Rattle.admission_model.specs.Serving.{reply_of, reason}
 use Rattle.admission_model.proofs.CounterLemmas.{known_own}
+use Rattle.admission_model.proofs.ReaderLemmas.{reader_held}
 use Rattle.admission_model.proofs.ReasonLemmas.{reason_told}
 use Rattle.admission_model.proofs.StandsLemmas.{same_view}
 use Rattle.admission_core.specs.Core.{Core as SiteState, Stands, core_view}
@@ -38,9 +41,9 @@ use Rattle.multi_site_world.specs.declared.event.WorldReply.{WorldReply}
 use Rattle.multi_site_world.specs.declared.event.WorldReply.TheVariants.{Core, Sent, Restarted, Grown, NoSite, NoMessage, NoGrowth}
 use Rattle.multi_site_world.specs.World.{World, account_at, happens, place_of, world_reply, reply_here, reply_taken, thin_message}
 use Rattle.multi_site_world.specs.Laws.{IsReachedWorld, IsInside, IsConserved, KnowsAllSites, IsMergedReply, IsOtherLayoutReply, in_flight, all_rights, all_inside, all_in_flight}
-use Rattle.multi_site_world.specs.Worlds.{WorldState, StandsForWorld, IsWorldState, IsStep, is_wanting, stepped}
-use Rattle.multi_site_world.specs.Safe.{AreCores, IsSafe, IsSafeWorld, IsLawful, IsLawfulStep, SharesSeats, rights_together, seats_together, seats_between}
-use Rattle.multi_site_world.proofs.LawLemmas.{conservation, exclusion, equal_books, none_read, run_layout, message_answered, thin_answered, message_merged, thin_merged}
+use Rattle.multi_site_world.specs.Worlds.{WorldState, StandsForWorld, IsWorldState, IsStep, is_wanting, stepped, refused_by, certain_here, certain_reply}
+use Rattle.multi_site_world.specs.Safe.{AreCores, IsSafe, IsSafeWorld, IsLawful, IsLawfulStep, HasEqualBooks, SharesSeats, rights_together, seats_together, seats_between}
+use Rattle.multi_site_world.proofs.LawLemmas.{conservation, exclusion, equal_books, problem_here, none_read, run_layout, message_answered, thin_answered, message_merged, thin_merged}
 use Rattle.multi_site_world.proofs.EventLemmas.{sound_reached}
 use Rattle.multi_site_world.proofs.StepLaws.{announced_stays, finished_stays}
 
@@ -121,6 +124,47 @@ shares m w at are stands r = subst (λ (l : LayoutState). SharesSeats l at r) (s
           subst (λ (v : View). spent v r ≤ gained v r) (sym (shown_at m w at are stands i (there i below))) (law.never_below i below);
     }
 
+-- books with equal counters are equal
+equal_by_counters : (x y : BookState) → IsBook x → IsBook y → book_shape y ≡ book_shape x → ((r s : ℕ) (cell : Cell) → counter_of x r s cell ≡ counter_of y r s cell) → x ≡ y
+equal_by_counters x y is_x is_y shape same =
+    same_from_names x y is_x is_y shape
+    (λ r s cell k. (
+      subst (λ (n : ℕ). ReachesUnit n k) (same r s cell),
+      subst (λ (n : ℕ). ReachesUnit n k) (sym (same r s cell)),
+    ))
+
+-- the records that a core's book is of
+records_shown : (m : World) (w : WorldState) (at : ℕ → SiteState) → AreCores w at → StandsForWorld m w → (i : ℕ) → i < length w.cores → (book_shape (at i).book).records ≡ map record_shape m.layout.records
+records_shown m w at are stands i below =
+    let core = core_at m w at are stands i below in
+    ap (λ (shape : Shape). shape.records) (sym core.shape)
+    ∙ (ap (λ (l : LayoutState). map record_shape l.records) core.shows.layout
+    ∙ ap (map record_shape) ((sound_reached m stands.reached).family.same_records i (omega (arith, below, count_of m w stands))))
+
+-- sites that know the same units have equal books
+pub equal_books_of : (m : World) (w : WorldState) → StandsForWorld m w → HasEqualBooks w
+equal_books_of m w stands = λ at are n for i j below other same.
+    let one = core_at n w at are for i below in
+    let two = core_at n w at are for j other in
+    let counters : (r s : ℕ) (cell : Cell) → counter_of (at i).book r s cell ≡ counter_of (at j).book r s cell =
+    λ r s cell.
+    one.shows.counters r s cell
+    ∙ (equal_books n for.reached i j (omega (arith, below, count_of n w for)) (omega (arith, other, count_of n w for)) same r s cell
+    ∙ sym (two.shows.counters r s cell)) in
+    let records : (book_shape (at j).book).records ≡ (book_shape (at i).book).records =
+    records_shown n w at are for j other ∙ sym (records_shown n w at are for i below) in
+    record {
+      counters = counters;
+      equal = λ sites. equal_by_counters (at i).book (at j).book one.book two.book (λ k. record { sites = sym sites k; records = records k }) counters;
+      widened = λ x y is_x is_y wide_x wide_y.
+          equal_by_counters x y is_x is_y (wide_y.shape ∙ sym wide_x.shape)
+          (λ r s cell. wide_x.counters r s cell ∙ (counters r s cell ∙ sym (wide_y.counters r s cell)));
+    }
+
+-- each world does
+pub equal_books_world : (w : WorldState) → IsWorldState w → HasEqualBooks w
+equal_books_world w is = equal_books_of is.model w is.stands
+
 -- a world that stands for a world of the model is safe
 pub safe_of : (m : World) (w : WorldState) → StandsForWorld m w → IsSafeWorld w
 safe_of m w stands = λ at are. record {
@@ -129,10 +173,6 @@ safe_of m w stands = λ at are. record {
       exclusion m stands.reached r i j h k (omega (arith, below, count_of m w stands)) (omega (arith, other, count_of m w stands))
       (sym ((core_at m w at are stands i below).shows.phases r h) ∙ writer)
       (subst IsInside ((core_at m w at are stands j other).shows.phases r k) also);
-  equal_books = λ n for i j below other same r s cell.
-      (core_at n w at are for i below).shows.counters r s cell
-      ∙ (equal_books n for.reached i j (omega (arith, below, count_of n w for)) (omega (arith, other, count_of n w for)) same r s cell
-      ∙ sym ((core_at n w at are for j other).shows.counters r s cell));
 }
 
 -- each world does
@@ -300,6 +340,7 @@ lawful old new event reply is step = λ before after are become. record {
       none_read m reached i r h s (omega (arith, below, count)) (subst (λ (l : LayoutState). problem_in l r ≡ 2) stands.layout second)
       (shown_less before are i below r s unfinished)
       (subst (λ (x : Event). world_reply m x ≡ Core Admitted) read (sym (answered (not_wanting reply Admitted admitted)) ∙ admitted));
+  announced_named = λ i r h s below read second may first. named before are i r h s below read second may first;
   announced_kept = λ i r s below. kept before after are become i below r s Ann (stays i r s Ann (announced_stays m event i r s));
   finished_kept = λ i r s below. kept before after are become i below r s Fin (stays i r s Fin (finished_stays m event i r s));
   none_ahead = λ r e. absurd (no_ahead r (delta (OwnRowAhead r) refl e).layout);
@@ -324,6 +365,21 @@ lawful old new event reply is step = λ before after are become. record {
 
     answered : is_wanting reply ≡ false → reply ≡ world_reply m event
     answered wanting = step.answered wanting m stands
+
+    named : (at : ℕ → SiteState) → AreCores old at → (i r h s : ℕ) → i < length old.cores → event ≡ Call i (Read r h) → problem_in old.layout r ≡ 2 → MayAsk (core_view (at i)) r h → IsFirstUnfinished (core_view (at i)) r s → reply ≡ Core (Refused (WriterAnnounced s))
+    named at are i r h s below read second may first =
+        let v = view_of (account_at m i) in
+        let shown : core_view (at i) ≡ v = shown_at m old at are stands i below in
+        let sound = sound_reached m reached in
+        let there : i < m.layout.sites = omega (arith, below, count) in
+        let two : problem_in v.layout r ≡ 2 = problem_here m i r sound there ∙ subst (λ (l : LayoutState). problem_in l r ≡ 2) stands.layout second in
+        let told : reply_of v (AskCall (Read r h)) ≡ Refused (WriterAnnounced s) =
+        reader_held v r h s two (subst (λ (u : View). MayAsk u r h) shown may) (subst (λ (u : View). IsFirstUnfinished u r s) shown first) in
+        let sure : certain_reply m (Call i (Read r h)) ≡ Some (Core (Refused (WriterAnnounced s))) =
+        cond-true (ltb i (length m.sites)) (certain_here m (Call i (Read r h))) (Some NoSite) (lt-ltb i (length m.sites) (omega (arith, there, sound.number)))
+        ∙ ap refused_by (reason_told v (AskCall (Read r h)) (WriterAnnounced s) told) in
+        step.certain (Core (Refused (WriterAnnounced s))) m stands
+        (subst (λ (x : Event). certain_reply m x ≡ Some (Core (Refused (WriterAnnounced s)))) (sym read) sure)
 
     delta : (x : Refusal) → is_of_delta x ≡ true → reply ≡ Core (Refused x) → IsRefusedDelta m event x
     delta x of_delta e = refused_delta m event x reached of_delta (sym (answered (not_wanting reply (Refused x) e)) ∙ e)

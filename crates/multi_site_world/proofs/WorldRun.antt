@@ -6,6 +6,7 @@ use Rattle.multi_site_world.specs.declared.event.Event.{Event}
 use Rattle.multi_site_world.specs.declared.event.WorldReply.{WorldReply}
 use Rattle.multi_site_world.specs.World.{World, happens, run, world_reply, replies}
 use Rattle.multi_site_world.specs.Worlds.{WorldState, StandsForWorld, IsStep, IsRun, is_wanting, served_events, served_replies}
+use Rattle.multi_site_world.specs.Safe.{IsSoundStep, AreSoundSteps}
 use Rattle.multi_site_world.proofs.WorldCode.{run_more}
 
 -- one more at the end of a list of which the first may be left out
@@ -76,3 +77,10 @@ run_step start events event w new answers reply is step = at (is_wanting reply) 
               (cond-false (is_wanting reply) (run served start) (happens (run served start) event) e ∙ sym (run_more served event start))
               (step.world (run served start) is.world));
         }
+
+-- one more event at the end of sound ones
+pub sound_more : (events : List Event) (old w new : WorldState) (event : Event) (answers : List WorldReply) (reply : WorldReply) → AreSoundSteps old events answers w → IsSoundStep w new event reply → AreSoundSteps old (events ++ event ∷ []) (answers ++ reply ∷ []) new
+sound_more [] old w new event [] reply same step = (new, subst (λ (x : WorldState). IsSoundStep x new event reply) (sym same) step, refl)
+sound_more [] old w new event (r ∷ rs) reply none step = absurd none
+sound_more (e ∷ es) old w new event [] reply none step = absurd none
+sound_more (e ∷ es) old w new event (r ∷ rs) reply steps step = (steps.0, steps.1, sound_more es steps.0 w new event rs reply steps.2 step)

@@ -104,17 +104,20 @@ pub record IsStepHere (old new : WorldState) (event : Event) (reply : WorldReply
 abbrev pub MayBeFirst : ℕ → LayoutState → Type 0
 MayBeFirst first layout = (first ≡ layout.sites) ⊎ ((first < layout.sites) × (layout_fault first layout.records ≡ None))
 
--- the answer to a number of first sites: their layout, or that there is none
+-- why there is no world of so many first sites; out of memory never stands in place of the other cause
+abbrev pub IsNoFirst : ℕ → LayoutState → GrowthError → Type 0
+IsNoFirst first layout BadGrowth = ¬ MayBeFirst first layout
+IsNoFirst first layout NoRoom = MayBeFirst first layout
+
+-- the answer to a number of first sites: their layout, or why there is none
 abbrev pub IsFirstLayout : ℕ → LayoutState → Result LayoutState GrowthError → Type 0
 IsFirstLayout first layout (Ok earlier) = MayBeFirst first layout × (earlier ≡ at_sites first layout)
-IsFirstLayout first layout (Err BadGrowth) = ¬ MayBeFirst first layout
-IsFirstLayout first layout (Err NoRoom) = Unit {0}
+IsFirstLayout first layout (Err e) = IsNoFirst first layout e
 
--- the answer to a number of first sites: the world before any event, or that there is no such layout
+-- the answer to a number of first sites: the world before any event, or why there is none
 abbrev pub IsBegun : ℕ → LayoutState → Result WorldState GrowthError → Type 0
 IsBegun first layout (Ok w) = MayBeFirst first layout × StandsForWorld (start_world first layout) w
-IsBegun first layout (Err BadGrowth) = ¬ MayBeFirst first layout
-IsBegun first layout (Err NoRoom) = Unit {0}
+IsBegun first layout (Err e) = IsNoFirst first layout e
 
 -- the events that were not answered want of memory
 abbrev pub served_events : List Event → List WorldReply → List Event

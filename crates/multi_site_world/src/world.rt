@@ -39,12 +39,13 @@ impl World {
     ghost use Rattle.multi_site_world.specs.declared.event.Event.TheVariants.{Call, Send, Take, Thin, Restart, Grow};
     ghost use Rattle.multi_site_world.specs.World.{place_of, start_world};
     ghost use Rattle.multi_site_world.specs.Worlds.{StandsForWorld, IsWorldState, IsBegun, IsStep, IsStepHere};
-    ghost use Rattle.multi_site_world.specs.Safe.{IsSafeWorld, IsLawfulStep};
+    ghost use Rattle.multi_site_world.specs.Safe.{IsSafeWorld, HasEqualBooks, IsLawfulStep};
 
     /// The world before any event; all sites know one another.
     pub fn new(alloc: Global, layout: Layout) -> Result<World, AllocError>
         ensures begun { IfOk result (λ w. StandsForWorld (start_world layout.sites layout) w) }
         ensures safe { IfOk result (λ w. IsSafeWorld w) }
+        ensures equal_books { IfOk result (λ w. HasEqualBooks w) }
     {
         let whole = layout.try_copy(alloc)?;
         World::begun(alloc, &whole, layout)
@@ -52,10 +53,11 @@ impl World {
 
     /// The world before any event, where the first sites begin under an earlier layout with as many sites, and
     /// know no other site until they grow. Refused with `BadGrowth` unless `first` is the layout's number of
-    /// sites, or fewer under which the same records are a layout.
+    /// sites, or fewer under which the same records are a layout; that is judged before memory is taken.
     pub fn grown(alloc: Global, layout: Layout, first: u16) -> Result<World, GrowthError>
         ensures begun { IsBegun first layout result }
         ensures safe { IfOk result (λ w. IsSafeWorld w) }
+        ensures equal_books { IfOk result (λ w. HasEqualBooks w) }
     {
         let earlier = first_layout(alloc, &layout, first)?;
         let world = World::begun(alloc, &earlier, layout)?;
@@ -68,6 +70,7 @@ impl World {
         requires few { earlier.now.sites ≤ layout.sites }
         ensures begun { IfOk result (λ w. StandsForWorld (start_world earlier.now.sites layout) w) }
         ensures safe { IfOk result (λ w. IsSafeWorld w) }
+        ensures equal_books { IfOk result (λ w. HasEqualBooks w) }
     {
         let sites = first_cores(alloc, earlier, &layout)?;
         Ok(World {
@@ -128,6 +131,7 @@ impl World {
         ensures step { IsStep self.old self.new event.now result }
         ensures layout { self.new.layout ≡ self.old.layout }
         ensures safe { IsSafeWorld self.new }
+        ensures equal_books { HasEqualBooks self.new }
         ensures lawful { IsLawfulStep self.old self.new event.now result }
     {
         if usize::from(place_of(*event)) >= self.sites.len() {
@@ -234,10 +238,9 @@ impl World {
 }
 
 ghost use Rattle.std.specs.Prelude.{◌≡◌, IfOk, MatchResult};
-ghost use Rattle.multi_site_world.specs.declared.growth.GrowthError.TheVariants.{BadGrowth};
 ghost use Rattle.multi_site_world.specs.World.{World as ModelWorld, start_world};
-ghost use Rattle.multi_site_world.specs.Worlds.{MayBeFirst, StandsForWorld, IsRun};
-ghost use Rattle.multi_site_world.specs.Safe.{IsSafeWorld};
+ghost use Rattle.multi_site_world.specs.Worlds.{MayBeFirst, IsNoFirst, StandsForWorld, IsRun};
+ghost use Rattle.multi_site_world.specs.Safe.{IsSafeWorld, HasEqualBooks, AreSoundSteps, IsSoundRun};
 
 /// What all events lead to, from sites that all know one another: the world, and a reply for each event.
 pub fn run_world(
@@ -247,6 +250,7 @@ pub fn run_world(
 ) -> Result<(World, Vec<WorldReply>), AllocError>
     ensures run { IfOk result (λ p. IsRun (start_world layout.sites layout) events.now p.0 p.1.items) }
     ensures safe { IfOk result (λ p. IsSafeWorld p.0) }
+    ensures steps { IfOk result (λ p. IsSoundRun (start_world layout.sites layout) events.now p.1.items p.0) }
 {
     let mut world = World::new(alloc, layout)?;
     let replies = run(alloc, &mut world, events)?;
@@ -262,8 +266,9 @@ pub fn run_grown(
 ) -> Result<(World, Vec<WorldReply>), GrowthError>
     ensures run { MatchResult result
         (λ p. MayBeFirst first layout × IsRun (start_world first layout) events.now p.0 p.1.items)
-        (λ e. e ≡ BadGrowth → ¬ MayBeFirst first layout) }
+        (λ e. IsNoFirst first layout e) }
     ensures safe { IfOk result (λ p. IsSafeWorld p.0) }
+    ensures steps { IfOk result (λ p. IsSoundRun (start_world first layout) events.now p.1.items p.0) }
 {
     let mut world = World::grown(alloc, layout, first)?;
     let replies = run(alloc, &mut world, events)?;
@@ -273,6 +278,7 @@ pub fn run_grown(
 // The events happen one after the other, each with its reply.
 fn run(alloc: Global, world: &mut World, events: &[Event]) -> Result<Vec<WorldReply>, AllocError>
     requires { IsSafeWorld world.old }
+    ensures steps { IfOk result (λ replies. AreSoundSteps world.old events.now replies.items world.new) }
     ensures run { IfOk result (λ replies. (m : ModelWorld) → StandsForWorld m world.old → IsRun m events.now world.new replies.items) }
     ensures safe { IsSafeWorld world.new }
 {

@@ -47,12 +47,12 @@ pub record WritesStop (m : World) (records : List RecordSpec) (lines : List (Lis
   pub unread : event_in records line ≡ None
   pub written : Writes old new (reply_lines (replies events m) ++ unread_line (length before + 1))
 
--- What was written for a script, by the status. Nothing is said of it where memory ran out or a write failed; and a
--- failed write is told where the sink met a fault, and there alone.
+-- What was written for a script, by the status. Without memory nothing was written. Nothing is said of it where a write
+-- failed, which is told where the sink met a fault, and there alone.
 abbrev pub AnswersScript : World → List RecordSpec → Bool → List ℕ → SinkState → SinkState → Status → Type 0
 AnswersScript m records tables bytes old new Done = WritesPlay m records tables (lines_of bytes) old new
 AnswersScript m records tables bytes old new Refused = WritesStop m records (lines_of bytes) old new
-AnswersScript m records tables bytes old new Memory = new.fault ≡ old.fault
+AnswersScript m records tables bytes old new Memory = new ≡ old
 AnswersScript m records tables bytes old new Io = HasFault new.fault
 AnswersScript m records tables bytes old new Usage = ⊥
 AnswersScript m records tables bytes old new (NoLayout fault) = ⊥
@@ -61,8 +61,8 @@ AnswersScript m records tables bytes old new Fault = ⊥
 
 -- The whole engine: the first sites have a layout, the bytes read are all that the source had, within the limit, and
 -- their answer was written; or there are more, and that refusal alone was written; or the first sites have none, and
--- nothing was read or written; or memory, a read or a write failed. In each case the source lost at most one byte
--- past the limit. An engine has no word for wrong arguments or a store.
+-- nothing was read or written; or memory, a read or a write failed. Without memory nothing was written. In each case the
+-- source lost at most one byte past the limit. An engine has no word for wrong arguments or a store.
 abbrev pub EndsPlay : LayoutState → Option ℕ → Bool → SourceState → SourceState → SinkState → SinkState → Status → Type 0
 EndsPlay layout first tables source source_after sink sink_after Done =
     MayBeFirst (first_sites first layout) layout × ((bytes : List ℕ) × ReadsInput source source_after (Ok bytes)
@@ -72,7 +72,7 @@ EndsPlay layout first tables source source_after sink sink_after Refused =
     × WritesStop (start_world (first_sites first layout) layout) layout.records (lines_of bytes) sink sink_after)
     ⊎ (ReadsInput source source_after (Err TooLong) × Writes sink sink_after too_long_text))
 EndsPlay layout first tables source source_after sink sink_after Memory =
-    LosesSome source source_after (input_limit + 1) × LacksMemory source.fault source_after.fault × (sink_after.fault ≡ sink.fault)
+    LosesSome source source_after (input_limit + 1) × LacksMemory source.fault source_after.fault × (sink_after ≡ sink)
 EndsPlay layout first tables source source_after sink sink_after Io =
     LosesSome source source_after (input_limit + 1) × (IsFailure source_after.fault ⊎ HasFault sink_after.fault)
 EndsPlay layout first tables source source_after sink sink_after Usage = ⊥

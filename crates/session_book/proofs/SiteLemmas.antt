@@ -1,8 +1,9 @@
 -- A site that was opened, and one that is closed.
-use Rattle.std.proofs.Common.{◌≡◌, ◌≢◌, ℕ, Bool, true, false, List, [], ◌∷◌, length, refl, sym, ap, subst, ◌∙◌, arith}
+use Rattle.std.proofs.Common.{◌≡◌, ◌≢◌, ℕ, ◌⊎◌, inl, inr, Bool, true, false, List, [], ◌∷◌, length, refl, sym, ap, subst, ◌∙◌, arith}
 use Rattle.std.specs.Prelude.{All, IsTrue, ◌↔◌}
-use Rattle.merge_core.specs.Layout.{LayoutState}
+use Rattle.merge_core.specs.Layout.{LayoutState, IsLayout}
 use Rattle.admission_model.specs.Account.{Account}
+use Rattle.admission_model.specs.Restoring.{AreCells, AreSessions}
 use Rattle.admission_core.specs.Kept.{DurableState}
 use Rattle.durable_keeper.specs.declared.keeper.Keeper.{Ghosts}
 use Rattle.desk_log.specs.declared.entry.Entry.{Entry}
@@ -12,7 +13,7 @@ use Rattle.desk_log.specs.Desk.{DeskState, IsFresh, IsMadeFor, Leaves, first_acc
 use Rattle.session_book.specs.declared.error.CloseError.{CloseError}
 use Rattle.session_book.specs.declared.error.CloseError.TheVariants.{PassMissing, Mismatch, Memory}
 use Rattle.session_book.specs.Passes.{PassState}
-use Rattle.session_book.specs.Sites.{SiteState, IsNewSite, IsSameOpening, IsRunOf, KeepsOf, AreAll, BearsOut, IsClosed, IsCloseFault}
+use Rattle.session_book.specs.Sites.{SiteState, IsSite, IsAstray, IsNewSite, IsSameOpening, IsRunOf, KeepsOf, AreAll, BearsOut, IsClosed, IsCloseFault}
 
 -- the site of a desk that was opened
 pub new_site : {K : Type 0} (g : Ghosts K) (keeper : K) (layout : LayoutState) (i passes limit : ℕ) (d : DeskState K) (l : LayoutState) (first : DurableState) → IsFresh g keeper layout i limit d → l ≡ d.core.layout → first ≡ d.log.first → IsNewSite g keeper layout i passes limit (record { layout = l; site = i; first = first; limit = limit; passes = passes })
@@ -37,13 +38,15 @@ leaves_of g k a b es fs same_account same_entries leaves =
     (subst (λ (x : Account). Leaves g (ends_in_fault false es) k (account_after x es) (account_tried x es)) same_account leaves)
 
 -- the run of a site whose desk is that of its opening, and the keeper that the desk gives back
-pub closed : {K : Type 0} (g : Ghosts K) (was_kept : DurableState → Type 0) (s : SiteState) (ps : List PassState) (d : DeskState K) (run : Run) (k : K) → IsSameOpening d s.layout s.site s.first s.limit → All (BearsOut s.limit d.log.entries) ps → AreAll s.passes ps → IsRunOf d ps run → IsMadeFor g k d.core.layout d.core.site → KeepsOf g was_kept d k → IsClosed g was_kept s ps (record { site = s.site; runs = run ∷ [] }) k
-closed g was_kept s ps d run k opening each all is made keeps = record {
+pub closed : {K : Type 0} (g : Ghosts K) (was_kept : DurableState → Type 0) (parts : ℕ) (s : SiteState) → IsSite parts s → (ps : List PassState) (d : DeskState K) (run : Run) (k : K) → IsSameOpening d s.layout s.site s.first s.limit → All (BearsOut s.limit d.log.entries) ps → AreAll s.passes ps → IsRunOf d ps run → IsMadeFor g k d.core.layout d.core.site → KeepsOf g was_kept d k → IsClosed g was_kept s ps (record { site = s.site; runs = run ∷ [] }) k
+closed g was_kept parts s site ps d run k opening each all is made keeps = record {
   of_site = refl;
   run = run;
   one_run = refl;
   sites = is.sites ∙ ap (λ (l : LayoutState). l.sites) opening.of_layout;
   began = is.began ∙ opening.began;
+  cells = subst (λ (e : DurableState). AreCells s.layout s.site e.cells) (sym (is.began ∙ opening.began)) site.cells;
+  sessions = subst (λ (e : DurableState). AreSessions s.layout s.site e.cells e.sessions) (sym (is.began ∙ opening.began)) site.sessions;
   legal = subst (λ (es : List Entry). IsLegal (begun s.layout s.site s.first) es) (sym is.has_entries)
       (subst (λ (a : Account). IsLegal a d.log.entries) (λ k. begun (opening.of_layout k) (opening.of_site k) (opening.began k)) is.legal);
   within = omega (arith, ap length is.has_entries, is.within, opening.places);
@@ -57,6 +60,16 @@ closed g was_kept s ps d run k opening each all is made keeps = record {
   found = λ e was honest. sym opening.began ∙ keeps.found e was honest;
 }
 
+-- a site that a desk was opened for
+pub is_site : {K : Type 0} (g : Ghosts K) (keeper : K) (layout : LayoutState) (i passes limit parts : ℕ) (s : SiteState) → passes ≡ parts → IsLayout layout → IsNewSite g keeper layout i passes limit s → IsSite parts s
+is_site g keeper layout i passes limit parts s same is new = record {
+  as_many = new.as_many ∙ same;
+  layout = subst IsLayout (sym new.of_layout) is;
+  cells = subst (λ (l : LayoutState). AreCells l s.site s.first.cells) (sym new.of_layout) (subst (λ (k : ℕ). AreCells layout k s.first.cells) (sym new.of_site) new.cells);
+  sessions = subst (λ (l : LayoutState). AreSessions l s.site s.first.cells s.first.sessions) (sym new.of_layout)
+      (subst (λ (k : ℕ). AreSessions layout k s.first.cells s.first.sessions) (sym new.of_site) new.sessions);
+}
+
 -- what a test tells of all passes
 pub all_there : (b : Bool) (n m : ℕ) (xs ys : List PassState) → (IsTrue b ↔ AreAll n xs) → n ≡ m → xs ≡ ys → b ≡ true → AreAll m ys
 all_there b n m xs ys told same_count same is = subst (λ (k : ℕ). AreAll k ys) same_count (subst (AreAll n) same (told.0 is))
@@ -65,8 +78,25 @@ pub some_missing : (b : Bool) (n m : ℕ) (xs ys : List PassState) → (IsTrue b
 some_missing b n m xs ys told same_count same is = λ all.
     let both : false ≡ true = sym is ∙ told.1 (subst (λ (k : ℕ). AreAll k xs) (sym same_count) (subst (AreAll m) (sym same) all)) in cc
 
+-- what a closing found: the log of the opening, which is legal, does not bear out a pass; or a desk of another opening
+abbrev pub FindsAstray : {K : Type 0} → SiteState → List PassState → DeskState K → ℕ → ℕ → Type 0
+FindsAstray s ps d pass at =
+    (IsSameOpening d s.layout s.site s.first s.limit × IsLegal (first_account d) d.log.entries × IsAstray s.limit d.log.entries ps pass at)
+    ⊎ ((pass ≡ length ps) × (at ≡ 0))
+
+mismatched : {K : Type 0} (s : SiteState) (ps : List PassState) (d : DeskState K) (pass at : ℕ) → AreAll s.passes ps → FindsAstray s ps d pass at → IsCloseFault s ps (Mismatch pass at)
+mismatched s ps d pass at all (inl (opening, legal, astray)) = (
+  all,
+  inl record {
+    entries = d.log.entries;
+    legal = subst (λ (a : Account). IsLegal a d.log.entries) (λ k. begun (opening.of_layout k) (opening.of_site k) (opening.began k)) legal;
+    astray = astray;
+  },
+)
+mismatched s ps d pass at all (inr (no_pass, none)) = (all, inr (no_pass ∙ all.as_many, none))
+
 -- a refusal that came after the passes were counted
-pub refused : (passes : ℕ) (ps : List PassState) (e : CloseError) → e ≢ PassMissing → AreAll passes ps → IsCloseFault passes ps e
-refused passes ps PassMissing other all = absurd (other refl)
-refused passes ps (Mismatch pass at) other all = all
-refused passes ps Memory other all = all
+pub refused : {K : Type 0} (s : SiteState) (ps : List PassState) (d : DeskState K) (e : CloseError) → e ≢ PassMissing → ((pass at : ℕ) → e ≡ Mismatch pass at → FindsAstray s ps d pass at) → AreAll s.passes ps → IsCloseFault s ps e
+refused s ps d PassMissing other told all = absurd (other refl)
+refused s ps d (Mismatch pass at) other told all = mismatched s ps d pass at all (told pass at refl)
+refused s ps d Memory other told all = all

@@ -1,8 +1,8 @@
 -- A site behind its lock, as contracts see it, and what closing it tells.
-use Rattle.std.specs.Prelude.{◌≡◌, ℕ, ◌<◌, ◌≤◌, ◌==◌, Bool, true, false, List, [], ◌∷◌, ◌++◌, length, slice_index_or, All, IsTrue, Result, Ok, Err, Vec, zero, suc}
+use Rattle.std.specs.Prelude.{◌≡◌, ℕ, ◌<◌, ◌≤◌, ◌==◌, ◌⊎◌, Bool, true, false, List, [], ◌∷◌, ◌++◌, length, slice_index_or, All, IsTrue, Result, Ok, Err, Vec, zero, suc}
 use Rattle.std.specs.Global.{Global}
 use Rattle.std.specs.List.{list_any}
-use Rattle.merge_core.specs.Layout.{LayoutState}
+use Rattle.merge_core.specs.Layout.{LayoutState, IsLayout}
 use Rattle.admission_model.specs.Restoring.{AreCells, AreSessions}
 use Rattle.admission_core.specs.Kept.{DurableState}
 use Rattle.durable_keeper.specs.declared.keeper.Keeper.{Ghosts}
@@ -24,6 +24,14 @@ pub record SiteState : Type 0 where
   pub first : DurableState
   pub limit : ℕ
   pub passes : ℕ
+
+-- Every site: its layout is one, and it began with cells and sessions of this site that agree. It gave out a pass for
+-- each part of its ledger.
+pub record IsSite (parts : ℕ) (s : SiteState) : Type 0 where
+  pub as_many : s.passes ≡ parts
+  pub layout : IsLayout s.layout
+  pub cells : AreCells s.layout s.site s.first.cells
+  pub sessions : AreSessions s.layout s.site s.first.cells s.first.sessions
 
 -- the passes that an opening gives out, numbered from 0
 abbrev pub new_passes : ℕ → List PassState
@@ -125,7 +133,7 @@ module _ {K : Type 0} where
     pub within : length d.log.entries ≤ d.log.limit
     pub count : length d.log.entries ≡ receipts_in ps
 
--- A closed site leaves one run from what it began with. The run is legal and has as many entries as all passes have
+-- A closed site leaves one run from what it began with, cells and sessions that agree. The run is legal and has as many entries as all passes have
 -- receipts, and it bears each pass out. The keeper is made for the site. Where it kept at the opening what the run began
 -- with, a crash leaves the durable part of the run's account, and where the run ends in the store's fault that or the one
 -- where the call in doubt was kept; and while its device is honest, it kept nothing else at the opening.
@@ -135,6 +143,8 @@ pub record IsClosed {K : Type 0} (g : Ghosts K) (was_kept : DurableState → Typ
   pub one_run : t.runs ≡ run ∷ []
   pub sites : run.sites ≡ s.layout.sites
   pub began : run.first ≡ s.first
+  pub cells : AreCells s.layout s.site run.first.cells
+  pub sessions : AreSessions s.layout s.site run.first.cells run.first.sessions
   pub legal : IsLegal (begun s.layout s.site s.first) run.entries
   pub within : length run.entries ≤ s.limit
   pub all : AreAll s.passes ps
@@ -144,13 +154,20 @@ pub record IsClosed {K : Type 0} (g : Ghosts K) (was_kept : DurableState → Typ
   pub kept : was_kept s.first → Leaves g (ends_in_fault false run.entries) k (account_after (begun s.layout s.site s.first) run.entries) (account_tried (begun s.layout s.site s.first) run.entries)
   pub found : (e : DurableState) → was_kept e → g.is_honest k → s.first ≡ e
 
--- what is wrong with a closing: a pass is missing, or all are there and something else is wrong
-abbrev pub IsCloseFault : ℕ → List PassState → CloseError → Type 0
-IsCloseFault passes ps PassMissing = ¬ AreAll passes ps
-IsCloseFault passes ps (Mismatch pass at) = AreAll passes ps
-IsCloseFault passes ps Memory = AreAll passes ps
+-- a legal log of the opening does not bear out the pass with this number, from this place on
+pub record IsLogAstray (s : SiteState) (ps : List PassState) (pass at : ℕ) : Type 0 where
+  pub entries : List Entry
+  pub legal : IsLegal (begun s.layout s.site s.first) entries
+  pub astray : IsAstray s.limit entries ps pass at
+
+-- What is wrong with a closing: a pass is missing; or all are there, and the log under the lock does not bear out the
+-- pass that is named, or, where that number is no pass's, is of another opening; or memory ran out.
+abbrev pub IsCloseFault : SiteState → List PassState → CloseError → Type 0
+IsCloseFault s ps PassMissing = ¬ AreAll s.passes ps
+IsCloseFault s ps (Mismatch pass at) = AreAll s.passes ps × (IsLogAstray s ps pass at ⊎ ((pass ≡ s.passes) × (at ≡ 0)))
+IsCloseFault s ps Memory = AreAll s.passes ps
 
 -- the answer to a closing: a transcript and the keeper, or what is wrong, with the site and the passes
 abbrev pub IsClosing : {K : Type 0} → Ghosts K → (DurableState → Type 0) → SiteState → Vec PassState Global → Result (Transcript × K) (CloseError × SiteState × Vec PassState Global) → Type 0
 IsClosing g was_kept s ps (Ok (t, k)) = IsClosed g was_kept s ps.items t k
-IsClosing g was_kept s ps (Err (e, back, passes)) = IsCloseFault s.passes ps.items e × (back ≡ s) × (passes ≡ ps)
+IsClosing g was_kept s ps (Err (e, back, passes)) = IsCloseFault s ps.items e × (back ≡ s) × (passes ≡ ps)

@@ -27,16 +27,15 @@ pub struct Site<K: Keeper, L: Opening> {
     locked: Mutex<Locked<K, L>>,
 }
 
-// Contracts see what the site was opened with. It gave out a pass for each part of its ledger.
+// Contracts see what the site was opened with.
 impl<K: Keeper, L: Opening> Model for Site<K, L> {
-    ghost use Rattle.std.specs.Prelude.{◌≡◌};
-    ghost use Rattle.session_book.specs.Sites.{SiteState};
+    ghost use Rattle.session_book.specs.Sites.{SiteState, IsSite};
 
     ghost Value = { SiteState };
 
     ghost view = { λ s. record { layout = s.layout; site = s.site; first = s.first; limit = s.limit; passes = s.passes } };
 
-    ghost invariant = { λ s. s.passes ≡ L.parts };
+    ghost invariant = { λ s. IsSite L.parts (record { layout = s.layout; site = s.site; first = s.first; limit = s.limit; passes = s.passes }) };
 }
 
 impl<K: Keeper + Drop, L: Opening> Drop for Site<K, L> {
@@ -116,9 +115,10 @@ impl<K: Keeper, L: Opening> Site<K, L> {
         self.site
     }
 
-    /// The number of records. Takes no lock.
+    /// The number of records, of which there is at least one. Takes no lock.
     pub fn records(&self) -> u16
-        ensures { result ≡ length self.now.layout.records }
+        ensures records { result ≡ length self.now.layout.records }
+        ensures some { 1 ≤ result }
     {
         self.layout.records().len() as u16
     }
@@ -157,7 +157,8 @@ impl<K: Keeper, L: Opening> Site<K, L> {
 
     /// Ends the opening: the transcript of its one run, and the keeper as it is. All passes that `open` gave out are
     /// handed in, in any order. Refused, in this order: `PassMissing`, where a number is missing or stands twice;
-    /// `Mismatch`, where the log does not have a pass's receipts in their order, or does not bear out a mark; `Memory`.
+    /// `Mismatch`, where the log does not have a pass's receipts in their order, or does not bear out a mark, with the
+    /// first such pass and place; `Memory`.
     /// With each refusal the site and the passes are handed back. Linear in the log for each pass.
     pub fn close<R: Wait>(
         self,

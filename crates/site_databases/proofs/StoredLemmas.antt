@@ -57,8 +57,8 @@ ran g layout i keeper back source source_after sink sink_after Fault there (byte
     (there, (bytes, read, some_stopped g layout i keeper back _ sink sink_after w))
 ran g layout i keeper back source source_after sink sink_after (NoStore refusal) there (unfit, kept, unread, silent) = (there, unread, silent)
 ran g layout i keeper back source source_after sink sink_after (NoLayout fault) there (is, none, same, unread, silent) = absurd (none there)
-ran g layout i keeper back source source_after sink sink_after Memory there ended = ended
-ran g layout i keeper back source source_after sink sink_after Io there ended = ended
+ran g layout i keeper back source source_after sink sink_after Memory there (loses, lacks, silent, kept) = (loses, lacks, silent)
+ran g layout i keeper back source source_after sink sink_after Io there (loses, failed, kept) = (loses, failed)
 ran g layout i keeper back source source_after sink sink_after Usage there ended = absurd ended
 
 -- a source that was not read lost nothing

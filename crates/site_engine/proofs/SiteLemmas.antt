@@ -1,19 +1,20 @@
 -- From the opening of a desk to the end of the engine.
-use Rattle.std.proofs.Common.{◌≡◌, ℕ, Bool, true, false, List, inl, inr, refl, sym, ap, ◌∙◌, subst}
+use Rattle.std.proofs.Common.{◌≡◌, ℕ, ◌⊎◌, Bool, true, false, List, inl, inr, refl, sym, ap, ◌∙◌, subst}
+use Rattle.std.proofs.lemmas.Bool.{cases_Bool}
 use Rattle.merge_core.specs.declared.layout.RecordSpec.{RecordSpec}
 use Rattle.merge_core.specs.Layout.{LayoutState}
 use Rattle.admission_model.specs.Account.{Account}
-use Rattle.admission_core.specs.Kept.{DurableState}
+use Rattle.admission_core.specs.Kept.{DurableState, durable_of}
 use Rattle.durable_keeper.specs.declared.keeper.Keeper.{Ghosts}
 use Rattle.desk_log.specs.Log.{begun}
 use Rattle.desk_log.specs.Desk.{DeskState, IsFresh, KeepsOn, Leaves, account_of, account_if_kept, is_frozen}
-use Rattle.site_script.specs.Served.{SameOpening, Serves, Stops, places_of}
+use Rattle.site_script.specs.Served.{SameOpening, Serves, ServesFront, Stops, places_of}
 use Rattle.text_input.specs.Source.{SourceState}
 use Rattle.text_input.specs.Sink.{SinkState}
 use Rattle.exit_status.specs.declared.status.Status.{Status}
 use Rattle.exit_status.specs.declared.status.Status.TheVariants.{Done, Usage, NoLayout, NoStore, Fault, Refused, Memory, Io}
-use Rattle.site_engine.specs.Sites.{Began, EndsSite, WritesServed, WritesStopped, log_places}
-use Rattle.site_engine.specs.SiteSteps.{ServesInput, WritesAnswers, WritesFault}
+use Rattle.site_engine.specs.Sites.{Began, EndsSite, KeepsSome, ServesSome, WritesServed, WritesStopped, log_places}
+use Rattle.site_engine.specs.SiteSteps.{ServesInput, ServesLost, WritesAnswers, WritesFault}
 
 -- what is known of a desk from its opening to its end, and of the keeper that it gives back
 pub record Worked {K : Type 0} (g : Ghosts K) (layout : LayoutState) (i : ℕ) (keeper back : K) (opened desk : DeskState K) : Type 0 where
@@ -97,6 +98,39 @@ unused : {K : Type 0} (g : Ghosts K) (layout : LayoutState) (i : ℕ) (keeper ba
 unused g layout i keeper back opened desk w same =
     subst (λ (k : _). KeepsOn g keeper k) (sym (w.keeper_is ∙ ap (λ (d : _). d.keeper) same)) w.fresh.keeps_on
 
+-- what some of the first lines leave
+front_kept : {K : Type 0} (g : Ghosts K) (layout : LayoutState) (i : ℕ) (keeper back : K) (opened desk : DeskState K) (lines : List (List ℕ))
+    → Worked g layout i keeper back opened desk → ServesFront opened desk lines → ServesSome g layout i keeper back lines
+front_kept g layout i keeper back opened desk lines w some = record {
+  first = opened.log.first;
+  began = began g layout i keeper back opened desk w;
+  front = some.front;
+  behind = some.behind;
+  split = some.split;
+  text = some.text;
+  account = account_of desk;
+  tried = account_if_kept desk;
+  left = at (cases_Bool (is_frozen desk));
+}
+  where
+    at : (is_frozen desk ≡ true) ⊎ (is_frozen desk ≡ false)
+        → (Serves (begun layout i opened.log.first) log_places layout.records some.front true some.text (account_of desk) × (g.keeps keeper opened.log.first → g.keeps back (durable_of (account_of desk))))
+        ⊎ (Stops (begun layout i opened.log.first) log_places layout.records some.front true some.text (account_of desk) (account_if_kept desk)
+        × (g.keeps keeper opened.log.first → g.keeps_either back (durable_of (account_of desk)) (durable_of (account_if_kept desk))))
+    at (inl frozen) = inr (
+      from_first g layout i keeper opened (λ b n rs. Stops b n rs some.front true some.text (account_of desk) (account_if_kept desk)) w.fresh (some.stopped frozen),
+      λ kept. subst (λ (b : Bool). Leaves g b back (account_of desk) (account_if_kept desk)) frozen (left g layout i keeper back opened desk w kept),
+    )
+    at (inr runs) = inl (
+      from_first g layout i keeper opened (λ b n rs. Serves b n rs some.front true some.text (account_of desk)) w.fresh (some.served runs),
+      λ kept. subst (λ (b : Bool). Leaves g b back (account_of desk) (account_if_kept desk)) runs (left g layout i keeper back opened desk w kept),
+    )
+
+some_kept : {K : Type 0} (g : Ghosts K) (layout : LayoutState) (i : ℕ) (keeper back : K) (opened desk : DeskState K) (source source_after : SourceState)
+    → Worked g layout i keeper back opened desk → ServesLost opened desk source source_after → KeepsSome g layout i keeper back source source_after
+some_kept g layout i keeper back opened desk source source_after w (inl same) = inl (unused g layout i keeper back opened desk w same)
+some_kept g layout i keeper back opened desk source source_after w (inr (bytes, read, front)) = inr (bytes, read, front_kept g layout i keeper back opened desk _ w front)
+
 pub ends_site : {K : Type 0} (g : Ghosts K) (layout : LayoutState) (i : ℕ) (keeper back : K) (opened desk : DeskState K)
     (source source_after : SourceState) (sink sink_after : SinkState) (status : Status) → Worked g layout i keeper back opened desk
     → ServesInput opened desk source source_after sink sink_after status
@@ -109,8 +143,10 @@ ends_site g layout i keeper back opened desk source source_after sink sink_after
     inr (read, written, unused g layout i keeper back opened desk w same)
 ends_site g layout i keeper back opened desk source source_after sink sink_after Fault w (bytes, read, a) =
     (bytes, read, stopped g layout i keeper back opened desk _ sink sink_after w a)
-ends_site g layout i keeper back opened desk source source_after sink sink_after Memory w ended = ended
-ends_site g layout i keeper back opened desk source source_after sink sink_after Io w ended = ended
+ends_site g layout i keeper back opened desk source source_after sink sink_after Memory w (loses, lacks, silent, lost) =
+    (loses, lacks, silent, some_kept g layout i keeper back opened desk source source_after w lost)
+ends_site g layout i keeper back opened desk source source_after sink sink_after Io w (loses, failed, lost) =
+    (loses, failed, some_kept g layout i keeper back opened desk source source_after w lost)
 ends_site g layout i keeper back opened desk source source_after sink sink_after Usage w ended = absurd ended
 ends_site g layout i keeper back opened desk source source_after sink sink_after (NoLayout fault) w ended = absurd ended
 ends_site g layout i keeper back opened desk source source_after sink sink_after (NoStore refusal) w ended = absurd ended

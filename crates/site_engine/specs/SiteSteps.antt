@@ -3,7 +3,7 @@ use Rattle.std.specs.Prelude.{◌≡◌, ℕ, ◌+◌, ◌⊎◌, Bool, true, fa
 use Rattle.desk_log.specs.declared.error.OpenError.{OpenError}
 use Rattle.desk_log.specs.declared.error.OpenError.TheVariants as opening
 use Rattle.desk_log.specs.Desk.{DeskState, account_of, account_if_kept, is_frozen}
-use Rattle.site_script.specs.Served.{Serves, Stops, places_of}
+use Rattle.site_script.specs.Served.{Serves, ServesFront, Stops, places_of}
 use Rattle.text_input.specs.declared.input.InputError.TheVariants.{TooLong}
 use Rattle.text_input.specs.Input.{ReadsInput, LosesSome, input_limit}
 use Rattle.text_input.specs.Lines.{lines_of}
@@ -46,11 +46,17 @@ module _ {K : Type 0} where
   AnswersLines old new bytes sink sink_after Done = WritesAnswers old new (lines_of bytes) true sink sink_after
   AnswersLines old new bytes sink sink_after Refused = WritesAnswers old new (lines_of bytes) false sink sink_after
   AnswersLines old new bytes sink sink_after Fault = WritesFault old new (lines_of bytes) sink sink_after
-  AnswersLines old new bytes sink sink_after Memory = sink_after.fault ≡ sink.fault
-  AnswersLines old new bytes sink sink_after Io = HasFault sink_after.fault
+  AnswersLines old new bytes sink sink_after Memory = (sink_after ≡ sink) × ServesFront old new (lines_of bytes)
+  AnswersLines old new bytes sink sink_after Io = HasFault sink_after.fault × ServesFront old new (lines_of bytes)
   AnswersLines old new bytes sink sink_after Usage = ⊥
   AnswersLines old new bytes sink sink_after (NoLayout fault) = ⊥
   AnswersLines old new bytes sink sink_after (NoStore refusal) = ⊥
+
+  -- Where memory, a read or a write failed: the desk is as it was, or the input was read and some of its first lines
+  -- were served.
+  abbrev pub ServesLost : DeskState K → DeskState K → SourceState → SourceState → Type 0
+  ServesLost old new source source_after =
+      (new ≡ old) ⊎ ((bytes : List ℕ) × ReadsInput source source_after (Ok bytes) × ServesFront old new (lines_of bytes))
 
   -- the same with the reading of the input: where it is too long, the desk serves nothing
   abbrev pub ServesInput : DeskState K → DeskState K → SourceState → SourceState → SinkState → SinkState → Status → Type 0
@@ -62,9 +68,11 @@ module _ {K : Type 0} where
   ServesInput old new source source_after sink sink_after Fault =
       (bytes : List ℕ) × ReadsInput source source_after (Ok bytes) × WritesFault old new (lines_of bytes) sink sink_after
   ServesInput old new source source_after sink sink_after Memory =
-      LosesSome source source_after (input_limit + 1) × LacksMemory source.fault source_after.fault × (sink_after.fault ≡ sink.fault)
+      LosesSome source source_after (input_limit + 1) × LacksMemory source.fault source_after.fault × (sink_after ≡ sink)
+      × ServesLost old new source source_after
   ServesInput old new source source_after sink sink_after Io =
       LosesSome source source_after (input_limit + 1) × (IsFailure source_after.fault ⊎ HasFault sink_after.fault)
+      × ServesLost old new source source_after
   ServesInput old new source source_after sink sink_after Usage = ⊥
   ServesInput old new source source_after sink sink_after (NoLayout fault) = ⊥
   ServesInput old new source source_after sink sink_after (NoStore refusal) = ⊥

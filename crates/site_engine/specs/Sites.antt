@@ -1,5 +1,5 @@
 -- What the engine of `site` did, by the status that it ended with.
-use Rattle.std.specs.Prelude.{◌≡◌, ℕ, ◌<◌, ◌+◌, ◌⊎◌, Bool, true, false, List, Ok, Err}
+use Rattle.std.specs.Prelude.{◌≡◌, ℕ, ◌<◌, ◌+◌, ◌⊎◌, ◌++◌, Bool, true, false, List, Ok, Err}
 use Rattle.merge_core.specs.Layout.{LayoutState}
 use Rattle.admission_model.specs.Account.{Account}
 use Rattle.admission_model.specs.Restoring.{AreCells, AreSessions}
@@ -56,6 +56,30 @@ module _ {K : Type 0} where
     pub written : Writes old new text
     pub kept : g.keeps keeper first → g.keeps_either keeper_after (durable_of account) (durable_of tried)
 
+  -- Some of the first lines were served, though their answers were not all written: what is then kept is the durable
+  -- part of the account after them, or, where the store failed at one of them, that or the one of the account after the
+  -- call that was answered with the store's fault.
+  pub record ServesSome (g : Ghosts K) (layout : LayoutState) (i : ℕ) (keeper keeper_after : K) (lines : List (List ℕ)) : Type 0 where
+    pub first : DurableState
+    pub began : Began g layout i keeper keeper_after first
+    pub front : List (List ℕ)
+    pub behind : List (List ℕ)
+    pub split : lines ≡ front ++ behind
+    pub text : List ℕ
+    pub account : Account
+    pub tried : Account
+    pub left :
+        (Serves (begun layout i first) log_places layout.records front true text account × (g.keeps keeper first → g.keeps keeper_after (durable_of account)))
+        ⊎ (Stops (begun layout i first) log_places layout.records front true text account tried
+        × (g.keeps keeper first → g.keeps_either keeper_after (durable_of account) (durable_of tried)))
+
+  -- What is kept where memory, a read or a write failed: what was kept before, or, once the input was read, what some of
+  -- its first lines leave.
+  abbrev pub KeepsSome : Ghosts K → LayoutState → ℕ → K → K → SourceState → SourceState → Type 0
+  KeepsSome g layout i keeper keeper_after source source_after =
+      KeepsOn g keeper keeper_after
+      ⊎ ((bytes : List ℕ) × ReadsInput source source_after (Ok bytes) × ServesSome g layout i keeper keeper_after (lines_of bytes))
+
   -- why what is kept begins no site: it can't be given back, or has counters or sessions that are no site's
   abbrev pub IsUnfit : Ghosts K → LayoutState → ℕ → K → K → StoreRefusal → Type 0
   IsUnfit g layout i keeper keeper_after StoreFault = g.faults_of keeper_after ≡ 1
@@ -68,8 +92,9 @@ module _ {K : Type 0} where
 
   -- The whole engine: the bytes read are all that the source had, within the limit, and their lines were served; or
   -- there are more, that refusal alone was written, and what was kept is kept; or what is kept begins no site, or there
-  -- is no such site, and nothing was read or written; or memory, a read or a write failed. In each case the source lost
-  -- at most one byte past the limit. An engine has no word for wrong arguments.
+  -- is no such site, and nothing was read or written; or memory, a read or a write failed, and what is kept is what some
+  -- of the first lines leave; without memory nothing was written. In each case the source lost at most one byte past the
+  -- limit. An engine has no word for wrong arguments.
   abbrev pub EndsSite : Ghosts K → LayoutState → ℕ → K → K → SourceState → SourceState → SinkState → SinkState → Status → Type 0
   EndsSite g layout i keeper keeper_after source source_after sink sink_after Done =
       (bytes : List ℕ) × ReadsInput source source_after (Ok bytes)
@@ -86,7 +111,9 @@ module _ {K : Type 0} where
   EndsSite g layout i keeper keeper_after source source_after sink sink_after (NoLayout fault) =
       (fault ≡ NoSite) × (¬ (i < layout.sites)) × (keeper_after ≡ keeper) × (source_after ≡ source) × (sink_after ≡ sink)
   EndsSite g layout i keeper keeper_after source source_after sink sink_after Memory =
-      LosesSome source source_after (input_limit + 1) × LacksMemory source.fault source_after.fault × (sink_after.fault ≡ sink.fault)
+      LosesSome source source_after (input_limit + 1) × LacksMemory source.fault source_after.fault × (sink_after ≡ sink)
+      × KeepsSome g layout i keeper keeper_after source source_after
   EndsSite g layout i keeper keeper_after source source_after sink sink_after Io =
       LosesSome source source_after (input_limit + 1) × (IsFailure source_after.fault ⊎ HasFault sink_after.fault)
+      × KeepsSome g layout i keeper keeper_after source source_after
   EndsSite g layout i keeper keeper_after source source_after sink sink_after Usage = ⊥

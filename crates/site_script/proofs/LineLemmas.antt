@@ -1,8 +1,11 @@
 -- One line more of a script.
-use Rattle.std.proofs.Common.{◌≡◌, ℕ, ◌+◌, Bool, true, false, Option, Some, List, [], ◌∷◌, ◌++◌, sym, ap, subst, ◌∙◌, append_assoc, length-append}
+use Rattle.std.proofs.Common.{◌≡◌, ℕ, ◌+◌, ◌⊎◌, inl, inr, Bool, true, false, Option, Some, Result, Ok, Err, List, [], ◌∷◌, ◌++◌, sym, ap, subst, ◌∙◌, append_assoc, append-nil, length-append}
+use Rattle.std.proofs.lemmas.Bool.{cases_Bool}
 use Rattle.std.specs.List.{AllByRecursion}
+use Rattle.std.specs.Result.{IfErr}
 use Rattle.merge_core.specs.Layout.{LayoutState}
 use Rattle.merge_core.specs.declared.layout.RecordSpec.{RecordSpec}
+use Rattle.admission_model.specs.declared.ask.Call.{Call}
 use Rattle.admission_model.specs.Account.{Account}
 use Rattle.text_input.specs.Lines.{lines_of}
 use Rattle.script_text.specs.Replies.{unread_line}
@@ -10,10 +13,10 @@ use Rattle.desk_log.specs.declared.entry.Entry.{Entry}
 use Rattle.desk_log.specs.Desk.{DeskState, account_of, account_if_kept, is_frozen}
 use Rattle.delta_codec.specs.declared.fault.DecodeError.{DecodeError}
 use Rattle.site_script.specs.declared.lines.Said.{Said}
-use Rattle.site_script.specs.declared.lines.Said.TheVariants.{Unread}
+use Rattle.site_script.specs.declared.lines.Said.TheVariants.{Asked, Unread}
 use Rattle.site_script.specs.Lines.{Says}
-use Rattle.site_script.specs.Served.{no_delta_line, AreSaid, AnswersAll, AnswersUpTo, Answers, IsServed, IsStopped, Serves, Stops, StaysStopped, frozen_answers, places_of, SameOpening, Grows}
-use Rattle.site_script.specs.Steps.{AnsweredAs, HasAnswered, AnsweredFrom, AnsweredSoFar, AnswersLine, AnswersNone, AnswersOne}
+use Rattle.site_script.specs.Served.{no_delta_line, AreSaid, AnswersAll, AnswersUpTo, Answers, IsServed, IsStopped, Serves, ServesFront, Stops, StaysStopped, frozen_answers, places_of, SameOpening, Grows}
+use Rattle.site_script.specs.Steps.{AnsweredAs, HasAnswered, AnsweredFrom, AnsweredSoFar, AnswersLine, AnswersNone, AnswersOne, LosesCall, LosesLine}
 use Rattle.site_script.proofs.StepLemmas.{unread_from}
 
 -- one line more that says something
@@ -149,3 +152,98 @@ grows_on pass c d e first second = record {
   grown = second.grown ∙ (ap (λ (es : List Entry). es ++ second.more) first.grown ∙ append_assoc c.log.entries first.more second.more);
   of_pass = both_of pass first.more second.more first.of_pass second.of_pass;
 }
+
+-- what holds whatever the error is
+pub if_err : {T E : Type 0} (Q : Type 0) (r : Result T E) → Q → IfErr r (λ _. Q)
+if_err Q (Ok x) q = tt
+if_err Q (Err e) q = q
+
+-- a line whose call's answer was lost
+pub line_of_lost : (A B : List Said → List ℕ → Type 0) (records : List RecordSpec) (line old : List ℕ) (call : Call) → Says records line (Some (Asked call)) → LosesCall A B call old → LosesLine A B records line old
+line_of_lost A B records line old call says (inl same) = inl same
+line_of_lost A B records line old call says (inr (new, one)) = inr (new, record { said = Asked call; read = says; answered = one })
+
+-- what a desk has served is some of the first lines
+front_of : {K : Type 0} (s e : DeskState K) (lines rest : List (List ℕ)) (number : ℕ) (text : List ℕ) → is_frozen s ≡ false
+    → AnsweredSoFar (AnsweredFrom (is_frozen s) (account_of s) (places_of s) e) s.core.layout.records lines rest number text → ServesFront s e lines
+front_of s e lines rest number text ran so_far = record {
+  front = so_far.before;
+  behind = rest;
+  split = so_far.split;
+  text = text;
+  served = λ runs. all_served (is_frozen s) (account_of s) (places_of s) e s.core.layout.records so_far.before true text so_far.answers ran runs;
+  stopped = λ frozen. all_stopped (is_frozen s) (account_of s) (places_of s) e s.core.layout.records so_far.before true text so_far.answers ran frozen;
+}
+
+-- a script that ended at a line whose answer was lost
+pub line_lost : {K : Type 0} (s d e : DeskState K) (lines : List (List ℕ)) (rest line tail : List ℕ) (number : ℕ) (old : List ℕ)
+    → AnsweredSoFar (AnsweredFrom (is_frozen s) (account_of s) (places_of s) d) s.core.layout.records lines (lines_of rest) number old
+    → d.core.layout ≡ s.core.layout → lines_of rest ≡ line ∷ lines_of tail
+    → ((was : Bool) (a : Account) (left : ℕ) → LosesLine (AnsweredFrom was a left d) (AnsweredFrom was a left e) d.core.layout.records line old)
+    → is_frozen s ≡ false → ServesFront s e lines
+line_lost {K} s d e lines rest line tail number old so_far same cut lost ran = at this
+  where
+    Before : List Said → List ℕ → Type 0
+    Before = AnsweredFrom (is_frozen s) (account_of s) (places_of s) d
+
+    Behind : List Said → List ℕ → Type 0
+    Behind = AnsweredFrom (is_frozen s) (account_of s) (places_of s) e
+
+    come : AnsweredSoFar Before s.core.layout.records lines (line ∷ lines_of tail) number old
+    come = subst (λ (ls : List (List ℕ)). AnsweredSoFar Before s.core.layout.records lines ls number old) cut so_far
+
+    this : LosesLine Before Behind s.core.layout.records line old
+    this = subst (λ (l : LayoutState). LosesLine Before Behind l.records line old) same (lost (is_frozen s) (account_of s) (places_of s))
+
+    at : LosesLine Before Behind s.core.layout.records line old → ServesFront s e lines
+    at (inl stays) =
+        front_of s e lines (line ∷ lines_of tail) number old ran
+        (record {
+          before = come.before;
+          split = come.split;
+          counted = come.counted;
+          answers = record { said = come.answers.said; read = come.answers.read; answered = stays come.answers.said come.answers.answered };
+        })
+    at (inr (new, one)) =
+        front_of s e lines (lines_of tail) (number + 1) new ran
+        (line_answered Before Behind s.core.layout.records lines (lines_of tail) line number old new come one)
+
+-- what was answered of a whole script, or of the lines before one that says nothing
+pub front_answered : {K : Type 0} (s e : DeskState K) (lines : List (List ℕ)) (whole : Bool) (text : List ℕ)
+    → (is_frozen e ≡ false → Serves (account_of s) (places_of s) s.core.layout.records lines whole text (account_of e))
+    → (is_frozen e ≡ true → Stops (account_of s) (places_of s) s.core.layout.records lines whole text (account_of e) (account_if_kept e))
+    → ServesFront s e lines
+front_answered s e lines true text served stopped = record {
+  front = lines;
+  behind = [];
+  split = sym (append-nil lines);
+  text = text;
+  served = served;
+  stopped = stopped;
+}
+front_answered s e lines false text served stopped = at (cases_Bool (is_frozen e))
+  where
+    differ : true ≡ false → ⊥
+    differ e = cc
+
+    at : (is_frozen e ≡ true) ⊎ (is_frozen e ≡ false) → ServesFront s e lines
+    at (inl frozen) =
+        let to = stopped frozen in
+        record {
+          front = to.before;
+          behind = to.line ∷ to.behind;
+          split = to.split;
+          text = to.some;
+          served = λ runs. absurd (differ (sym frozen ∙ runs));
+          stopped = λ _. to.answers;
+        }
+    at (inr runs) =
+        let to = served runs in
+        record {
+          front = to.before;
+          behind = to.line ∷ to.behind;
+          split = to.split;
+          text = to.some;
+          served = λ _. to.answers;
+          stopped = λ frozen. absurd (differ (sym frozen ∙ runs));
+        }

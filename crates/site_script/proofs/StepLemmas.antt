@@ -12,14 +12,14 @@ use Rattle.admission_core.specs.Core.{is_memory}
 use Rattle.script_text.specs.Replies.{reply_text}
 use Rattle.durable_keeper.specs.declared.keeper.Keeper.{Ghosts}
 use Rattle.desk_log.specs.declared.entry.Entry.{Entry}
-use Rattle.desk_log.specs.Log.{LogState, is_fault, is_logged, ends_in_fault, begun, after_entry, account_after as log_account, IsInDoubt}
+use Rattle.desk_log.specs.Log.{LogState, is_fault, is_logged, ends_in_fault, begun, after_entry, account_after as log_account, account_tried, IsInDoubt}
 use Rattle.desk_log.specs.Desk.{DeskState, first_account, account_of, account_if_kept, is_frozen, IsOpen, IsServing}
 use Rattle.desk_log.proofs.ReplyLemmas.{fault_is, model_fault, model_logged}
 use Rattle.desk_log.proofs.LogLemmas.{ends-push, after-push, after_answered, after_doubted}
 use Rattle.site_script.specs.declared.lines.Said.{Said}
 use Rattle.site_script.specs.declared.lines.Said.TheVariants.{Asked, Unread}
 use Rattle.site_script.specs.Served.{no_delta_line, answers, account_after, places_after, frozen_answers, IsStopped, places_of, Grows}
-use Rattle.site_script.specs.Steps.{ServedAs, AnsweredAs, HasAnswered, AnsweredFrom}
+use Rattle.site_script.specs.Steps.{ServedAs, AnsweredAs, HasAnswered, AnsweredFrom, LosesCall}
 use Rattle.site_script.proofs.AnswerLemmas.{line_of, answers_more, account_more, places_more, frozen_more}
 use Rattle.delta_codec.specs.declared.fault.DecodeError.{DecodeError}
 
@@ -221,3 +221,50 @@ call_answered {K} g old new pass call reply is there text with_reply line first 
           ap (λ (t : List ℕ). t ++ line_of reply) so_far.1
               ∙ (ap (λ (r : Reply). frozen_answers said ++ line_of r) told.0 ∙ sym (frozen_more said (Asked call))),
         )
+
+memory_is : (reply : Reply) → is_memory reply ≡ true → reply ≡ Refused Memory
+memory_is (Refused Memory) e = refl
+memory_is other e = absurd (cc)
+
+-- a call that found no memory leaves what was answered
+pub call_unserved : {K : Type 0} (g : Ghosts K) (old new : DeskState K) (pass : ℕ) (call : Call) (reply : Reply) → IsServing g old new pass call reply → is_memory reply ≡ true
+    → (was : Bool) (a : Account) (left : ℕ) (said : List Said) (text : List ℕ) → AnsweredFrom was a left old said text → AnsweredFrom was a left new said text
+call_unserved {K} g old new pass call reply is memory was a left said text has = at was has
+  where
+    log : new.log ≡ old.log
+    log =
+        is.logged
+        ∙ cond-false (is_logged reply) (record old.log { entries = old.log.entries ++ record { pass = pass; call = call; reply = reply } ∷ [] }) old.log
+        (ap is_logged (memory_is reply memory))
+
+    frozen : is_frozen new ≡ is_frozen old
+    frozen = ap (λ (l : LogState). ends_in_fault false l.entries) log
+
+    account : account_of new ≡ account_of old
+    account = λ i. log_account (begun (is.layout i) (is.site i) (log i).first) (log i).entries
+
+    tried : account_if_kept new ≡ account_if_kept old
+    tried = λ i. account_tried (begun (is.layout i) (is.site i) (log i).first) (log i).entries
+
+    places : places_of new ≡ places_of old
+    places = ap (λ (l : LogState). l.limit - length l.entries) log
+
+    at : (b : Bool) → AnsweredFrom b a left old said text → AnsweredFrom b a left new said text
+    at false so_far =
+        subst (λ (f : Bool). AnsweredAs f a left (account_of new) (account_if_kept new) (places_of new) said text) (sym frozen)
+        (subst (λ (b : Account). AnsweredAs (is_frozen old) a left b (account_if_kept new) (places_of new) said text) (sym account)
+        (subst (λ (t : Account). AnsweredAs (is_frozen old) a left (account_of old) t (places_of new) said text) (sym tried)
+        (subst (λ (n : ℕ). AnsweredAs (is_frozen old) a left (account_of old) (account_if_kept old) n said text) (sym places) so_far)))
+    at true so_far = (frozen ∙ so_far.0, so_far.1)
+
+-- a call whose answer was lost
+pub call_lost : {K : Type 0} (g : Ghosts K) (old new : DeskState K) (pass : ℕ) (call : Call) (reply : Reply) → IsServing g old new pass call reply → (text : List ℕ)
+    → (was : Bool) (a : Account) (left : ℕ) → LosesCall (AnsweredFrom was a left old) (AnsweredFrom was a left new) call text
+call_lost g old new pass call reply is text was a left = at (cases_Bool (is_memory reply))
+  where
+    line : List ℕ
+    line = (text ++ reply_text reply) ++ codes "\n"
+
+    at : (is_memory reply ≡ true) ⊎ (is_memory reply ≡ false) → LosesCall (AnsweredFrom was a left old) (AnsweredFrom was a left new) call text
+    at (inl memory) = inl (λ said has. call_unserved g old new pass call reply is memory was a left said text has)
+    at (inr answered) = inr (line, λ said has. call_answered g old new pass call reply is answered text (text ++ reply_text reply) line refl refl was a left said has)

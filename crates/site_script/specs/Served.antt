@@ -12,7 +12,7 @@ use Rattle.delta_codec.specs.declared.fault.DecodeError.{DecodeError}
 use Rattle.delta_codec.specs.Decodes.{fault_name}
 use Rattle.script_text.specs.Replies.{reply_text, unread_line}
 use Rattle.desk_log.specs.declared.entry.Entry.{Entry}
-use Rattle.desk_log.specs.Desk.{DeskState}
+use Rattle.desk_log.specs.Desk.{DeskState, account_of, account_if_kept, is_frozen}
 use Rattle.site_script.specs.declared.lines.Said.{Said}
 use Rattle.site_script.specs.declared.lines.Said.TheVariants.{Asked, Unread}
 use Rattle.site_script.specs.Lines.{Says}
@@ -119,6 +119,16 @@ module _ {K : Type 0} where
     pub opened : new.opened ≡ old.opened
     pub first : new.log.first ≡ old.log.first
     pub limit : new.log.limit ≡ old.log.limit
+
+  -- What a desk has served of a script whose answers were lost: some of the first lines, each of which says something.
+  pub record ServesFront (old new : DeskState K) (lines : List (List ℕ)) : Type 0 where
+    pub front : List (List ℕ)
+    pub behind : List (List ℕ)
+    pub split : lines ≡ front ++ behind
+    pub text : List ℕ
+    pub served : is_frozen new ≡ false → Serves (account_of old) (places_of old) old.core.layout.records front true text (account_of new)
+    pub stopped : is_frozen new ≡ true
+        → Stops (account_of old) (places_of old) old.core.layout.records front true text (account_of new) (account_if_kept new)
 
   -- the log has grown by entries of this pass
   pub record Grows (pass : ℕ) (old new : DeskState K) : Type 0 where

@@ -1,10 +1,12 @@
 -- A script on the way: what was answered so far, and one line more (no public contract cites these).
-use Rattle.std.specs.Prelude.{◌≡◌, ℕ, Bool, true, false, List, [], ◌∷◌, ◌++◌, length, Some, None}
+use Rattle.std.specs.Prelude.{◌≡◌, ℕ, ◌⊎◌, Bool, true, false, List, [], ◌∷◌, ◌++◌, length, Some, None}
 use Rattle.merge_core.specs.declared.layout.RecordSpec.{RecordSpec}
+use Rattle.admission_model.specs.declared.ask.Call.{Call}
 use Rattle.admission_model.specs.Account.{Account}
 use Rattle.script_text.specs.Replies.{unread_line}
 use Rattle.desk_log.specs.Desk.{DeskState, account_of, account_if_kept, is_frozen}
 use Rattle.site_script.specs.declared.lines.Said.{Said}
+use Rattle.site_script.specs.declared.lines.Said.TheVariants.{Asked}
 use Rattle.site_script.specs.Lines.{Says}
 use Rattle.site_script.specs.Served.{places_after, places_of, frozen_answers, IsServed, IsStopped, AnswersAll}
 
@@ -49,3 +51,14 @@ pub record AnswersNone (A B : List Said → List ℕ → Type 0) (records : List
 abbrev pub AnswersOne : (List Said → List ℕ → Type 0) → (List Said → List ℕ → Type 0) → List RecordSpec → List ℕ → ℕ → Bool → List ℕ → List ℕ → Type 0
 AnswersOne A B records line number true old new = AnswersLine A B records line old new
 AnswersOne A B records line number false old new = AnswersNone A B records line number old new
+
+-- A call whose answer was lost: what was answered before stays so, or the call is answered as well.
+abbrev pub LosesCall : (List Said → List ℕ → Type 0) → (List Said → List ℕ → Type 0) → Call → List ℕ → Type 0
+LosesCall A B call old =
+    ((said : List Said) → A said old → B said old)
+    ⊎ ((new : List ℕ) × ((said : List Said) → A said old → B (said ++ Asked call ∷ []) new))
+
+-- the same of a line
+abbrev pub LosesLine : (List Said → List ℕ → Type 0) → (List Said → List ℕ → Type 0) → List RecordSpec → List ℕ → List ℕ → Type 0
+LosesLine A B records line old =
+    ((said : List Said) → A said old → B said old) ⊎ ((new : List ℕ) × AnswersLine A B records line old new)

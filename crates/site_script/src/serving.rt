@@ -1,13 +1,13 @@
 //! Carrying out a site's script: its lines are served one by one.
-ghost use Rattle.std.specs.Prelude.{◌≡◌, ◌++◌, ℕ, Bool, List, [], ◌∷◌, true, false, codes, string_bytes, IfOk};
+ghost use Rattle.std.specs.Prelude.{◌≡◌, ◌++◌, ℕ, Bool, List, [], ◌∷◌, true, false, codes, string_bytes, IfErr, IfOk};
 ghost use Rattle.admission_model.specs.Account.{Account};
 ghost use Rattle.admission_core.specs.Core.{is_memory};
 ghost use Rattle.text_input.specs.Lines.{lines_of};
 ghost use Rattle.desk_log.specs.Desk.{account_of, account_if_kept, is_frozen};
 ghost use Rattle.site_script.specs.declared.lines.Said.{Said as SaidThere};
 ghost use Rattle.site_script.specs.declared.lines.Said.TheVariants.{Asked};
-ghost use Rattle.site_script.specs.Served.{SameOpening, Grows, Serves, Stops, StaysStopped, no_delta_line, places_of};
-ghost use Rattle.site_script.specs.Steps.{AnsweredFrom, AnswersOne};
+ghost use Rattle.site_script.specs.Served.{SameOpening, Grows, Serves, ServesFront, Stops, StaysStopped, no_delta_line, places_of};
+ghost use Rattle.site_script.specs.Steps.{AnsweredFrom, AnswersOne, LosesCall, LosesLine};
 
 use crate::lines::{Said, said_in};
 use admission_core::{Call, Refusal, Reply};
@@ -29,7 +29,7 @@ pub struct Served {
 /// Carries out a script: each line is read, served by the desk in this pass and answered, up to the first that says
 /// nothing. A text that is no delta's is told, and reaches no desk. Where the log has no place left, a call is answered
 /// `LogFull`. After the store's fault the script goes on, and each call is answered `Frozen`. An error where memory ran
-/// out, for a reply `Memory` too; the desk is then the one after the lines so far.
+/// out, for a reply `Memory` too; the desk has then served the lines before that one, and perhaps that one.
 ///
 /// Linear in the script and in what its calls cost.
 pub fn serve_script<K: Keeper>(
@@ -48,6 +48,7 @@ pub fn serve_script<K: Keeper>(
         served.whole (string_bytes served.text) (account_of desk.new) (account_if_kept desk.new)) }
     ensures stays { IfOk result (λ served. is_frozen desk.old ≡ true
         → StaysStopped desk.old.core.layout.records (lines_of script.now) served.whole (string_bytes served.text)) }
+    ensures lost { IfErr result (λ _. is_frozen desk.old ≡ false → ServesFront desk.old desk.new (lines_of script.now)) }
     ensures still { is_frozen desk.old ≡ true → desk.new ≡ desk.old }
 {
     let mut text = String::new(alloc);
@@ -79,6 +80,8 @@ fn serve_line<K: Keeper>(
     ensures line { IfOk result (λ read. (was : Bool) (a : Account) (left : ℕ)
         → AnswersOne (AnsweredFrom was a left desk.old) (AnsweredFrom was a left desk.new) desk.old.core.layout.records
         line.now number read (string_bytes text.old) (string_bytes text.new)) }
+    ensures lost { IfErr result (λ _. (was : Bool) (a : Account) (left : ℕ)
+        → LosesLine (AnsweredFrom was a left desk.old) (AnsweredFrom was a left desk.new) desk.old.core.layout.records line.now (string_bytes text.old)) }
 {
     let Some(said) = said_in(alloc, desk.core().layout(), line)? else {
         push_unread_line(text, number)?;
@@ -104,6 +107,8 @@ fn answer_call<K: Keeper>(
     ensures answered { IfOk result (λ _. (was : Bool) (a : Account) (left : ℕ) (said : List SaidThere)
         → AnsweredFrom was a left desk.old said (string_bytes text.old)
         → AnsweredFrom was a left desk.new (said ++ Asked call.now ∷ []) (string_bytes text.new)) }
+    ensures lost { IfErr result (λ _. (was : Bool) (a : Account) (left : ℕ)
+        → LosesCall (AnsweredFrom was a left desk.old) (AnsweredFrom was a left desk.new) call.now (string_bytes text.old)) }
 {
     let reply = desk.serve(pass, call);
     if is_memory(&reply) {

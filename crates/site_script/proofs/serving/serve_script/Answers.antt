@@ -2,7 +2,7 @@ use Rattle.std.proofs.Common.{rules, ◌≡◌, true, false, string_bytes, arith
 use Rattle.text_input.specs.Lines.{lines_of}
 use Rattle.desk_log.specs.Desk.{account_of, is_frozen}
 use Rattle.site_script.specs.Served.{places_of}
-use Rattle.site_script.proofs.LineLemmas.{line_read, line_not_read, all_served, all_stopped, all_frozen, opening_kept, grows_on, stays_on}
+use Rattle.site_script.proofs.LineLemmas.{if_err, line_lost, line_read, line_not_read, all_served, all_stopped, all_frozen, opening_kept, grows_on, stays_on}
 use Rattle.site_script.proofs.serving.serve_script.Goals as goal
 
 pub returns-then-not-branch-clause-served : goal.returns-then-not-branch-clause-served
@@ -59,3 +59,9 @@ loop-rest-preserved g c =
       grown = grows_on c.args.pass s d e c.loop-rest.invariant.grown c.in_ok-serve_line.ensures.grown;
       counted = omega (arith, c.loop-rest.invariant.counted, c.cut_line.ensures.shorter);
     }
+
+pub returns-in_err-serve_line-clause-lost : goal.returns-in_err-serve_line-clause-lost
+returns-in_err-serve_line-clause-lost g c =
+    if_err _ c.from_residual.result
+    (line_lost c.args.desk.now c.loop-rest.desk c.serve_line.new.desk (lines_of c.args.script.now) c.loop-rest.rest.now c.cut_line.result.0.now c.cut_line.result.1.now
+    c.loop-rest.number (string_bytes c.loop-rest.text) c.loop-rest.invariant.so_far c.loop-rest.invariant.opening.layout c.cut_line.ensures.lines c.in_err-serve_line.ensures.lost)

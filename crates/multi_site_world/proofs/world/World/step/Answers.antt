@@ -2,7 +2,7 @@ use Rattle.std.proofs.Common.{◌<◌, ◌≤◌, length, subst, ap, arith}
 use Rattle.multi_site_world.specs.World.{place_of}
 use Rattle.multi_site_world.specs.Worlds.{WorldState, IsWorldState, IsStep, stepped}
 use Rattle.multi_site_world.proofs.WorldCode.{step_here, step_nowhere}
-use Rattle.multi_site_world.proofs.SafeLemmas.{safe_of, safe_world, same_layout, lawful}
+use Rattle.multi_site_world.proofs.SafeLemmas.{safe_of, safe_world, equal_books_of, equal_books_world, same_layout, lawful}
 use Rattle.multi_site_world.proofs.world.World.step.Goals.{Then-from-len, After-step_here}
 use Rattle.multi_site_world.proofs.world.World.step.Goals as goal
 
@@ -14,6 +14,9 @@ returns-then-from-len-clause-step c = step_nowhere c.args.self.now c.args.event.
 
 pub returns-then-from-len-clause-safe : goal.returns-then-from-len-clause-safe
 returns-then-from-len-clause-safe c = safe_world c.args.self.now (subst IsWorldState c.self.view_is c.self.invariant)
+
+pub returns-then-from-len-clause-equal_books : goal.returns-then-from-len-clause-equal_books
+returns-then-from-len-clause-equal_books c = equal_books_world c.args.self.now (subst IsWorldState c.self.view_is c.self.invariant)
 
 pub returns-then-from-len-clause-lawful : goal.returns-then-from-len-clause-lawful
 returns-then-from-len-clause-lawful c =
@@ -39,6 +42,12 @@ returns-clause-safe c =
     let is : IsWorldState c.args.self.now = subst IsWorldState c.self.view_is c.self.invariant in
     safe_of (stepped is.model c.args.event.now c.step_here.result) c.step_here.new.self
     ((is_step (goal.at.returns-clause-safe c).After-step_here).world is.model is.stands)
+
+pub returns-clause-equal_books : goal.returns-clause-equal_books
+returns-clause-equal_books c =
+    let is : IsWorldState c.args.self.now = subst IsWorldState c.self.view_is c.self.invariant in
+    equal_books_of (stepped is.model c.args.event.now c.step_here.result) c.step_here.new.self
+    ((is_step (goal.at.returns-clause-equal_books c).After-step_here).world is.model is.stands)
 
 pub returns-clause-lawful : goal.returns-clause-lawful
 returns-clause-lawful c =
