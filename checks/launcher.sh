@@ -42,15 +42,21 @@ plays() { # whether the script of the examples is answered as they say
     ./seat_cli play --tables --layout examples/three_sites.toml <examples/maintenance.script 2>"$work/errors" | cmp -s - examples/maintenance.txt
 }
 
+began=$(date +%s)
+examples/first_look.sh 2>/dev/null | awk 'NR <= 14 { print substr($0, 25); next } { print }' | cmp -s - examples/maintenance.txt
+tell $? "the README's first command prints examples/maintenance.txt, in $(($(date +%s) - began)) s"
+builds >/dev/null
 echo "building the program in $work/clone"
 plays
-tell $? "the README's first command builds the program and prints examples/maintenance.txt"
+tell $? "the README's second command builds the program and prints examples/maintenance.txt"
 [ "$(builds)" -le 2 ] && [ "$(wc -l <"$work/errors")" = 1 ] && grep -q "7 GB" "$work/errors"
 tell $? "the build is told in one line"
 checks/examples.sh >"$work/output" 2>&1 && [ "$(builds)" = 0 ]
 tell $? "every example prints what stands beside it, without a build"
+checks/guide.py >"$work/output" 2>&1 && [ "$(builds)" = 0 ]
+tell $? "the guide's commands print what it shows: $(tail -1 "$work/output")"
 printf 'read a 7\nsend\n' | ./seat_cli site --site 0 --store "$work/site_0.db" >"$work/output" 2>&1 && [ "$(head -1 "$work/output")" = admitted ]
-tell $? "the README's second command makes a store and lets a reader in"
+tell $? "the README's third command makes a store and lets a reader in"
 cat examples/site_1.deltas examples/site_0.deltas | joins && [ ! -s "$work/errors" ] && [ "$(builds)" = 0 ]
 tell $? "the deltas of the examples join to examples/joined.txt, without a build"
 cat examples/site_0.deltas examples/site_1.deltas examples/site_0.deltas | joins && [ ! -s "$work/errors" ] && [ "$(builds)" = 0 ]
@@ -73,21 +79,30 @@ chmod -R u+w "$work/clone"
 
 sleep 1
 touch README.md docs/*.md crates/*/must-fail/*.edit crates/*/planted/*.edit
-./seat_cli --version >/dev/null 2>&1 && [ "$(builds)" = 0 ]
+./seat_cli --version >/dev/null 2>"$work/errors" && [ ! -s "$work/errors" ] && [ "$(builds)" = 0 ]
 tell $? "a change of what the program does not stand on builds nothing"
 for source in crates/grow_counters/specs/Counts.antt crates/seat_cli/src/main.rt crates.txt; do
     sleep 1
     touch "$source"
-    ./seat_cli --version >/dev/null 2>&1 && [ "$(builds)" = 1 ] && ./seat_cli --version >/dev/null 2>&1 && [ "$(builds)" = 0 ]
-    tell $? "a change of $source builds once"
+    ./seat_cli --version 2>"$work/errors" | grep -q "^seat_cli " && [ "$(builds)" = 0 ] && grep -q -e "--build" "$work/errors"
+    tell $? "a change of $source is told, and the program that is there runs"
+    ./seat_cli --build >/dev/null 2>&1 && [ "$(builds)" = 1 ] && ./seat_cli --version >/dev/null 2>"$work/errors" && [ ! -s "$work/errors" ]
+    tell $? "--build builds it once"
 done
 sleep 1
+touch crates/seat_cli/src/main.rt
+./seat_cli --build >/dev/null 2>&1 &
+./seat_cli --build >/dev/null 2>&1 && wait $! && [ "$(builds)" = 1 ]
+tell $? "of two builds at once the second waits, and finds what the first one built"
+sleep 1
 echo 'fn broken(' >>crates/exit_status/src/status.rt
-./seat_cli --version >"$work/output" 2>"$work/errors"
+./seat_cli --build >"$work/output" 2>"$work/errors"
 [ $? = 1 ] && [ ! -s "$work/output" ] && grep -q "src/status.rt" "$work/errors" && tail -1 "$work/errors" | grep -q "could not be built"
 tell $? "a build that fails ends with 1 and shows its log"
+./seat_cli --version 2>/dev/null | grep -q "^seat_cli "
+tell $? "and the program that is there still runs"
 git checkout --quiet crates/exit_status/src/status.rt
-./seat_cli --version >"$work/output" 2>"$work/errors" && grep -q "^seat_cli " "$work/output"
+./seat_cli --build >"$work/output" 2>"$work/errors" && ./seat_cli --version | grep -q "^seat_cli "
 tell $? "the mended source builds again"
 
 ends() { # the exit status, standard output and standard error that are wanted; then arguments. Input is standard input

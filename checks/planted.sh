@@ -5,7 +5,8 @@
 #
 #     checks/planted.sh [CRATE ..]
 #
-# Without arguments: all crates, which takes hours. What was tried before, and has not changed since, is not tried again.
+# Without arguments: all crates, which takes hours. Libraries that `rt` has built in this tree, and whose sources have not
+# changed since, are taken along; others are built anew first.
 # The exit status is 1 where a body was not refused, could not be applied, or was not tried.
 set -eu
 cd "$(dirname "$0")/.."
@@ -20,6 +21,7 @@ for crate in crates/*/; do
     for part in src specs proofs must-fail planted; do
         [ -d "$crate$part" ] && cp -R "$crate$part" "$work/crates/$name/"
     done
+    if [ -f "${crate}out/rlib/stamp" ]; then mkdir "$work/crates/$name/out" && cp -R "${crate}out/rlib" "$work/crates/$name/out/"; fi
 done
 
 [ $# -gt 0 ] || set -- $(cd crates && ls -d */must-fail */planted 2>/dev/null | sed 's|/.*||' | sort -u)

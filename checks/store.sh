@@ -1,7 +1,7 @@
 #!/bin/sh
 # Reads a store that the program wrote with sqlite3, opens one that sqlite3 wrote from the documented tables, and runs the
-# command over files that are no stores, with inputs and outputs that fail, over a copy that was put back, and until it
-# is killed.
+# command over files that are no stores, with inputs and outputs that fail, over a copy that was put back, until it is
+# killed, and twice at once over one store.
 #
 #   checks/store.sh    needs sqlite3, and builds the program where it is not built
 #
@@ -116,18 +116,83 @@ printf 'give a 1 1\nsend\n' | site "$work/run" >"$work/out"
 [ "$(tr '\n' ';' <"$work/answers")" = "refused OwnRowAhead 0;admitted;" ]
 tell $? "a store that was put back does not take what it no longer knows, and goes on"
 
-# a run that is killed in the middle keeps what it was answered, and at most the call in hand beside it
+# runs of one call each, of which the last is killed: each call that was answered is kept, and at most the one in flight
+program=$top/crates/seat_cli/out/seat_cli
+one_call() { # the answer to one line of a site over a store, in the background
+    echo "$1" >"$work/line"
+    "$program" site --site 0 --store "$work/calls" <"$work/line" >>"$work/answered" 2>/dev/null &
+    pid=$!
+}
+kept=0 lost=0 wrong=0
+for delay in 0 0 0 0.001 0.001 0.002 0.002 0.004 0.004 0.006 0.008 0.01; do
+    rm -f "$work"/calls "$work"/calls-wal "$work/answered"
+    for n in 1 2 3 4 5; do
+        one_call "announce a $n"
+        wait "$pid"
+    done
+    one_call "announce a 6"
+    [ "$delay" = 0 ] || sleep "$delay"
+    kill -9 "$pid" 2>/dev/null
+    wait "$pid" 2>/dev/null
+    answered=$(grep -c '^announced' "$work/answered")
+    next=$(echo announce a 7 | site "$work/calls" 2>"$work/errors")
+    sound=$(sqlite3 "$work/calls" "PRAGMA integrity_check; SELECT n FROM cells WHERE slot = 201; SELECT count(*) FROM sessions" | tr '\n' ';')
+    if [ "$answered" -ge 5 ] && [ "$next" = "announced $((answered + 1))" ] && [ "$sound" = "ok;$((answered + 1));$((answered + 1));" ]; then
+        lost=$((lost + 1))
+    elif [ "$answered" = 5 ] && [ "$next" = "announced 7" ] && [ "$sound" = "ok;7;7;" ]; then
+        kept=$((kept + 1))
+    else
+        wrong=$((wrong + 1))
+    fi
+done
+[ "$wrong" = 0 ]
+tell $? "of 12 stores each call that was answered is kept; of the killed calls $kept were kept and not answered, $lost not, or answered too"
+
+# a run of many calls that is killed: what the run before it was answered is kept, and of its own calls the first ones, whole
 for delay in 0.02 0.05 0.1 0.2; do
     rm -f "$work"/killed "$work"/killed-wal
+    awk 'BEGIN { print "read a 99999"; for (n = 1; n <= 50; n++) print "announce a " n "\nleave a " n }' | site "$work/killed" >"$work/first"
     awk 'BEGIN { for (n = 1; n <= 60000; n++) print "announce a " n "\nleave a " n }' >"$work/long"
-    "$top/crates/seat_cli/out/seat_cli" site --site 0 --store "$work/killed" <"$work/long" >/dev/null 2>&1 &
+    "$program" site --site 0 --store "$work/killed" <"$work/long" >"$work/second" 2>/dev/null &
     pid=$!
     sleep "$delay"
     kill -9 "$pid" 2>/dev/null
     wait "$pid" 2>/dev/null
-    echo read a 1000000 | site "$work/killed" >"$work/out" 2>"$work/errors" && [ "$(cat "$work/out")" = admitted ] \
-        && [ "$(sqlite3 "$work/killed" 'PRAGMA integrity_check; SELECT count(*) < 3 FROM sessions; SELECT ifnull(max(n) - min(n), 0) < 2 FROM cells WHERE slot > 200' | tr '\n' ';')" = "ok;1;1;" ]
-    tell $? "a run that was killed after $delay s leaves a store of whole calls"
+    # the counters: one seat taken, writers announced and finished; and the sessions, a reader and at most one writer
+    announced=$(sqlite3 "$work/killed" "SELECT n FROM cells WHERE slot = 201")
+    finished=$(sqlite3 "$work/killed" "SELECT n FROM cells WHERE slot = 202")
+    waits=$((announced - finished))
+    [ "$(wc -l <"$work/first")" = 101 ] && [ ! -s "$work/second" ] && [ "$finished" -ge 50 ] && [ "$waits" -ge 0 ] && [ "$waits" -le 1 ] \
+        && [ "$(sqlite3 "$work/killed" 'PRAGMA integrity_check; SELECT n FROM cells WHERE slot = 200; SELECT count(*) FROM sessions' | tr '\n' ';')" = "ok;1;$((waits + 1));" ] \
+        && [ "$(printf 'read a 99999\nannounce a 100000\n' | site "$work/killed" | tr '\n' ';')" = "refused AlreadyHere;announced $((announced + 1));" ]
+    tell $? "a run that was killed after $delay s, in its call $((announced + finished - 99)), leaves all that was answered before it"
 done
+
+# two runs over one store: the second is refused at once and reads nothing; the first goes on
+rm -f "$work"/two "$work"/two-wal
+mkfifo "$work/lines"
+"$program" site --site 0 --store "$work/two" <"$work/lines" >"$work/first" 2>"$work/errors" &
+pid=$!
+exec 3>"$work/lines"
+tries=0
+until [ -e "$work/two-wal" ] || [ "$tries" = 500 ]; do sleep 0.01; tries=$((tries + 1)); done
+echo 'read a 8' >"$work/line"
+{
+    timeout 10 "$program" site --site 0 --store "$work/two" >"$work/out" 2>"$work/second"
+    status=$?
+    cat >"$work/unread"
+} <"$work/line"
+[ "$status" = 5 ] && [ ! -s "$work/out" ] && [ "$(cat "$work/second")" = "store refused StoreFault" ]
+tell $? "a second run over a store that another one serves is refused at once"
+cmp -s "$work/line" "$work/unread"
+tell $? "and reads none of its input"
+sqlite3 "$work/two" 'SELECT count(*) FROM sessions' >"$work/out" 2>"$work/second"
+[ $? != 0 ] && grep -q locked "$work/second"
+tell $? "sqlite3 finds the store locked meanwhile"
+echo 'read a 7' >&3
+exec 3>&-
+wait "$pid"
+[ $? = 0 ] && [ "$(cat "$work/first")" = admitted ] && [ ! -s "$work/errors" ] && [ "$(printf 'read a 7\nread a 8\n' | site "$work/two" | tr '\n' ';')" = "refused AlreadyHere;admitted;" ]
+tell $? "the first run goes on, and the next one finds what it was answered"
 
 [ "$failed" = 0 ]

@@ -16,7 +16,9 @@ use Rattle.admission_model.specs.declared.reply.Refusal.{Refusal}
 use Rattle.admission_model.specs.declared.reply.Refusal.TheVariants.{NoRecord, BadHolder, AlreadyHere, CounterFull, WriterAnnounced, NoSeat, TooManyWriters, NotAnnounced, AlreadyInside, MissingSeats, NotHere, NoSite, ToSelf, ZeroSeats, TooFewRights, NoPlan, OtherLayout, BadRow, OwnRowAhead}
 use Rattle.admission_model.specs.declared.reply.Reply.{Reply}
 use Rattle.admission_model.specs.declared.reply.Reply.TheVariants.{Admitted, Announced, Left, Given, Gave, Merged, Snapshot as SnapshotReply, Refused}
-use Rattle.admission_model.specs.Account.{Account, begin}
+use Rattle.admission_model.specs.declared.operation.Operation.TheVariants.{EnteredRead, AnnouncedWriter}
+use Rattle.admission_model.specs.Account.{Account, HeardRows, begin, start_origin}
+use Rattle.admission_model.specs.Knowledge.{known}
 use Rattle.session_list.specs.declared.session.Session.{Session}
 use Rattle.admission_model.specs.Durable.{Named, named}
 use Rattle.admission_model.specs.View.{View}
@@ -272,3 +274,52 @@ slots_wanted =
     ∷ (names 1 Taken ∷ (names 1 Ann ∷ (names 1 Fin ∷ (None ∷ (names 0 Ann ∷ (None ∷ (names 2 Ann ∷ (None
     ∷ (names 0 Fin ∷ (None ∷ (names 2 Fin ∷ (None
     ∷ (names 15 (Out 15) ∷ (None ∷ (names 14 (Out 15) ∷ (None ∷ (names 14 Ann ∷ (None ∷ (names 14 Fin ∷ (None ∷ []))))))))))))))))))))))))))))
+
+-- two records at two sites
+abbrev pub two_records : LayoutState
+two_records = record {
+  sites = 2;
+  records = record { name = 97 ∷ []; seats = 2; home = 0; problem = 1 } ∷ (record { name = 98 ∷ []; seats = 3; home = 1; problem = 2 } ∷ []);
+}
+
+-- what site 0 tells of both
+abbrev pub told_rows : List Row
+told_rows = row_with 0 0 (5 ∷ (1 ∷ [])) 2 4 3 ∷ (row_with 1 0 (1 ∷ (2 ∷ [])) 1 2 1 ∷ [])
+
+-- site 1, where a reader entered record 0 and a writer waits at record 1, and which heard site 0
+abbrev pub well_informed : Account
+well_informed = record {
+  origin = start_origin two_records 1;
+  sites = 2;
+  done = AnnouncedWriter 1 7 ∷ (EnteredRead 0 5 ∷ []);
+  heard = HeardRows told_rows ∷ [];
+}
+
+-- the known counters of a row: rights made, or sent to sites 0 to 2, seats taken, writers announced and finished
+abbrev pub known_row : Account → ℕ → ℕ → List ℕ
+known_row a r s = map (known a r s) (Out 0 ∷ (Out 1 ∷ (Out 2 ∷ (Taken ∷ (Ann ∷ (Fin ∷ []))))))
+
+-- the rows of both records at three sites
+abbrev pub known_rows : Account → List (List ℕ)
+known_rows a =
+    map (known_row a 0) (0 ∷ (1 ∷ (2 ∷ [])))
+    ++ map (known_row a 1) (0 ∷ (1 ∷ (2 ∷ [])))
+
+abbrev pub six : ℕ → ℕ → ℕ → ℕ → ℕ → ℕ → List ℕ
+six a b c d e f = a ∷ (b ∷ (c ∷ (d ∷ (e ∷ (f ∷ [])))))
+
+-- what is known before a restart, and what after one: site 0's rights and seats are forgotten, what it sent here is
+-- not, and neither are its writers nor the own rows
+abbrev pub known_before : List (List ℕ)
+known_before =
+    six 5 1 0 2 4 3 ∷ (six 0 0 0 1 0 0 ∷ (six 0 0 0 0 0 0
+    ∷ (six 1 2 0 1 2 1 ∷ (six 0 3 0 0 1 0 ∷ (six 0 0 0 0 0 0 ∷ [])))))
+
+abbrev pub known_after : List (List ℕ)
+known_after =
+    six 2 1 0 0 4 3 ∷ (six 0 0 0 1 0 0 ∷ (six 0 0 0 0 0 0
+    ∷ (six 0 2 0 0 2 1 ∷ (six 0 3 0 0 1 0 ∷ (six 0 0 0 0 0 0 ∷ [])))))
+
+-- the sessions, which a restart keeps
+abbrev pub two_sessions : List Session
+two_sessions = record { r = 0; h = 5; phase = Reader } ∷ (record { r = 1; h = 7; phase = Waiting } ∷ [])

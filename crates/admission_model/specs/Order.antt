@@ -1,6 +1,6 @@
 -- The order of a site's sessions: after one operation, said of the list alone, which is all that whoever holds the
 -- sessions needs; and after any operations, said of who arrived last.
-use Rattle.std.specs.Prelude.{ℕ, ◌==◌, List, [], ◌∷◌, ◌++◌, if◌then◌else◌}
+use Rattle.std.specs.Prelude.{◌==◌, List, [], ◌∷◌, ◌++◌, if◌then◌else◌}
 use Rattle.session_list.specs.declared.session.Phase.TheVariants.{Reader, Waiting, Writer}
 use Rattle.session_list.specs.declared.session.Session.{Session}
 use Rattle.session_list.specs.Sessions.{with_phase, without}

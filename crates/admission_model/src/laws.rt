@@ -15,7 +15,7 @@ ghost use Rattle.admission_model.specs.declared.reply.Refusal.{Refusal};
 ghost use Rattle.admission_model.specs.declared.reply.Refusal.TheVariants.{WriterAnnounced};
 ghost use Rattle.admission_model.specs.declared.reply.Reply.TheVariants.{Admitted, Refused};
 ghost use Rattle.admission_model.specs.declared.reply.Plan.{Plan};
-ghost use Rattle.admission_model.specs.Account.{Account, Origin, begin, start_origin, key_of, phase_of, present, sessions_of, inside, writers, writers_here};
+ghost use Rattle.admission_model.specs.Account.{Account, Origin, begin, start_origin, layout_of, key_of, phase_of, present, sessions_of, inside, writers, writers_here};
 ghost use Rattle.session_list.specs.declared.session.Session.{Session};
 ghost use Rattle.admission_model.specs.Knowledge.{known, hears, hears_all, durable_part, resumed, restarted, grown};
 ghost use Rattle.admission_model.specs.View.{View, view_of, rights_of, first_unfinished, plan_of, problem_in};
@@ -33,7 +33,7 @@ ghost use Rattle.admission_model.specs.Asked.{operation_change};
 ghost use Rattle.admission_model.specs.declared.durable.DurableCell.{DurableCell};
 ghost use Rattle.admission_model.specs.Restoring.{origin_from, AreCells, AreSessions};
 ghost use Rattle.admission_model.specs.Order.{sessions_next, arrived, last_of_each, unnamed};
-ghost use Rattle.admission_model.specs.Examples.{answers, wanted, read_cases, announce_cases, write_cases, leave_cases, give_cases, help_cases, merge_cases, snapshot_cases, slots_asked, slots_wanted, begun, asks, comings, comings_order};
+ghost use Rattle.admission_model.specs.Examples.{answers, wanted, read_cases, announce_cases, write_cases, leave_cases, give_cases, help_cases, merge_cases, snapshot_cases, slots_asked, slots_wanted, begun, asks, comings, comings_order, told_rows, well_informed, known_rows, known_before, known_after, two_sessions};
 
 /// An account may begin at the start of each site, and wherever a stop leaves a reached account, under its
 /// layout or a later one.
@@ -183,4 +183,17 @@ pub fn reply_examples()
     ensures snapshot { answers snapshot_cases ≡ wanted snapshot_cases }
     ensures slots { slots_asked ≡ slots_wanted }
     ensures order { sessions_of (replay begun (asks comings)) ≡ comings_order }
+{}
+
+/// What a site knows before a restart or a growth and after it, by computation, on two records: the rights and seats
+/// of another site are forgotten until it is heard again; what it sent here, its writers, the own rows and the
+/// sessions stay.
+pub fn restart_examples()
+    ensures before { known_rows well_informed ≡ known_before }
+    ensures restart { known_rows (restarted well_informed) ≡ known_after }
+    ensures growth { known_rows (grown 3 well_informed) ≡ known_after }
+    ensures grown_sites { (layout_of (grown 3 well_informed)).sites ≡ 3 }
+    ensures sessions { sessions_of (restarted well_informed) ≡ two_sessions }
+    ensures grown_sessions { sessions_of (grown 3 well_informed) ≡ two_sessions }
+    ensures heard_again { known_rows (hears (restarted well_informed) told_rows) ≡ known_before }
 {}

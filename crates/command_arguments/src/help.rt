@@ -2,58 +2,56 @@
 
 /// What the program is for.
 pub const PROGRAM: &str =
-    "Joins deltas of the seats of shared records, plays scripts of several sites, and serves one site";
+    "Admits readers and writers to shared records at several sites, which exchange deltas";
 
 /// What stands behind the program's options.
 pub const PROGRAM_NOTES: &str = "\
-Without a command it is `join`. The input is standard input, the answer goes to standard output.
+Without arguments it is `join`. It reads standard input and writes standard output.
 
 Exit status:
-  0  all lines were carried out; help or the version was printed
+  0  every line was carried out, whatever the replies; or help or the version was printed
   2  the arguments are wrong
-  3  there is no layout, or no such site in it: `layout refused NAME` on standard error
-  4  the input or a line of it was refused, which is the answer
-  5  the store could not be opened: `store refused NAME` on standard error; or it failed: `refused StoreFault` was the
-     reply to a line
-  6  memory ran out: `memory` on standard error
-  7  a read or a write failed: `io` on standard error
+  3  there is no layout, or it has no such site: `layout refused NAME` on standard error
+  4  a line can't be read, or `join` refused it, or the input is above 16 MiB: the output says which
+  5  the store can't be used: `store refused NAME` on standard error; or it failed: a reply was `refused StoreFault`
+  6  out of memory: `memory` on standard error
+  7  reading or writing failed: `io` on standard error
 
 Examples:
   cat site_0.deltas site_1.deltas | seat_cli join --layout three_sites.toml
   printf '0 give a 1 1\\n0 send\\n1 take 0\\n1 read a 8\\n' | seat_cli play --tables";
 
 /// What `join` does.
-pub const JOIN: &str =
-    "Joins the delta texts of the input, one a line, and writes the text of the joined book";
+pub const JOIN: &str = "Joins deltas, one a line, and prints one delta that has all of them";
 
 /// What stands behind the options of `join`.
 pub const JOIN_NOTES: &str = "\
-A line of the input is the text of a delta, and so is the answer:
+Each line of the input is a delta, and so is the output:
   {\"from\":0,\"rows\":[{\"ann\":0,\"fin\":0,\"out\":[2,1],\"r\":0,\"s\":0,\"taken\":0}],\"v\":1}
-Row (r, s) is what site s did at record r: `out` are the rights that it made and gave to each site, `taken` the
-seats that it took, `ann` and `fin` the writers that it announced and finished. The first line that is refused is
-the only answer: `line K refused NAME`.";
+Row (r, s) says what site s did at record r: `out` counts the seats that it began with or got back, at its own place,
+and those that it gave to each other site; `taken` the seats that its callers took; `ann` and `fin` the writers that it
+announced and finished. If a line is refused, the output is `line K refused NAME` alone, for the first such line.";
 
 /// What `play` does.
 pub const PLAY: &str =
-    "Plays a script of several sites, one event a line, and writes one line of reply to each";
+    "Simulates several sites: carries out one event a line, and prints one reply a line";
 
 /// What stands behind the options of `play`.
 pub const PLAY_NOTES: &str = "\
-A line of the input is one of these, with one space between words:
+Each line of the input is an event, with one space between words:
   I read NAME H      at site I, holder H enters record NAME as a reader
   I announce NAME H  H announces that it will write
-  I write NAME H     H, who announced it, enters as the writer, who needs all seats
-  I leave NAME H     H leaves, or withdraws what it announced
+  I write NAME H     H, who has announced it, enters as the writer, who needs all seats
+  I leave NAME H     H leaves, or withdraws its announcement
   I give NAME J N    site I gives N of its seats to site J
-  I help NAME        site I gives seats to the site of an announced writer, or its excess to the next site
-  I send             site I writes what it knows into a message; messages are numbered from 0
-  I take K           site I joins message K, as often as it is told to
-  I restart          site I stops, and begins again from what it keeps
-  I grow             site I, which began with the first M sites, begins again with all
-I and J are sites, from 0; H is any number that stands for a holder. Numbers are decimal, without a leading zero.
-Each line gets one line of reply, as `admitted`, `sent 0` or `refused NoSeat 0`; a refused event changes nothing, and
-the script goes on. The first line that can't be read ends it, with `line K refused BadWord` and status 4.
+  I help NAME        site I gives seats to the site of an announced writer, or its surplus to the next site
+  I send             site I makes a message of all that it knows; messages are numbered from 0
+  I take K           site I merges message K; it may do so again
+  I restart          site I stops, and starts again from what it has stored
+  I grow             site I, which began with the first M sites, starts again with all
+I and J are sites, from 0. H is a holder: any number up to 1,000,000,000,000. Numbers have no leading zero.
+Each line gets one reply, as `admitted`, `sent 0` or `refused NoSeat 0`. A refused event changes nothing, and the script
+goes on. The first line that can't be read ends it, with `line K refused BadWord` and status 4.
 
 M is the number of sites, or a smaller one with every record's home among them; else `layout refused BadGrowth` and
 status 3.
@@ -63,27 +61,31 @@ Example:
 
 /// What `site` does.
 pub const SITE: &str =
-    "Serves one site over its store, one call a line, and writes one line of reply to each";
+    "Serves one site over its store: carries out one call a line, and prints one reply a line";
 
 /// What stands behind the options of `site`.
 pub const SITE_NOTES: &str = "\
-A line of the input is one of these, with one space between words:
+Each line of the input is a call, with one space between words:
   read NAME H      holder H enters record NAME as a reader
   announce NAME H  H announces that it will write
-  write NAME H     H, who announced it, enters as the writer, who needs all seats
-  leave NAME H     H leaves, or withdraws what it announced
+  write NAME H     H, who has announced it, enters as the writer, who needs all seats
+  leave NAME H     H leaves, or withdraws its announcement
   give NAME J N    the site gives N of its seats to site J
-  help NAME        the site gives seats to the site of an announced writer, or its excess to the next site
-  send             the reply is the text of what the site knows, a delta
-  take TEXT        the site joins the delta of this text; TEXT is the rest of the line
-J is a site, from 0; H is any number that stands for a holder. Numbers are decimal, without a leading zero.
-Each line gets one line of reply, as `admitted` or `refused NoSeat 0`; a refused call changes nothing, and the script
-goes on. The first line that can't be read ends it, with `line K refused BadWord` and status 4.
+  help NAME        the site gives seats to the site of an announced writer, or its surplus to the next site
+  send             the reply is a delta that has all that the site knows
+  take DELTA       the site merges this delta, which is the rest of the line
+J is a site, from 0. H is a holder: any number up to 1,000,000,000,000. Numbers have no leading zero.
+Each line gets one reply, as `admitted` or `refused NoSeat 0`. A refused call changes nothing, and the script goes on.
+The first line that can't be read ends it, with `line K refused BadWord` and status 4.
 
-FILE is an SQLite database, which is made where there is none. What a reply tells is kept there, so the next run of the
-same site goes on from it. A store that was made for another site or layout is refused, as is a file that is no
-database: `store refused NAME` and status 5. Where a change can't be kept, the reply is `refused StoreFault`, to each
-later call `refused Frozen`, and the status is 5.
+All input is read before the first line is carried out, and one run answers at most 65,536 calls.
+
+FILE is an SQLite database, which is made if there is none: a mistyped path makes a new site. Each change is committed
+before its reply is printed, and the next run goes on from there. A database that can't be used is refused with
+`store refused NAME` and status 5: that of another site, or of a layout which the given one has not grown from; one with
+other tables of these names; and, as `StoreFault`, one that can't be opened or is in use. While `site` runs, no other
+process can use FILE, `sqlite3` included: another `site` is refused at once, and reads no input. If a change can't be
+committed, the reply is `refused StoreFault`, that to each later call `refused Frozen`, and the status is 5.
 
 Example:
   printf 'read a 7\\nleave a 7\\n' | seat_cli site --site 0 --store site_0.db";

@@ -1,15 +1,14 @@
 -- A call's change, made of the durable part before the call, gives the one after it; and it is a change that a keeper may
 -- be told.
-use Rattle.std.proofs.Common.{◌≡◌, ◌≢◌, ℕ, ◌+◌, ◌<◌, ◌≤◌, ◌⊎◌, inl, inr, Bool, true, false, not, cond, eqb, ltb, List, [], ◌∷◌, ◌++◌, length, get_or, Option, Some, None, is_some, is_none, refl, sym, ap, subst, ◌∙◌, arith}
+use Rattle.std.proofs.Common.{◌≡◌, ℕ, ◌+◌, ◌<◌, ◌≤◌, ◌⊎◌, inl, inr, true, false, eqb, ltb, List, [], ◌∷◌, ◌++◌, length, get_or, Option, Some, None, is_some, is_none, refl, sym, ap, subst, ◌∙◌, arith}
 use Rattle.std.specs.Prelude.{All}
-use Rattle.std.specs.List.{AllByRecursion, filter}
+use Rattle.std.specs.List.{AllByRecursion}
 use Rattle.std.proofs.lemmas.Bool.{cases_Bool, cases_eq, cond-true, cond-false, ltb-true}
 use Rattle.std.proofs.lemmas.List.Elements.{All-from_recursion, All-head, All-filter}
 use Rattle.merge_core.specs.declared.cell.Cell.{Cell}
 use Rattle.merge_core.specs.declared.cell.Cell.TheVariants.{Out, Taken, Ann, Fin}
-use Rattle.merge_core.specs.Layout.{LayoutState, IsLayout, RecordShape, shape_of, at_sites}
+use Rattle.merge_core.specs.Layout.{LayoutState, IsLayout, RecordShape, shape_of}
 use Rattle.merge_core.specs.Rows.{grant, start_counter, no_record}
-use Rattle.merge_core.specs.Delta.{DeltaState}
 use Rattle.session_list.specs.declared.session.Phase.{Phase}
 use Rattle.session_list.specs.declared.session.Session.{Session}
 use Rattle.session_list.specs.Sessions.{phase_in, with_phase, without}
@@ -21,30 +20,29 @@ use Rattle.admission_model.specs.declared.durable.DurableCell.{DurableCell}
 use Rattle.admission_model.specs.declared.operation.Operation.{Operation}
 use Rattle.admission_model.specs.declared.operation.Operation.TheVariants.{EnteredRead, AnnouncedWriter, EnteredWrite, LeftRecord, GaveSeats}
 use Rattle.admission_model.specs.declared.reply.Refusal.{Refusal}
-use Rattle.admission_model.specs.Account.{Account, layout_of, phase_of, sessions_of}
+use Rattle.admission_model.specs.Account.{Account, layout_of, sessions_of}
 use Rattle.admission_model.specs.Knowledge.{known, hears}
 use Rattle.admission_model.specs.View.{View, view_of}
-use Rattle.admission_model.specs.Replies.{ask_lines, read_lines, announce_lines, write_lines, leave_lines, is_not_announced}
+use Rattle.admission_model.specs.Replies.{ask_lines, is_not_announced}
 use Rattle.admission_model.specs.Serving.{reason, operation_of, advanced, unless_refused, after}
-use Rattle.admission_model.specs.Sound.{FitsRow, IsSound}
+use Rattle.admission_model.specs.Sound.{FitsRow}
 use Rattle.admission_model.specs.Reached.{IsReached}
-use Rattle.admission_model.specs.Durable.{Named, Place, named, counter_named, at_slot, places, risen_cells, slots_of, AreRising, put_cells, durable_cells, Change, change_between, IsEmpty, KeepsSessions}
+use Rattle.admission_model.specs.Durable.{Named, Place, named, counter_named, at_slot, places, slots_of, AreRising, put_cells, durable_cells, Change, change_between, IsEmpty}
 use Rattle.admission_model.specs.Asked.{session_at, operation_put, operation_removed, operation_change}
 use Rattle.admission_model.specs.Order.{sessions_next}
-use Rattle.admission_model.specs.Restoring.{AreSessions}
 use Rattle.admission_model.proofs.RowLemmas.{start_below}
 use Rattle.admission_model.proofs.HeardLemmas.{known_fits}
 use Rattle.admission_model.proofs.ServingLemmas.{Clear, clear_of, origin_after, sites_after}
 use Rattle.admission_model.proofs.LawLemmas.{sound_reached}
 use Rattle.admission_model.proofs.OrderLemmas.{sessions_asked}
-use Rattle.admission_model.proofs.CellLemmas.{IsKept, named_kept, named_below}
+use Rattle.admission_model.proofs.CellLemmas.{named_kept, named_below}
 use Rattle.admission_model.proofs.StoredLemmas.{picked, places_below}
 use Rattle.admission_model.proofs.RestoringLemmas.{stored_sessions}
 use Rattle.admission_model.proofs.ChangeLemmas.{put_law}
 use Rattle.admission_model.proofs.AskedLemmas.{changed_asked, changed_nothing, changed_refused, changed_merged}
 use Rattle.admission_core.specs.declared.change.SessionChange.{SessionChange}
 use Rattle.admission_core.specs.declared.change.SessionChange.TheVariants.{Put, Removed}
-use Rattle.admission_core.specs.Kept.{DurableState, ChangeState, durable_of, change_of, put_by, removed_by}
+use Rattle.admission_core.specs.Kept.{ChangeState, durable_of, change_of, put_by, removed_by}
 use Rattle.admission_core.specs.Restored.{IsListed, IsSession}
 use Rattle.admission_core.proofs.StandsLemmas.{reached_after, phases_told}
 use Rattle.admission_core.proofs.LimitLemmas.{seats_few}

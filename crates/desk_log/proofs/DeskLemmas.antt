@@ -15,17 +15,17 @@ use Rattle.admission_model.proofs.ServingLemmas.{origin_after, sites_after}
 use Rattle.admission_model.proofs.AskedLemmas.{changed_refused}
 use Rattle.admission_core.proofs.ReadyLemmas.{stands_along}
 use Rattle.admission_model.specs.View.{view_of}
-use Rattle.admission_model.specs.Serving.{after, reason, reply_of, replied, answer}
-use Rattle.admission_core.specs.Core.{Core, IsCore, Stands, SameContent}
-use Rattle.admission_core.specs.Kept.{DurableState, durable_of}
+use Rattle.admission_model.specs.Serving.{after, reason, replied, answer}
+use Rattle.admission_core.specs.Core.{Core, IsCore, Stands}
+use Rattle.admission_core.specs.Kept.{durable_of}
 use Rattle.merge_core.specs.Book.{seats_at}
 use Rattle.seat_rows.specs.Seats.{inside_of}
 use Rattle.admission_model.proofs.BookLemmas.{inside_there}
 use Rattle.admission_core.proofs.CoreLemmas.{is_core, has_book}
 use Rattle.durable_keeper.specs.declared.keeper.Keeper.{Ghosts}
 use Rattle.desk_log.specs.declared.entry.Entry.{Entry}
-use Rattle.desk_log.specs.Log.{LogState, is_fault, is_logged, ends_in_fault, begun, after_entry, account_after, account_tried, IsInDoubt, IsLegal, log_with}
-use Rattle.desk_log.specs.Desk.{DeskState, first_account, account_of, account_if_kept, is_frozen, IsOpen, Leaves, IsMadeFor, IsDesk, IsUnserved, IsDoubted, IsAnswered, IsReply, IsServing, KeepsOn, IsBegin, receipt_of}
+use Rattle.desk_log.specs.Log.{LogState, is_fault, is_logged, ends_in_fault, begun, after_entry, account_after, account_tried, IsInDoubt, IsLegal}
+use Rattle.desk_log.specs.Desk.{DeskState, first_account, account_of, account_if_kept, is_frozen, IsOpen, Leaves, IsMadeFor, IsDesk, IsUnserved, IsDoubted, IsAnswered, IsServing, KeepsOn, IsBegin, receipt_of}
 use Rattle.desk_log.proofs.KeptLemmas.{durable_begun}
 use Rattle.desk_log.proofs.ReplyLemmas.{never_frozen, never_full, model_fault, model_logged}
 use Rattle.desk_log.proofs.LogLemmas.{ends-push, after-push, tried-push, after_answered, after_doubted, legal-push, same_accounts}

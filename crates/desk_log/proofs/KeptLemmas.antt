@@ -1,17 +1,16 @@
 -- The durable part of the account that begins from a durable part is that part.
-use Rattle.std.proofs.Common.{◌≡◌, ◌≢◌, ℕ, ◌+◌, ◌-◌, ◌<◌, ◌≤◌, ◌⊎◌, inl, inr, Bool, true, false, not, ◌&&◌, ◌||◌, cond, eqb, ltb, List, [], ◌∷◌, length, Option, Some, None, is_some, unwrap_or, refl, sym, ap, subst, ◌∙◌, arith}
-use Rattle.std.specs.Prelude.{All}
+use Rattle.std.proofs.Common.{◌≡◌, ◌≢◌, ℕ, ◌+◌, ◌-◌, ◌<◌, ◌≤◌, ◌⊎◌, inl, inr, true, false, not, ◌&&◌, ◌||◌, eqb, ltb, List, [], ◌∷◌, length, Option, Some, None, is_some, unwrap_or, refl, sym, ap, subst, ◌∙◌, arith}
 use Rattle.std.specs.List.{AllByRecursion}
-use Rattle.std.proofs.lemmas.Bool.{cases_Bool, cases_eq, cases_lt, cond-true, cond-false, cond_both, eqb-true, eq-eqb, ne_eqb, ltb-true, ltb-false, lt-ltb, and_parts, and_from, and_left, or_left, or_right}
+use Rattle.std.proofs.lemmas.Bool.{cases_Bool, cases_eq, cases_lt, cond-true, cond-false, cond_both, eqb-true, eq-eqb, ne_eqb, ltb-true, ltb-false, lt-ltb, and_parts, and_from, or_left, or_right}
 use Rattle.std.proofs.lemmas.List.Elements.{recursion_from_All}
 use Rattle.merge_core.specs.declared.cell.Cell.{Cell}
-use Rattle.merge_core.specs.declared.cell.Cell.TheVariants.{Out, Taken, Ann, Fin}
-use Rattle.merge_core.specs.Layout.{LayoutState, IsLayout, shape_of}
+use Rattle.merge_core.specs.declared.cell.Cell.TheVariants.{Out, Ann, Fin}
+use Rattle.merge_core.specs.Layout.{LayoutState, shape_of}
 use Rattle.merge_core.specs.Rows.{start_counter}
 use Rattle.admission_model.specs.declared.durable.DurableCell.{DurableCell}
-use Rattle.admission_model.specs.Account.{Account, Origin, begin, sessions_of}
+use Rattle.admission_model.specs.Account.{Account, Origin}
 use Rattle.admission_model.specs.Knowledge.{known}
-use Rattle.admission_model.specs.Durable.{Named, of_other, named, counter_named, at_slot, places, slot_count, slots_of, start_slots, durable_cells, is_before, AreRising}
+use Rattle.admission_model.specs.Durable.{Named, of_other, named, counter_named, places, slot_count, slots_of, start_slots, durable_cells, is_before, AreRising}
 use Rattle.admission_model.specs.Restoring.{stored_at, slot_of, stored_in, counters_from, origin_from, AreCells, AreSessions}
 use Rattle.admission_model.proofs.OrderLemmas.{sessions_begun}
 use Rattle.admission_model.proofs.OriginLemmas.{begins_from}

@@ -4,3 +4,4 @@ pub mod ChangeLemmas
 pub mod KeptLemmas
 pub mod StepLemmas
 pub mod DeskLemmas
+pub mod FollowingLemmas

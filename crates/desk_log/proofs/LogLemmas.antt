@@ -1,11 +1,11 @@
 -- A log with one more entry.
-use Rattle.std.proofs.Common.{◌≡◌, ℕ, ◌⊎◌, inl, inr, Bool, true, false, cond, List, [], ◌∷◌, ◌++◌, refl, sym, ap, subst, ◌∙◌}
+use Rattle.std.proofs.Common.{◌≡◌, inl, inr, Bool, true, false, List, [], ◌∷◌, ◌++◌, refl, sym, ap, subst, ◌∙◌}
 use Rattle.std.proofs.lemmas.Bool.{cond-true, cond-false}
 use Rattle.admission_model.specs.Account.{Account}
 use Rattle.admission_model.specs.View.{view_of}
 use Rattle.admission_model.specs.Serving.{after, reply_of}
 use Rattle.desk_log.specs.declared.entry.Entry.{Entry}
-use Rattle.desk_log.specs.Log.{is_fault, ends_in_fault, after_entry, account_after, account_tried, IsInDoubt, IsLegal}
+use Rattle.desk_log.specs.Log.{is_fault, ends_in_fault, after_entry, account_after, account_tried, IsLegal}
 use Rattle.desk_log.proofs.ReplyLemmas.{model_fault}
 
 -- the last entry tells whether a log ends in the store's fault
@@ -47,3 +47,16 @@ same_accounts a b (x ∷ es) (inl (is, rest)) runs =
 same_accounts a b (x ∷ es) (inr (doubt, none)) runs =
     let both : true ≡ false = sym doubt.fault ∙ (sym (ap (ends_in_fault (is_fault x.reply)) none) ∙ runs) in
     absurd (cc)
+
+-- in a legal log a fault is the last reply
+pub fault_last : (a : Account) (earlier later : List Entry) (e : Entry) → IsLegal a (earlier ++ e ∷ later) → is_fault e.reply ≡ true → later ≡ []
+fault_last a [] later e (inl (is, rest)) fault =
+    let both : true ≡ false = sym fault ∙ (ap is_fault is ∙ model_fault (view_of a) e.call) in
+    absurd (cc)
+fault_last a [] later e (inr (doubt, none)) fault = none
+fault_last a (x ∷ es) later e (inl (is, rest)) fault = fault_last (after a x.call) es later e rest fault
+fault_last a (x ∷ es) later e (inr (doubt, none)) fault = absurd (no_entry es none)
+  where
+    no_entry : (ys : List Entry) → ys ++ e ∷ later ≡ [] → ⊥
+    no_entry [] same = cc
+    no_entry (y ∷ ys) same = cc

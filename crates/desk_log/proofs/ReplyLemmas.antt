@@ -1,6 +1,6 @@
 -- The model never answers for the desk: want of memory, a frozen desk, a full log and a fault of the store are no
 -- refusals of its table.
-use Rattle.std.proofs.Common.{◌≡◌, ℕ, ◌⊎◌, inl, inr, Bool, true, false, cond, List, [], ◌∷◌, Option, Some, None, refl, sym, ap, ◌∙◌}
+use Rattle.std.proofs.Common.{◌≡◌, ◌⊎◌, inl, inr, Bool, true, false, cond, List, [], ◌∷◌, Some, refl, sym, subst, ◌∙◌}
 use Rattle.std.specs.List.{AllByRecursion}
 use Rattle.std.proofs.lemmas.Bool.{cases_Bool}
 use Rattle.admission_model.specs.declared.ask.Ask.{Ask}
@@ -26,12 +26,13 @@ is_model LogFull = false
 is_model StoreFault = false
 is_model _ = true
 
-lines_model : (ls : List Line) → AllByRecursion (λ l. is_model l.refusal ≡ true) ls → (x : Refusal) → first_reason ls ≡ Some x → is_model x ≡ true
-lines_model [] all x e = absurd (cc)
-lines_model (l ∷ ls) all x e = at l.test e (lines_model ls all.1 x)
+-- what holds of the refusal of each line holds of the reason
+pub of_lines : (P : Refusal → Type 0) (ls : List Line) → AllByRecursion (λ l. P l.refusal) ls → (x : Refusal) → first_reason ls ≡ Some x → P x
+of_lines P [] all x e = absurd (cc)
+of_lines P (l ∷ ls) all x e = at l.test e (of_lines P ls all.1 x)
   where
-    at : (b : Bool) → cond b (Some l.refusal) (first_reason ls) ≡ Some x → (first_reason ls ≡ Some x → is_model x ≡ true) → is_model x ≡ true
-    at true f later = let same : l.refusal ≡ x = cc in ap is_model (sym same) ∙ all.0
+    at : (b : Bool) → cond b (Some l.refusal) (first_reason ls) ≡ Some x → (first_reason ls ≡ Some x → P x) → P x
+    at true f later = let same : l.refusal ≡ x = cc in subst P same all.0
     at false f later = later f
 
 ask_model : (v : View) (ask : Ask) → AllByRecursion (λ l. is_model l.refusal ≡ true) (ask_lines v ask)
@@ -43,8 +44,8 @@ ask_model v (Give r to seats) = (refl, (refl, (refl, (refl, (refl, (refl, tt))))
 ask_model v (Help r) = (refl, (refl, (refl, tt)))
 
 reason_model : (v : View) (call : Call) (x : Refusal) → reason v call ≡ Some x → is_model x ≡ true
-reason_model v (AskCall ask) x e = lines_model (ask_lines v ask) (ask_model v ask) x e
-reason_model v (Merge delta) x e = lines_model (merge_lines v delta) (refl, (refl, (refl, tt))) x e
+reason_model v (AskCall ask) x e = of_lines (λ x. is_model x ≡ true) (ask_lines v ask) (ask_model v ask) x e
+reason_model v (Merge delta) x e = of_lines (λ x. is_model x ≡ true) (merge_lines v delta) (refl, (refl, (refl, tt))) x e
 reason_model v SnapshotCall x e = absurd (cc)
 
 -- such a refusal is never the model's

@@ -1,6 +1,6 @@
 -- What one call leaves at a core and its keeper, exit by exit.
-use Rattle.std.proofs.Common.{◌≡◌, ℕ, ◌≤◌, ◌⊎◌, inl, inr, Bool, true, false, List, [], Option, Some, None, refl, sym, ap, subst, ◌∙◌, arith}
-use Rattle.std.specs.Prelude.{Result, Ok, Err, IfSome, IsSome}
+use Rattle.std.proofs.Common.{◌≡◌, ℕ, ◌≤◌, inr, Bool, true, false, [], Option, Some, None, refl, sym, ap, subst, ◌∙◌, arith}
+use Rattle.std.specs.Prelude.{Err, IfSome, IsSome}
 use Rattle.merge_core.specs.Layout.{LayoutState, IsLayout}
 use Rattle.admission_model.specs.declared.ask.Call.{Call}
 use Rattle.admission_model.specs.declared.reply.Refusal.{Refusal}
@@ -9,11 +9,11 @@ use Rattle.admission_model.specs.declared.reply.Reply.{Reply}
 use Rattle.admission_model.specs.declared.reply.Reply.TheVariants.{Refused}
 use Rattle.admission_model.specs.Account.{Account, layout_of}
 use Rattle.admission_model.specs.View.{View, view_of}
-use Rattle.admission_model.specs.Serving.{after, reason, reply_of}
-use Rattle.admission_model.specs.Durable.{Change, AreRising, change_between, IsEmpty}
+use Rattle.admission_model.specs.Serving.{after, reason}
+use Rattle.admission_model.specs.Durable.{AreRising, change_between, IsEmpty}
 use Rattle.admission_model.proofs.AskedLemmas.{changed_refused}
 use Rattle.admission_core.specs.Core.{Core, IsCore, Stands, SameContent, IsServed, core_view, is_memory, served}
-use Rattle.admission_core.specs.Kept.{DurableState, ChangeState, durable_of, change_of}
+use Rattle.admission_core.specs.Kept.{DurableState, durable_of, change_of}
 use Rattle.admission_core.specs.Prepared.{Prepared, IsReadyFor, IsChangeFor}
 use Rattle.admission_core.proofs.CoreLemmas.{shows_account}
 use Rattle.admission_core.proofs.ReadyLemmas.{view_along, served_after, served_by}
@@ -22,7 +22,7 @@ use Rattle.durable_keeper.specs.declared.error.KeeperError.{KeeperError}
 use Rattle.durable_keeper.specs.declared.error.KeeperError.TheVariants.{Memory as NoSpace, StoreFault as Failed}
 use Rattle.durable_keeper.specs.Keeping.{IsChange, changed}
 use Rattle.desk_log.specs.declared.step.Served.{Served}
-use Rattle.desk_log.specs.Desk.{IsMadeFor, HasKept, HasNotKept, MayHaveKept, KeepsChange, IsUnserved, IsDoubted, IsAnswered, IsStep, IsCopied}
+use Rattle.desk_log.specs.Desk.{HasKept, HasNotKept, MayHaveKept, KeepsChange, IsUnserved, IsDoubted, IsAnswered, IsStep, IsCopied}
 use Rattle.desk_log.proofs.ReplyLemmas.{memory_is, never_memory}
 use Rattle.desk_log.proofs.ChangeLemmas.{changed_durable, nothing_changes, is_change}
 

@@ -1,3 +1,4 @@
 pub mod Log
 pub mod Desk
 pub mod Transcript
+pub mod Following

@@ -1,5 +1,5 @@
 -- What is left of a site's openings: a run for each, in order.
-use Rattle.std.specs.Prelude.{◌≡◌, ◌≢◌, ℕ, List, ◌++◌, Result, Ok, Err}
+use Rattle.std.specs.Prelude.{◌≡◌, ◌≢◌, ◌++◌, Result, Ok, Err}
 use Rattle.desk_log.specs.declared.transcript.AppendError.{AppendError}
 use Rattle.desk_log.specs.declared.transcript.AppendError.TheVariants.{OtherSite, Memory}
 use Rattle.desk_log.specs.declared.transcript.Transcript.{Transcript}

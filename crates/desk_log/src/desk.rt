@@ -47,6 +47,7 @@ impl<K: Keeper> Desk<K> {
     ghost use Rattle.admission_core.specs.Core.{Stands};
     ghost use Rattle.desk_log.specs.Log.{IsLegal};
     ghost use Rattle.desk_log.specs.Desk.{IsMadeFor, IsOpened, IsServing, Leaves, first_account, account_of, account_if_kept, is_frozen, receipt_of};
+    ghost use Rattle.desk_log.specs.Following.{CanFollow};
 
     /// Opens a site of a layout with a log of 16 to 65,536 entries, from what the keeper gives back. The caller shows,
     /// where there is such a site, that the keeper was made for it with an equal layout. Refused, in this order:
@@ -129,8 +130,10 @@ impl<K: Keeper> Desk<K> {
     /// kept before the core changes and the reply is given; where nothing changes, no store is called. Each reply but
     /// `Frozen`, `LogFull` and `Memory` is logged. The cost is the core's, and that of a copy of call and reply.
     pub fn serve(&mut self, pass: u16, call: &Call) -> Reply
-        ensures { IsServing K.Keeper self.old self.new pass call.now result }
+        ensures served { IsServing K.Keeper self.old self.new pass call.now result }
+        ensures follows { CanFollow call.now result }
     {
+        let _ = &self.alloc; // tells the invariant
         let (reply, _receipt) = self.answer(pass, call, false);
         reply
     }
@@ -139,8 +142,10 @@ impl<K: Keeper> Desk<K> {
     /// with the log's, before the change is kept.
     pub fn serve_with_receipt(&mut self, pass: u16, call: &Call) -> (Reply, Option<Reply>)
         ensures served { IsServing K.Keeper self.old self.new pass call.now result.0 }
+        ensures follows { CanFollow call.now result.0 }
         ensures receipt { result.1 ≡ receipt_of result.0 }
     {
+        let _ = &self.alloc; // tells the invariant
         self.answer(pass, call, true)
     }
 

@@ -10,6 +10,7 @@ pub use transcript::{AppendError, Run, Runs, Transcript};
 mod desk;
 mod entry;
 mod error;
+pub mod laws;
 mod log;
 pub mod same;
 mod step;

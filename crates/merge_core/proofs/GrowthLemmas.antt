@@ -1,17 +1,16 @@
 -- A book under a layout of more sites.
-use Rattle.std.proofs.Common.{◌≡◌, ◌↔◌, ℕ, ◌+◌, ◌<◌, ◌≤◌, max, true, List, [], ◌∷◌, length, refl, sym, ap, ◌∙◌, subst, arith}
+use Rattle.std.proofs.Common.{◌≡◌, ℕ, ◌≤◌, true, List, [], ◌∷◌, length, sym, ap, ◌∙◌, subst, arith}
 use Rattle.std.specs.List.{AllByRecursion}
 use Rattle.merge_core.specs.declared.cell.Cell.{Cell}
-use Rattle.merge_core.specs.declared.cell.Cell.TheVariants.{Out, Taken, Ann, Fin}
 use Rattle.merge_core.specs.declared.delta.Row.{Row}
 use Rattle.merge_core.specs.Layout.{Shape, RecordShape, IsEarlierShape}
-use Rattle.merge_core.specs.Rows.{start_counter, no_record, grant, counter_in, counters_of}
+use Rattle.merge_core.specs.Rows.{start_counter, grant}
 use Rattle.merge_core.specs.Tests.{is_placed, is_valid}
-use Rattle.merge_core.specs.Naming.{shown_by, ReachesUnit}
-use Rattle.merge_core.specs.Book.{BookState, IsBook, book_shape, counter_of, Names}
+use Rattle.merge_core.specs.Naming.{shown_by}
+use Rattle.merge_core.specs.Book.{BookState, IsBook, book_shape, counter_of}
 use Rattle.merge_core.specs.Check.{IsChecked}
 use Rattle.merge_core.specs.Changes.{JoinsRows, IsWidened}
-use Rattle.merge_core.specs.Order.{IsBelow, NamesSame, IsJoin}
+use Rattle.merge_core.specs.Order.{NamesSame, IsJoin}
 use Rattle.merge_core.proofs.MergeLemmas.{start_below}
 use Rattle.merge_core.proofs.TestLemmas.{IsPlaced, IsValid, placed_parts, placed_from, valid_parts, valid_from, all_pass, none_failing}
 use Rattle.merge_core.proofs.UnitLemmas.{units-from_same}

@@ -1,7 +1,7 @@
 -- A row joined to a book: its counters, its validity, and the rows that were not touched.
 use Rattle.std.proofs.Common.{◌∷◌, zero, suc, map, ◌≡◌, ◌≢◌, ℕ, ◌<◌, ◌≤◌, ◌⊎◌, inl, inr, ◌==◌, cond, max, List, [], length, get_or, slice_index_or, refl, sym, ap, ◌∙◌, subst, arith, eq-eqb}
 use Rattle.std.proofs.lemmas.List.{length-set, get_or-set_same, get_or-set_other, length-map}
-use Rattle.std.proofs.lemmas.Bool.{cases_eq, ne_eqb}
+use Rattle.std.proofs.lemmas.Bool.{cases_eq, ne_eqb, cond-false}
 use Rattle.grow_counters.specs.Counts.{maxima}
 use Rattle.grow_counters.proofs.CountsLemmas.{get_or-maxima}
 use Rattle.rights_matrix.specs.Matrix.{site_count, row_of, grant as matrix_grant}
@@ -17,6 +17,7 @@ use Rattle.merge_core.specs.Book.{BookState, nothing_known, record_at, row_in, c
 use Rattle.merge_core.specs.Joined.{joined_record, with_row}
 use Rattle.merge_core.proofs.TestLemmas.{IsPlaced, IsValid}
 use Rattle.merge_core.proofs.BookLemmas.{with_record, record_at-same, record_at-other, read_record}
+use Rattle.merge_core.proofs.MarkLemmas.{SameElsewhere}
 use Rattle.merge_core.proofs.ShownLemmas.{stands_at}
 use Rattle.merge_core.proofs.RiseLemmas.{HasSite}
 
@@ -133,6 +134,23 @@ joinable_read b r it p at_row below read book placed valid =
 
     there : it ≡ record_at b p.r
     there = read_record b r it below read ∙ ap (record_at b) at_row
+
+-- a record joined with a row has every other row as it was
+pub same_joined : (it new : RecordState) (p : Row) → {sites : ℕ} → IsRecord sites it → IsJoinable it p → new ≡ joined_record it p → SameElsewhere it new p.s
+same_joined it new p is fits change = rw change (record {
+  shape = refl;
+  rows = λ t apart c.
+      counter-joined it p t c has (omega (arith, fits.size, is.seats.matrix.square p.s fits.site))
+      ∙ cond-false {A = ℕ} (p.s == t) (max (counter_in (row_in it t) c) (counter_in (counters_of p) c)) (counter_in (row_in it t) c) (ne_eqb p.s t (λ e. apart (sym e)));
+})
+  where
+    has : HasSite it p.s
+    has = record {
+      in_rows = fits.site;
+      in_taken = omega (arith, fits.site, is.seats.size);
+      in_announced = fits.notice_site;
+      in_finished = omega (arith, fits.notice_site, is.notices.same_length);
+    }
 
 -- what is written over the record that was read is the book joined with the row
 pub with_row-written : (b : BookState) (r : ℕ) (it new : RecordState) (p : Row) → r ≡ p.r → r < length b.records → it ≡ get_or b.records r it → new ≡ joined_record it p → with_record b r new ≡ with_row b p

@@ -20,3 +20,4 @@ pub mod GrowthLemmas
 pub mod LawLemmas
 pub mod MovedLemmas
 pub mod SnapshotLemmas
+pub mod MarkLemmas

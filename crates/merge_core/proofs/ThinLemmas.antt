@@ -1,5 +1,5 @@
 -- Thin rows: what the code's one pass finds, and what a book that took the earlier rows is told by them.
-use Rattle.std.proofs.Common.{◌≡◌, ◌≢◌, ℕ, zero, suc, ◌+◌, ◌<◌, ◌≤◌, ◌⊎◌, inl, inr, max, Bool, true, false, not, ◌&&◌, ◌||◌, ◌==◌, eqb, cond, List, [], ◌∷◌, ◌++◌, length, get_or, take, filter, refl, sym, ap, ◌∙◌, subst, arith, eqb-true}
+use Rattle.std.proofs.Common.{◌≡◌, ℕ, zero, suc, ◌+◌, ◌<◌, ◌≤◌, ◌⊎◌, inl, inr, max, Bool, true, false, not, ◌&&◌, ◌||◌, ◌==◌, cond, List, [], ◌∷◌, ◌++◌, length, get_or, take, filter, refl, sym, ap, ◌∙◌, subst, arith, eqb-true}
 use Rattle.std.specs.List.{list_any, AllByRecursion}
 use Rattle.std.specs.Str.{bytes_eq}
 use Rattle.std.proofs.lemmas.Bool.{cases_Bool, false≢true, and_parts, cond-true, cond-false, cases_lt}
@@ -15,7 +15,7 @@ use Rattle.merge_core.specs.Rows.{start_counter, counter_in, counters_of}
 use Rattle.merge_core.specs.Naming.{shown_by}
 use Rattle.merge_core.specs.Thin.{is_same_row, is_same_in, thin_rows}
 use Rattle.merge_core.proofs.RowLemmas.{ComesBefore-trans, IsRising-at}
-use Rattle.merge_core.proofs.ShownLemmas.{stands_at, stands_apart, shown_by-absent}
+use Rattle.merge_core.proofs.ShownLemmas.{stands_at, shown_by-absent}
 
 -- two rows that are the same
 record AreSame (p q : Row) : Type 0 where

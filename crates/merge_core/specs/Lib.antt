@@ -13,3 +13,4 @@ pub mod Thin
 pub mod Start
 pub mod Joined
 pub mod Kept
+pub mod Marked

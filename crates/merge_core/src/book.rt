@@ -1,6 +1,7 @@
 use crate::record::RecordState;
 use crate::{Cell, Layout};
 use genesis::genesis_records;
+use marks::mark;
 use rights_matrix::TransferError;
 use seat_rows::SeatError;
 use std::alloc::{AllocError, Global};
@@ -12,6 +13,7 @@ mod genesis;
 mod growth;
 mod join;
 mod keep;
+mod marks;
 mod snapshot;
 mod validity;
 
@@ -21,17 +23,21 @@ mod validity;
 pub struct Book {
     sites: u16,
     records: Vec<RecordState>,
+    // A bit for each site and record whose row may have left its start.
+    marks: Vec<u16>,
 }
 
-// Contracts see the number of sites and what is known of each record.
+// Contracts see the number of sites and what is known of each record. Each row that has left its start is marked.
 impl Model for Book {
     ghost use Rattle.merge_core.specs.Book.{BookState, IsBook};
+    ghost use Rattle.merge_core.specs.Marked.{MarksMoved};
 
     ghost Value = { BookState };
 
     ghost view = { λ b. record { sites = b.sites; records = b.records.items } };
 
-    ghost invariant = { λ b. IsBook (record { sites = b.sites; records = b.records.items }) };
+    ghost invariant = { λ b. let it : BookState = record { sites = b.sites; records = b.records.items } in
+        (IsBook it) × (MarksMoved it b.marks.items) };
 }
 
 impl Book {
@@ -57,7 +63,12 @@ impl Book {
     {
         let sites = layout.sites();
         let records = genesis_records(alloc, sites, layout.records())?;
-        Ok(Book { sites, records })
+        let marks = vec![in alloc; 0; records.len()]?;
+        Ok(Book {
+            sites,
+            records,
+            marks,
+        })
     }
 
     /// The number of sites.
@@ -150,6 +161,7 @@ impl Book {
         ensures enough { HasSeatRights (seats_at self.new r) i }
         ensures book { IsBook self.new }
     {
+        mark(&mut self.marks, r, i);
         let it = &mut self.records[usize::from(r)];
         it.seats.take(i, w)
     }
@@ -164,6 +176,7 @@ impl Book {
         ensures enough { HasSeatRights (seats_at self.old r) i → HasSeatRights (seats_at self.new r) i }
         ensures book { IsBook self.new }
     {
+        mark(&mut self.marks, r, i);
         let it = &mut self.records[usize::from(r)];
         it.seats.give(i, w);
     }
@@ -183,6 +196,7 @@ impl Book {
         ensures enough { HasSeatRights (seats_at self.new r) i }
         ensures book { IsBook self.new }
     {
+        mark(&mut self.marks, r, i);
         let it = &mut self.records[usize::from(r)];
         it.seats.transfer(i, j, n)
     }
@@ -201,6 +215,7 @@ impl Book {
         ensures counters { OnOk result (Raises self.old self.new r i Ann 1) }
         ensures book { IsBook self.new }
     {
+        mark(&mut self.marks, r, i);
         let it = &mut self.records[usize::from(r)];
         it.notices.announce(i)
     }
@@ -213,6 +228,7 @@ impl Book {
         ensures counters { Raises self.old self.new r i Fin 1 }
         ensures book { IsBook self.new }
     {
+        mark(&mut self.marks, r, i);
         let it = &mut self.records[usize::from(r)];
         it.notices.finish(i);
     }

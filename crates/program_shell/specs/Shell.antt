@@ -1,8 +1,10 @@
 -- What the program does: the command that its arguments ask for, or what is said of them (the project's own).
-use Rattle.std.specs.Prelude.{◌≡◌, ◌⊎◌, ℕ, List, [], Result, Ok, Err, Option, Some, None}
+use Rattle.std.specs.Prelude.{◌≡◌, ◌⊎◌, ℕ, List, [], ◌∷◌, ◌++◌, codes, Result, Ok, Err, Option, Some, None}
 use Rattle.merge_core.specs.Layout.{LayoutState, shape_of}
 use Rattle.text_input.specs.Source.{HasFault, SourceState}
-use Rattle.text_input.specs.Sink.{Prints, SinkState}
+use Rattle.text_input.specs.Sink.{Prints, SinkState, Writes}
+use Rattle.std.specs.declared.io.ErrorKind.{ErrorKind as IoKind}
+use Rattle.std.specs.declared.io.ErrorKind.TheVariants as kinds
 use Rattle.clap.specs.Words.{Text, IsAmong}
 use Rattle.clap.specs.declared.error.ErrorKind.{ErrorKind}
 use Rattle.clap.specs.declared.error.ErrorKind.TheVariants.{OutOfMemory, DisplayHelp, DisplayVersion}
@@ -38,6 +40,24 @@ EndsUnasked OutOfMemory sink sink_after errors errors_after code = (sink_after �
 EndsUnasked DisplayHelp sink sink_after errors errors_after code = EndsPrinted sink sink_after errors errors_after code
 EndsUnasked DisplayVersion sink sink_after errors errors_after code = EndsPrinted sink sink_after errors errors_after code
 EndsUnasked _ sink sink_after errors errors_after code = EndsUsage sink sink_after errors errors_after code
+
+-- what is said of an argument that is not UTF-8
+abbrev pub unread_text : List ℕ
+unread_text = codes "error: an argument is not UTF-8" ++ 10 ∷ []
+
+-- the arguments could not be read: memory ran out, or one of them is not UTF-8, which is a wrong argument
+abbrev pub EndsUnread : IoKind → SinkState → SinkState → ℕ → Type 0
+EndsUnread kinds.OutOfMemory errors errors_after code = EndsWith Memory errors errors_after code
+EndsUnread _ errors errors_after code = (Writes errors errors_after unread_text ⊎ HasFault errors_after.fault) × (code ≡ 2)
+
+-- why there is no layout where its file did not open
+abbrev pub unopened : IoKind → LayoutFault
+unopened kinds.OutOfMemory = layout.Memory
+unopened _ = layout.NotRead
+
+-- a layout file did not open, so that there is no layout
+abbrev pub IsUnopened : Result LayoutState LayoutFault → Type 0
+IsUnopened answer = (kind : IoKind) × (answer ≡ Err (unopened kind))
 
 -- what the program finds without a layout file: the built-in layout
 abbrev pub FindsBuiltIn : Result LayoutState LayoutFault → Type 0

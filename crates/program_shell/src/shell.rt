@@ -1,6 +1,6 @@
-ghost use Rattle.std.specs.Prelude.{map, MatchOption, string_bytes};
+ghost use Rattle.std.specs.Prelude.{◌≡◌, map, MatchOption, MatchResult, string_bytes};
 ghost use Rattle.clap.specs.Words.{kind_of};
-ghost use Rattle.program_shell.specs.Shell.{EndsCommand, EndsUnasked, FindsBuiltIn, FindsFile, RunsProgram};
+ghost use Rattle.program_shell.specs.Shell.{EndsCommand, EndsUnasked, EndsUnread, FindsBuiltIn, FindsFile, IsUnopened, RunsProgram, unopened};
 
 use crate::standard_error::StandardError;
 use clap::error::ErrorKind as UsageKind;
@@ -11,6 +11,7 @@ use layout_file::{LayoutFault, built_in, read_layout_file};
 use merge_core::Layout;
 use play_engine::play_engine;
 use site_databases::{Databases, serve_stored};
+use std::alloc::Global;
 use std::io::{ErrorKind, Read, Write};
 use std::rt::{Env, Files};
 use std::{env, fs, io};
@@ -27,14 +28,19 @@ pub fn run<R: Env + Files + Databases + Input + Print + Eprint + AllocGlobal>(rt
             &mut Sink::new(io::writer(rt)),
             &mut errors,
         ),
-        Err(error) => {
-            if error.kind() == ErrorKind::OutOfMemory {
-                return Status::Memory.end(&mut errors);
-            }
-            let _ = errors.write_and_flush("error: an argument is not UTF-8\n");
-            Status::Usage.end(&mut errors)
-        }
+        Err(error) => end_unread(error.kind(), &mut errors),
     }
+}
+
+// Says why the arguments were not read: memory ran out, or one of them is not UTF-8.
+fn end_unread<E: Write>(kind: ErrorKind, errors: &mut Sink<E>) -> u8
+    ensures { EndsUnread kind errors.old errors.new result }
+{
+    if kind == ErrorKind::OutOfMemory {
+        return Status::Memory.end(errors);
+    }
+    let _ = errors.write_and_flush("error: an argument is not UTF-8\n");
+    Status::Usage.end(errors)
 }
 
 // All arguments, the program's own name first.
@@ -121,13 +127,25 @@ fn layout_at<R: Files + AllocGlobal>(rt: &R, path: Option<&str>) -> Result<Layou
             Err(_) => Err(LayoutFault::Memory),
         };
     };
-    match fs::open(rt, path) {
-        Ok(file) => read_layout_file(rt.alloc(), &mut Source::new(file)),
-        Err(error) => {
-            if error.kind() == ErrorKind::OutOfMemory {
-                return Err(LayoutFault::Memory);
-            }
-            Err(LayoutFault::NotRead)
-        }
+    layout_from(rt.alloc(), fs::open(rt, path))
+}
+
+// The layout of a file that was opened, or why it was not.
+fn layout_from<F: Read + Drop>(alloc: Global, opened: io::Result<F>) -> Result<Layout, LayoutFault>
+    ensures { MatchResult opened (λ _. FindsFile result) (λ _. IsUnopened result) }
+{
+    match opened {
+        Ok(file) => read_layout_file(alloc, &mut Source::new(file)),
+        Err(error) => Err(unopened(error.kind())),
     }
+}
+
+// Why there is no layout where the file did not open.
+fn unopened(kind: ErrorKind) -> LayoutFault
+    ensures { result ≡ unopened kind }
+{
+    if kind == ErrorKind::OutOfMemory {
+        return LayoutFault::Memory;
+    }
+    LayoutFault::NotRead
 }

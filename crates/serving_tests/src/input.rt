@@ -110,6 +110,38 @@ fn an_input_is_read_whole_or_refused(rt: HostRuntime) {
     }
 }
 
+// How many bytes an input has that is there at once, and how many reads may take it in: one for each 65,536 bytes that
+// were begun, and one that finds the end. Of an input that is too long one byte past the limit is read.
+static PIECES: [(usize, usize); 6] = [
+    (0, 1),
+    (1, 2),
+    (65_536, 2),
+    (65_537, 3),
+    (LIMIT, 257),
+    (20_000_000, 257),
+];
+
+// How many reads take an input of so many bytes in.
+fn reads_of(alloc: Global, left: usize) -> usize {
+    let mut reader = Scripted {
+        left,
+        most: NEVER,
+        call: 0,
+        fault: NO_FAULT,
+        given: 0,
+    };
+    let _ = length_read(alloc, &mut reader);
+    reader.call
+}
+
+#[test]
+fn an_input_is_read_in_large_pieces(rt: HostRuntime) {
+    for (left, most) in &PIECES {
+        let reads = reads_of(rt.alloc(), *left);
+        assert!(rt; reads <= *most, "{left} {reads}");
+    }
+}
+
 // The first line of each text, and what is behind it.
 static CUTS: [(&[u8], &[u8], &[u8]); 7] = [
     (b"a", b"a", b""),

@@ -1,11 +1,13 @@
 //! The engine of `join` with a reader and a writer whose bytes and faults are chosen; in the module below hostile bytes.
 mod hostile_bytes;
 
+use crate::faults::{Fault, is_ended, reader_of, writer_of};
 use exit_status::Status;
 use join_engine::join_engine;
 use layout_file::{built_in, read_layout};
 use merge_core::Layout;
 use std::alloc::{AllocError, Global};
+use std::io::ErrorKind;
 use test_streams::texts::{FIRST, GAVE, SECOND, THIRD, THREE_SITES};
 use test_streams::{Giving, Keeping, NEVER};
 use text_input::{Sink, Source};
@@ -196,26 +198,28 @@ fn the_first_refused_line_is_the_only_answer(rt: HostRuntime) {
     assert!(rt; other == None, "{other:?}");
 }
 
-// The call of the reader that fails, and that of the writer. The input comes in two calls, a third tells the end; the
-// answer goes out in twelve calls and a flush.
-static FAULTS: [(usize, usize); 7] = [
-    (0, NEVER),
-    (1, NEVER),
-    (2, NEVER),
-    (NEVER, 0),
-    (NEVER, 5),
-    (NEVER, 11),
-    (NEVER, 12),
+// The input comes in two reads, a third finds the end; the answer goes out in twelve writes and a flush.
+static FAULTS: [Fault; 10] = [
+    (0, NEVER, ErrorKind::Other, Status::Io, 0),
+    (1, NEVER, ErrorKind::Other, Status::Io, 0),
+    (2, NEVER, ErrorKind::Other, Status::Io, 0),
+    (0, NEVER, ErrorKind::OutOfMemory, Status::Memory, 0),
+    (2, NEVER, ErrorKind::OutOfMemory, Status::Memory, 0),
+    (NEVER, 0, ErrorKind::Other, Status::Io, 0),
+    (NEVER, 5, ErrorKind::Other, Status::Io, 35),
+    (NEVER, 11, ErrorKind::Other, Status::Io, 77),
+    (NEVER, 12, ErrorKind::Other, Status::Io, 78),
+    (NEVER, 5, ErrorKind::OutOfMemory, Status::Io, 35),
 ];
 
 #[test]
-fn a_reader_or_a_writer_that_fails_ends_with_status_7(rt: HostRuntime) {
+fn a_join_whose_reader_or_writer_fails_says_so(rt: HostRuntime) {
     let layout = built_in(rt.alloc()).expect(&rt, "a layout");
-    for (reads, writes) in &FAULTS {
-        let mut writer = Keeping::new(rt.alloc(), *writes);
-        let mut reader = Giving::new(GAVE.as_bytes(), *reads);
+    for (row, fault) in FAULTS.iter().enumerate() {
+        let mut reader = reader_of(GAVE.as_bytes(), fault);
+        let mut writer = writer_of(rt.alloc(), fault);
         let ended = ending(rt.alloc(), &layout, &mut reader, &mut writer);
-        assert!(rt; ended.code() == 7, "{reads} {writes}");
+        assert!(rt; is_ended(ended, &writer, GAVE, fault), "row {row}");
     }
 }
 

@@ -1,4 +1,5 @@
-//! The engine of `play` over scripts: worked stories and refused lines, and scripts at the limits.
+//! The engine of `play` over scripts: worked stories and refused lines, scripts at the limits, and faults.
+mod faults;
 mod limits;
 mod scripts;
 
@@ -10,6 +11,27 @@ use std::io::Write;
 use test_streams::{Giving, NEVER};
 use text_input::{Sink, Source};
 
+// How the engine ends with a reader, if there is such a layout.
+fn ending<W: Write>(
+    alloc: Global,
+    toml: &str,
+    first: Option<u16>,
+    tables: bool,
+    reader: &mut Giving,
+    writer: &mut W,
+) -> Option<Status> {
+    let layout = read_layout(alloc, toml.as_bytes()).ok()?;
+    let ended = play_engine(
+        alloc,
+        layout,
+        first,
+        tables,
+        &mut Source::new(reader),
+        &mut Sink::new(writer),
+    );
+    Some(ended)
+}
+
 // How the engine ends with a script, if there is such a layout.
 fn end_of<W: Write>(
     alloc: Global,
@@ -19,15 +41,6 @@ fn end_of<W: Write>(
     script: &str,
     writer: &mut W,
 ) -> Option<Status> {
-    let layout = read_layout(alloc, toml.as_bytes()).ok()?;
     let mut reader = Giving::new(script.as_bytes(), NEVER);
-    let ended = play_engine(
-        alloc,
-        layout,
-        first,
-        tables,
-        &mut Source::new(&mut reader),
-        &mut Sink::new(writer),
-    );
-    Some(ended)
+    ending(alloc, toml, first, tables, &mut reader, writer)
 }

@@ -32,6 +32,7 @@ impl<K: Keeper, L: Opening> Locked<K, L> {
     ghost use Rattle.std.specs.Prelude.{◌≡◌, ◌+◌, ◌<◌, if◌then◌else◌, length};
     ghost use Rattle.desk_log.specs.Log.{is_logged};
     ghost use Rattle.desk_log.specs.Desk.{IsServing, IsMadeFor, receipt_of};
+    ghost use Rattle.desk_log.specs.Following.{CanFollow};
     ghost use Rattle.session_book.specs.Sites.{IsLocked, IsRunOf, KeepsOf};
 
     /// A desk that was opened goes under the lock, with a ledger that has counted nothing.
@@ -62,6 +63,7 @@ impl<K: Keeper, L: Opening> Locked<K, L> {
     ) -> (Reply, Option<Reply>)
         requires { 0 < share.old.parts }
         ensures served { IsServing K.Keeper self.old self.new pass call.now result.0 }
+        ensures follows { CanFollow call.now result.0 }
         ensures receipt { result.1 ≡ receipt_of result.0 }
         ensures parts { share.new.parts ≡ share.old.parts }
         ensures amount { share.new.amount ≡ share.old.amount + (if is_logged result.0 then 1 else 0) }

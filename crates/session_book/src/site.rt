@@ -56,6 +56,7 @@ impl<K: Keeper, L: Opening> Site<K, L> {
     ghost use Rattle.std.specs.Prelude.{◌≡◌, ◌<◌, ◌≤◌, length};
     ghost use Rattle.admission_core.specs.Kept.{DurableState};
     ghost use Rattle.desk_log.specs.Desk.{IsMadeFor};
+    ghost use Rattle.desk_log.specs.Following.{CanFollow};
     ghost use Rattle.session_book.specs.Passes.{pass_after};
     ghost use Rattle.session_book.specs.Sites.{IsSiteOpened, IsClosing};
 
@@ -134,7 +135,8 @@ impl<K: Keeper, L: Opening> Site<K, L> {
     /// `Memory` may come first, for that room. A reply that is logged leaves a receipt in the pass, `Frozen` and
     /// `LogFull` a mark. May wait for the lock.
     pub fn call<R: Wait>(&self, rt: &R, pass: &mut Pass<L>, call: Call) -> Reply
-        ensures { pass.new ≡ pass_after pass.old call result }
+        ensures pass { pass.new ≡ pass_after pass.old call result }
+        ensures follows { CanFollow call result }
     {
         if pass.receipts.reserve(1).is_err() {
             return Reply::Refused(Refusal::Memory);

@@ -1,4 +1,4 @@
-//! A keeper in memory that fails or waits at a commit that the test chooses, and desks over it.
+//! A keeper in memory that counts its calls and fails or waits at a commit that the test chooses, and desks over it.
 ghost use Rattle.std.specs.Prelude.{◌≡◌, IfSome, if◌then◌else◌};
 
 use admission_core::{Change, Durable};
@@ -31,6 +31,9 @@ pub struct Store {
     pub failed: bool,
     /// Whether a commit that waited saw the mark.
     pub saw: bool,
+    /// How often it was asked, before it failed, what it keeps, and how often to keep a change that is not empty.
+    pub loads: u64,
+    pub commits: u64,
 }
 
 /// A device that has this fault at the commit after so many others.
@@ -41,6 +44,8 @@ pub fn store_with(left: u64, fault: Fault) -> Store {
         fault,
         failed: false,
         saw: false,
+        loads: 0,
+        commits: 0,
     }
 }
 
@@ -93,6 +98,7 @@ impl Keeper for Fake {
         if change.is_empty() {
             return Ok(());
         }
+        self.store.commits = self.store.commits.saturating_add(1);
         if self.store.left > 0 {
             self.store.left -= 1;
             return self.kept.commit(change);
@@ -116,6 +122,7 @@ impl Keeper for Fake {
         if self.store.failed {
             return Err(KeeperError::StoreFault);
         }
+        self.store.loads = self.store.loads.saturating_add(1);
         match &self.store.first {
             Some(first) => Ok(first.try_copy(alloc)?),
             None => self.kept.load(alloc),

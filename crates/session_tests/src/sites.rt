@@ -196,6 +196,50 @@ fn a_site_whose_store_failed_goes_on_with_what_was_kept(rt: HostRuntime) {
     }
 }
 
+// What a site is asked of which seven calls change it: refusals, a snapshot and what was merged before do not.
+static CHANGING: [Asked; 12] = [
+    Asked::Read(7),
+    Asked::Read(7),
+    Asked::Snapshot,
+    Asked::Read(8),
+    Asked::Read(9),
+    Asked::Announce(5),
+    Asked::Leave(5),
+    Asked::Announcement,
+    Asked::Announcement,
+    Asked::Help,
+    Asked::Leave(7),
+    Asked::Give(1, 1),
+];
+
+static CHANGING_REPLIES: [Numbers; 12] = [
+    (1, 0, 0),
+    (14, 0, 0),
+    (7, 0, 1),
+    (1, 0, 0),
+    (8, 0, 0),
+    (2, 1, 0),
+    (3, 0, 0),
+    (6, 1, 0),
+    (6, 0, 0),
+    (15, 0, 0),
+    (3, 0, 0),
+    (4, 0, 0),
+];
+
+// How often a store was asked in an opening what it keeps, and how often to keep a change.
+fn store_calls<R: Threads + Wait + Sync>(rt: &R, alloc: Global) -> Option<(u64, u64)> {
+    let store = store_with(0, Fault::Never);
+    let ended = opening_of(rt, alloc, store, &CHANGING, &CHANGING_REPLIES, 0)?;
+    Some((ended.keeper.store.loads, ended.keeper.store.commits))
+}
+
+#[test]
+fn a_store_is_called_once_an_opening_and_once_a_change(rt: HostRuntime) {
+    let calls = store_calls(&rt, rt.alloc());
+    assert!(rt; calls == Some((1, 7)), "{calls:?}");
+}
+
 // What a site of two has kept after it admitted reader 7.
 fn kept_of_two(alloc: Global) -> Option<Durable> {
     let mut desk = small_desk(alloc, 0)?;

@@ -1,17 +1,19 @@
 -- What the opening of a store comes to.
 use Rattle.std.specs.Prelude.{◌≡◌, ◌≢◌, ◌⊎◌, ℕ, decimal, Result, Ok, Err, ⊤}
 use Rattle.sqlite_trees.specs.declared.store.Store.{Ghosts}
-use Rattle.sqlite.specs.State.{HasCleanDisk}
+use Rattle.sqlite.specs.State.{HasCleanDisk, Survives}
 use Rattle.sqlite.specs.Held.{Held, state}
 use Rattle.merge_core.specs.Layout.{LayoutState}
 use Rattle.layout_line.specs.declared.Line.{Line}
 use Rattle.layout_line.specs.declared.Line.TheVariants as lines
 use Rattle.layout_line.specs.Line.{line_of, IsLine}
+use Rattle.store_schema.specs.declared.Version.TheVariants.{Second}
 use Rattle.store_rows.specs.Rows.{Stored}
 use Rattle.store_rows.specs.Changes.{renewed}
 use Rattle.store_rows.specs.Holding.{Keeps, KeepsEither, KeepsNothing, KeepsNothingOr}
 use Rattle.store_tables.specs.Transacts.{made}
 use Rattle.store_tables.specs.Reads.{IsInRange}
+use Rattle.store_tables.specs.Refusals.{HasRefused}
 use Rattle.store_content.specs.declared.index.Index.{Index}
 use Rattle.store_content.specs.Content.{IsContent, durable_in}
 use Rattle.store_content.specs.Known.{Knows}
@@ -19,7 +21,7 @@ use Rattle.durable_keeper.specs.Keeping.{nothing_kept}
 use Rattle.site_store.specs.declared.error.OpenError.{OpenError}
 use Rattle.site_store.specs.declared.error.OpenError.TheVariants.{BadStore, WrongSite, WrongLayout, StoreFault, Memory}
 use Rattle.site_store.specs.declared.sql.SqlKeeper.{SqlKeeper}
-use Rattle.site_store.specs.Sql.{Stores, KeepsPart, layout_of, site_of, faults_of, is_honest}
+use Rattle.site_store.specs.Sql.{Stores, KeepsPart, below, layout_of, site_of, faults_of, is_honest}
 
 -- a layout line is that of a layout, or of an earlier one that has the site
 abbrev pub Fits : LayoutState → ℕ → Stored → Type 0
@@ -36,7 +38,21 @@ pub record IsSound (it : Stored) : Type 0 where
   pub in_range : IsInRange it
   pub content : IsContent it
 
--- why a store is refused: the first of these that is so, where no call of the device was refused
+-- a content is one that a site's store of a layout has: it is for the site, and its numbers are such as the tables take
+pub record IsOwn (layout : LayoutState) (i : ℕ) (it : Stored) : Type 0 where
+  pub in_range : IsInRange it
+  pub fits : IsFor layout i it
+
+-- a content has the second version and the layout's own line, so that an opening has nothing to write
+pub record IsCurrent (layout : LayoutState) (it : Stored) : Type 0 where
+  pub second : it.version ≡ Second
+  pub its_line : it.layout ≡ line_of layout
+
+-- an opening has to write: the content is for the site, and has the first version or an earlier layout's line
+abbrev pub IsDue : LayoutState → ℕ → Stored → Type 0
+IsDue layout i it = IsFor layout i it × (¬ IsCurrent layout it)
+
+-- why a store is refused: the first of these that is so. When a fault comes, IsFault says.
 abbrev pub IsCause : LayoutState → ℕ → Stored → OpenError → Type 0
 IsCause layout i it BadStore = ¬ IsSound it
 IsCause layout i it WrongSite = IsContent it × (it.site ≢ decimal i)
@@ -89,6 +105,26 @@ module _ {S : Type 0} (g : Ghosts S) where
     pub fits : HasCleanDisk (state g c) → IsFor layout i it
     pub stores : HasCleanDisk (state g c) → Stores g layout i c index (renewed (line_of layout) it)
 
+  -- nothing was committed: what a crash leaves now, it could leave before
+  abbrev pub CommitsNothing : Held S → Held S → Type 0
+  CommitsNothing old new = Survives (state g old) (state g new) (λ _. ⊥)
+
+  -- the device refused a call, or the connection was shut, or its queries may take only so many steps
+  abbrev pub IsRefusal : Held S → Held S → Type 0
+  IsRefusal old new = HasRefused (state g old) (state g new)
+
+  -- A fault told by an honest device: a call was refused so; or a content was to be written, and that was refused.
+  abbrev pub IsFault : LayoutState → ℕ → Stored → Held S → (OpenError × Held S) → Type 0
+  IsFault layout i it old x = x.0 ≡ StoreFault → HasCleanDisk (state g x.1) → IsRefusal old x.1 ⊎ IsDue layout i it
+
+  -- a refusal by an honest device alone, and not for what the store holds
+  abbrev pub IsByDevice : (OpenError × Held S) → Type 0
+  IsByDevice x = HasCleanDisk (state g x.1) → IsDeviceCause x.0
+
+  -- whatever was judged, nothing was committed before
+  abbrev pub IsJudgedFirst : Held S → (OpenError × Held S) → Type 0
+  IsJudgedFirst old x = x.0 ≢ StoreFault → x.0 ≢ Memory → CommitsNothing old x.1
+
   -- the answer to the opening of a connection that keeps a content, and of one without tables
   abbrev pub Readies : LayoutState → ℕ → Stored → Held S → Result Index OpenError → Type 0
   Readies layout i it c (Ok index) = IsReady layout i it c index
@@ -104,6 +140,11 @@ module _ {S : Type 0} {g : Ghosts S} where
     pub its_layout : layout_of k ≡ layout
     pub its_site : site_of k ≡ i
     pub sound : faults_of k ≡ 0
+
+  -- the connection after an opening
+  abbrev pub left_by : Result (SqlKeeper S g) (OpenError × Held S) → Held S
+  left_by (Ok k) = below k
+  left_by (Err x) = x.1
 
   -- The answer to an opening. Where the connection kept a content: a keeper of its durable part, the content being one
   -- of this site; or the connection again, with what it kept.

@@ -14,6 +14,7 @@ use Rattle.store_content.specs.declared.index.Index.{Index}
 use Rattle.store_content.specs.Content.{IsContent, durable_in}
 use Rattle.durable_keeper.specs.Keeping.{changed}
 use Rattle.store_content.specs.Known.{Knows}
+use Rattle.store_content.specs.Plan.{after_change}
 use Rattle.site_store.specs.declared.sql.SqlKeeper.{SqlKeeper}
 
 -- a content is that of a site of a layout, in the second version
@@ -35,18 +36,17 @@ module _ {S : Type 0} (g : Ghosts S) where
     pub kept : Keeps g c it
     pub known : Knows index it
 
-  -- a change was made of the durable part of a content of a site
+  -- a change was made of a content of a site: the content after it is kept, which stands for the durable part after it
   pub record Changes (layout : LayoutState) (i : ℕ) (change : ChangeState) (it : Stored) (c : Held S) (index : Index) : Type 0 where
-    pub next : Stored
-    pub stores : Stores layout i c index next
-    pub part : durable_in next ≡ changed change (durable_in it)
+    pub stores : Stores layout i c index (after_change change it)
+    pub part : durable_in (after_change change it) ≡ changed change (durable_in it)
 
-  -- a crash leaves that content, or one with the change
+  -- a crash leaves that content, or the one after the change
   pub record ChangesEither (layout : LayoutState) (i : ℕ) (change : ChangeState) (it : Stored) (c : Held S) : Type 0 where
-    pub first : Stored
     pub second : Stored
-    pub left : KeepsEither g c first second
-    pub is_first : IsOneOf layout i (durable_in it) (changed change (durable_in it)) first
+    pub left : KeepsEither g c it second
+    pub which : (second ≡ it) ⊎ (second ≡ after_change change it)
+    pub is_first : IsOneOf layout i (durable_in it) (changed change (durable_in it)) it
     pub is_second : IsOneOf layout i (durable_in it) (changed change (durable_in it)) second
 
 module _ {S : Type 0} {g : Ghosts S} where
@@ -67,9 +67,17 @@ module _ {S : Type 0} {g : Ghosts S} where
   abbrev pub faults_of : SqlKeeper S g → ℕ
   faults_of k = if has_failed k.tables then 1 else 0
 
+  -- it keeps a content of its site
+  abbrev pub KeepsContent : SqlKeeper S g → Stored → Type 0
+  KeepsContent k it = Stores g k.layout k.site (below k) k.index it
+
+  -- a crash leaves a content, or that after a change
+  abbrev pub KeepsContentOr : SqlKeeper S g → ChangeState → Stored → Type 0
+  KeepsContentOr k change it = KeepsEither g (below k) it (after_change change it)
+
   -- while its device is honest, it keeps a content with this durable part
   abbrev pub KeepsPart : SqlKeeper S g → DurableState → Type 0
-  KeepsPart k d = is_honest k → (it : Stored) × (Stores g k.layout k.site (below k) k.index it × (durable_in it ≡ d))
+  KeepsPart k d = is_honest k → (it : Stored) × (KeepsContent k it × (durable_in it ≡ d))
 
   -- while its device is honest, a crash leaves one of two contents, each with one of two durable parts
   abbrev pub KeepsEitherPart : SqlKeeper S g → DurableState → DurableState → Type 0

@@ -1,11 +1,14 @@
 //! A database is opened as the store of a site, or made one.
-ghost use Rattle.std.specs.Prelude.{◌≡◌, ◌⊎◌, ◌↔◌, string_bytes, decimal, false, IsTrue, IsOk, IfOk};
+ghost use Rattle.std.specs.Prelude.{◌≡◌, ◌≢◌, ◌⊎◌, ◌↔◌, string_bytes, decimal, false, IsTrue, IsOk, IfOk, IfErr};
 ghost use Rattle.sqlite.specs.State.{HasCleanDisk};
 ghost use Rattle.sqlite.specs.Held.{state};
 ghost use Rattle.layout_line.specs.Line.{line_of};
-ghost use Rattle.store_rows.specs.Holding.{Keeps, KeepsEither, KeepsNothing};
-ghost use Rattle.store_tables.specs.Kept.{has_failed, connection_of};
-ghost use Rattle.site_store.specs.Opened.{IsJudged, IsReady, Readies, ReadiesBlank};
+ghost use Rattle.store_rows.specs.Holding.{Keeps, KeepsEither, KeepsNothing, KeepsNothingOr};
+ghost use Rattle.store_tables.specs.Kept.{has_failed, connection_of, CommitsNothing, IsRefusal};
+ghost use Rattle.store_tables.specs.Transacts.{made};
+ghost use Rattle.site_store.specs.declared.error.OpenError.TheVariants.{StoreFault, Memory};
+ghost use Rattle.site_store.specs.Sql.{Stores};
+ghost use Rattle.site_store.specs.Opened.{IsCurrent, IsDeviceCause, IsDue, IsJudged, IsOwn, IsReady, Readies, ReadiesBlank};
 
 use crate::error::OpenError;
 use layout_line::{Line, compare, layout_line};
@@ -80,7 +83,12 @@ fn open_found<S: Alter>(
         → Readies S.Store layout.now site it (connection_of tables.new) result }
     ensures honest { HasCleanDisk (state S.Store (connection_of tables.new)) → HasCleanDisk (state S.Store (connection_of tables.old)) }
     ensures sound { has_failed tables.old ≡ false → IsOk result → has_failed tables.new ≡ false }
+    ensures own { IsOwn layout.now site content.now → IfErr result IsDeviceCause }
+    ensures due { IfErr result (λ e. e ≡ StoreFault → IsDue layout.now site content.now) }
+    ensures judged { IfErr result (λ e. e ≢ StoreFault → e ≢ Memory → tables.new ≡ tables.old) }
+    ensures current { IsCurrent layout.now content.now → tables.new ≡ tables.old }
 {
+    let _ = layout.sites(); // tells that the layout is one
     let (index, found) = judge(alloc, content, layout, site)?;
     if !is_due(found, content.version) {
         return Ok(index);
@@ -101,6 +109,7 @@ fn make_new<S: Alter>(
     ensures made { KeepsNothing S.Store (connection_of tables.old) → ReadiesBlank S.Store layout.now site (connection_of tables.new) result }
     ensures honest { HasCleanDisk (state S.Store (connection_of tables.new)) → HasCleanDisk (state S.Store (connection_of tables.old)) }
     ensures sound { IsOk result → has_failed tables.new ≡ false }
+    ensures device { IfErr result IsDeviceCause }
 {
     let own = site_text(alloc, site)?;
     tables.make(own.as_str(), line)?;
@@ -118,6 +127,17 @@ pub(crate) fn prepare<S: Alter>(
     ensures made { KeepsNothing S.Store (connection_of tables.old) → ReadiesBlank S.Store layout.now site (connection_of tables.new) result }
     ensures settles { (a b : _) → KeepsEither S.Store (connection_of tables.old) a b
         → IfOk result (λ index. ∥ IsReady S.Store layout.now site a (connection_of tables.new) index ⊎ IsReady S.Store layout.now site b (connection_of tables.new) index ∥₁) }
+    ensures settles_or { KeepsNothingOr S.Store (connection_of tables.old) (made (decimal site) (line_of layout.now))
+        → IfOk result (λ index. HasCleanDisk (state S.Store (connection_of tables.new)) → Stores S.Store layout.now site (connection_of tables.new) index (made (decimal site) (line_of layout.now))) }
+    ensures own { (a b : _) → IsOwn layout.now site a → IsOwn layout.now site b → KeepsEither S.Store (connection_of tables.old) a b
+        → IfErr result (λ e. HasCleanDisk (state S.Store (connection_of tables.new)) → IsDeviceCause e) }
+    ensures own_or { KeepsNothingOr S.Store (connection_of tables.old) (made (decimal site) (line_of layout.now))
+        → IfErr result (λ e. HasCleanDisk (state S.Store (connection_of tables.new)) → IsDeviceCause e) }
+    ensures fault { has_failed tables.old ≡ false → (it : _) → Keeps S.Store (connection_of tables.old) it
+        → IfErr result (λ e. e ≡ StoreFault → HasCleanDisk (state S.Store (connection_of tables.new)) → IsRefusal tables.old tables.new ⊎ IsDue layout.now site it) }
+    ensures judged { IfErr result (λ e. e ≢ StoreFault → e ≢ Memory → CommitsNothing tables.old tables.new) }
+    ensures current { (it : _) → IsCurrent layout.now it → Keeps S.Store (connection_of tables.old) it → HasCleanDisk (state S.Store (connection_of tables.new))
+        → CommitsNothing tables.old tables.new }
     ensures honest { HasCleanDisk (state S.Store (connection_of tables.new)) → HasCleanDisk (state S.Store (connection_of tables.old)) }
     ensures sound { IsOk result → has_failed tables.new ≡ false }
 {

@@ -10,7 +10,7 @@ ghost use Rattle.store_tables.specs.Kept.{has_failed, connection_of};
 ghost use Rattle.store_rows.specs.Holding.{Keeps, KeepsEither};
 ghost use Rattle.store_tables.specs.Transacts.{Takes};
 ghost use Rattle.store_tables.specs.declared.error.TableError.TheVariants.{BadStore, Memory as NoMemory, StoreFault as NoStore};
-ghost use Rattle.store_content.specs.Plan.{IsTellable, after};
+ghost use Rattle.store_content.specs.Plan.{IsTellable, LacksPlace, after};
 ghost use Rattle.site_store.specs.Sql.{Stores, Changes, ChangesEither};
 ghost use Rattle.durable_keeper.specs.declared.error.KeeperError.TheVariants.{Memory, StoreFault};
 
@@ -99,6 +99,8 @@ fn commit_rows<S: Alter>(
         → result ≡ Err Memory → Stores S.Store layout i (connection_of tables.new) index.new it }
     ensures fault { (layout : LayoutState) (i : ℕ) (it : Stored) → Stores S.Store layout i (connection_of tables.old) index.old it
         → result ≡ Err StoreFault → ChangesEither S.Store layout i change.now it (connection_of tables.new) }
+    ensures full { (layout : LayoutState) (i : ℕ) (it : Stored) → Stores S.Store layout i (connection_of tables.old) index.old it
+        → LacksPlace change.now.session it → result ≡ Err StoreFault }
     ensures honest { HasCleanDisk (state S.Store (connection_of tables.new)) → HasCleanDisk (state S.Store (connection_of tables.old)) }
     ensures told { result ≡ Err StoreFault → IsTrue (has_failed tables.new) }
     ensures still { result ≢ Err StoreFault → has_failed tables.new ≡ false }
@@ -112,11 +114,13 @@ fn commit_rows<S: Alter>(
         return Err(KeeperError::StoreFault);
     }
     index.reserve(&rows)?;
-    if let Err(error) = put(tables, &rows) {
-        return Err(keeper_error(error));
+    match put(tables, &rows) {
+        Ok(()) => {
+            index.advance(&rows);
+            Ok(())
+        }
+        Err(refusal) => Err(keeper_error(refusal)),
     }
-    index.advance(&rows);
-    Ok(())
 }
 
 /// It keeps a site's durable part in an SQLite database, each change in a transaction of its own.
@@ -144,11 +148,17 @@ impl<S: Alter + Drop> Drop for SqlKeeper<S> {
 }
 
 impl<S: Alter> SqlKeeper<S> {
-    ghost use Rattle.std.specs.Prelude.{◌≡◌, false, IfOk};
+    ghost use Rattle.std.specs.Prelude.{◌≡◌, ◌≢◌, [], None, Err, decimal, false, IfOk, IfErr, OnOk};
+    ghost use Rattle.admission_core.specs.Kept.{DurableState};
+    ghost use Rattle.durable_keeper.specs.Keeping.{IsChange, changed, nothing_kept};
+    ghost use Rattle.layout_line.specs.Line.{line_of};
     ghost use Rattle.store_rows.specs.Rows.{Stored};
-    ghost use Rattle.store_rows.specs.Holding.{Keeps, KeepsEither, KeepsNothing};
-    ghost use Rattle.site_store.specs.Sql.{below, is_honest};
-    ghost use Rattle.site_store.specs.Opened.{IsKeeperOf, Opens, OpensBlank, Settles};
+    ghost use Rattle.store_rows.specs.Holding.{Keeps, KeepsEither, KeepsNothing, KeepsNothingOr};
+    ghost use Rattle.store_tables.specs.Transacts.{made};
+    ghost use Rattle.store_content.specs.Plan.{LacksPlace, after_change};
+    ghost use Rattle.durable_keeper.specs.declared.error.KeeperError.TheVariants.{Memory, StoreFault};
+    ghost use Rattle.site_store.specs.Sql.{KeepsContent, KeepsContentOr, KeepsEitherPart, KeepsPart, below, faults_of, is_honest, layout_of, site_of};
+    ghost use Rattle.site_store.specs.Opened.{CommitsNothing, IsByDevice, IsCurrent, IsFault, IsJudgedFirst, IsKeeperOf, IsOwn, Opens, OpensBlank, Settles, left_by};
 
     /// Opens a database as the store of a site of a layout, with no transaction open, as the caller shows.
     ///
@@ -167,6 +177,13 @@ impl<S: Alter> SqlKeeper<S> {
         ensures store { (it : Stored) → Keeps S.Store connection it → Opens layout.now site it result }
         ensures blank { KeepsNothing S.Store connection → OpensBlank layout.now site result }
         ensures settles { (a b : Stored) → KeepsEither S.Store connection a b → IfOk result (Settles a b) }
+        ensures own { (a b : Stored) → IsOwn layout.now site a → IsOwn layout.now site b → KeepsEither S.Store connection a b → IfErr result (IsByDevice S.Store) }
+        ensures settles_or { KeepsNothingOr S.Store connection (made (decimal site) (line_of layout.now)) → IfOk result (λ k. KeepsPart k nothing_kept) }
+        ensures own_or { KeepsNothingOr S.Store connection (made (decimal site) (line_of layout.now)) → IfErr result (IsByDevice S.Store) }
+        ensures fault { (it : Stored) → Keeps S.Store connection it → IfErr result (IsFault S.Store layout.now site it connection) }
+        ensures judged { IfErr result (IsJudgedFirst S.Store connection) }
+        ensures current { (it : Stored) → IsCurrent layout.now it → Keeps S.Store connection it → HasCleanDisk (state S.Store (left_by result))
+            → CommitsNothing S.Store connection (left_by result) }
         ensures honest { IfOk result (λ k. is_honest k → HasCleanDisk (state S.Store connection)) }
     {
         let Ok(copy) = layout.try_copy(alloc) else {
@@ -183,6 +200,35 @@ impl<S: Alter> SqlKeeper<S> {
             }),
             Err(error) => Err((error, tables.into_connection())),
         }
+    }
+
+    /// Makes a change of what is kept, as `commit` of [`Keeper`] does, which calls this. The content is known after it: a
+    /// session that comes has the place after the greatest, and one that is there keeps its own. Where no place is left,
+    /// the answer is `StoreFault`.
+    pub fn make_change(&mut self, change: &Change) -> Result<(), KeeperError>
+        requires { IsChange (layout_of self.old) (site_of self.old) change.now }
+        ensures content { (it : Stored) → KeepsContent self.old it → OnOk result (KeepsContent self.new (after_change change.now it)) }
+        ensures doubt { (it : Stored) → KeepsContent self.old it → result ≡ Err StoreFault → KeepsContentOr self.new change.now it }
+        ensures full { (it : Stored) → KeepsContent self.old it → LacksPlace change.now.session it → result ≡ Err StoreFault }
+        ensures ok { (d : DurableState) → KeepsPart self.old d → OnOk result (KeepsPart self.new (changed change.now d)) }
+        ensures memory { (d : DurableState) → KeepsPart self.old d → result ≡ Err Memory → KeepsPart self.new d }
+        ensures fault { (d : DurableState) → KeepsPart self.old d → result ≡ Err StoreFault → KeepsEitherPart self.new d (changed change.now d) }
+        ensures honest { is_honest self.new → is_honest self.old }
+        ensures told { result ≡ Err StoreFault → faults_of self.new ≡ 1 }
+        ensures sound { result ≢ Err StoreFault → faults_of self.new ≡ 0 }
+        ensures stopped { faults_of self.old ≡ 1 → (result ≡ Err StoreFault) × (self.new ≡ self.old) }
+        ensures nothing { change.now.cells ≡ [] → change.now.session ≡ None → self.new ≡ self.old }
+        ensures layout { layout_of self.new ≡ layout_of self.old }
+        ensures site { site_of self.new ≡ site_of self.old }
+    {
+        if self.tables.faults() > 0 {
+            return Err(KeeperError::StoreFault);
+        }
+        if change.is_empty() {
+            return Ok(());
+        }
+        let _ = self.layout.sites(); // tells that the layout is one
+        commit_rows(self.alloc, &mut self.tables, &mut self.index, change)
     }
 
     /// The connection, as it is. Takes no memory.
@@ -232,14 +278,7 @@ impl<S: Alter> Keeper for SqlKeeper<S> {
     ghost faults_of = { faults_of };
 
     fn commit(&mut self, change: &Change) -> Result<(), KeeperError> {
-        if self.tables.faults() > 0 {
-            return Err(KeeperError::StoreFault);
-        }
-        if change.is_empty() {
-            return Ok(());
-        }
-        let _ = self.layout.sites(); // tells that the layout is one
-        commit_rows(self.alloc, &mut self.tables, &mut self.index, change)
+        self.make_change(change)
     }
 
     fn load(&mut self, alloc: Global) -> Result<Durable, KeeperError> {

@@ -229,25 +229,27 @@ fn deltas_at_the_limits_are_read_and_written(rt: HostRuntime) {
     assert!(rt; (most, limit) == (Some((1_814_330, 4096)), Some((1_269_562, 4096))));
 }
 
-// So many opening brackets, and the fault.
-const BRACKETS: [(usize, &str); 3] = [
-    (TEXT_LIMIT, "NotJson"),
-    (TEXT_LIMIT + 1, "TooLong"),
-    (TEXT_LIMIT + 2, "TooLong"),
+// One byte so many times, and the fault.
+static LONG: [(u8, usize, &str); 5] = [
+    (b'[', TEXT_LIMIT, "NotJson"),
+    (b'[', TEXT_LIMIT + 1, "TooLong"),
+    (b'[', TEXT_LIMIT + 2, "TooLong"),
+    (b' ', 2_097_152, "NotJson"),
+    (b' ', 2_097_153, "TooLong"),
 ];
 
-fn brackets_are(alloc: Global, count: usize, fault: &str) -> bool {
-    match vec![in alloc; b'['; count] {
+fn is_long(alloc: Global, byte: u8, count: usize, fault: &str) -> bool {
+    match vec![in alloc; byte; count] {
         Ok(text) => is_answer(alloc, text.as_slice(), fault),
         Err(_) => false,
     }
 }
 
-// The first number of brackets with another fault.
-fn first_wrong_count(alloc: Global) -> Option<usize> {
-    for (count, fault) in BRACKETS {
-        if !brackets_are(alloc, count, fault) {
-            return Some(count);
+// The first of these texts with another fault.
+fn first_wrong_length(alloc: Global) -> Option<usize> {
+    for (row, (byte, count, fault)) in LONG.iter().enumerate() {
+        if !is_long(alloc, *byte, *count, fault) {
+            return Some(row);
         }
     }
     None
@@ -255,7 +257,7 @@ fn first_wrong_count(alloc: Global) -> Option<usize> {
 
 #[test]
 fn texts_above_the_limit_are_too_long(rt: HostRuntime) {
-    assert_eq!(rt; first_wrong_count(rt.alloc()), None);
+    assert_eq!(rt; first_wrong_length(rt.alloc()), None);
 }
 
 fn is_refused(alloc: Global, (text, old, new, fault): &Change) -> bool {
@@ -386,4 +388,64 @@ fn first_apart(alloc: Global) -> Option<Option<(usize, u8)>> {
 #[test]
 fn a_tree_gives_the_same_answers(rt: HostRuntime) {
     assert_eq!(rt; first_apart(rt.alloc()), Some(None));
+}
+
+// ---- any one allocation may be refused; the tests fail where a second try finds no memory either
+
+const TWO_ROWS: &str =
+    "{\"from\":0,\"rows\":[{\"ann\":0,\"fin\":0,\"out\":[4,3,0],\"r\":0,\"s\":0,\"taken\":1},{\"ann\":1,\"fin\":0,\"out\":[0,0,0],\"r\":0,\"s\":1,\"taken\":0}],\"v\":1}";
+
+fn is_row(row: &Row, s: u16, out: &[u64], numbers: [u64; 3]) -> bool {
+    row.r == 0
+        && row.s == s
+        && row.out.as_slice() == out
+        && [row.taken, row.ann, row.fin] == numbers
+}
+
+// Whether a delta is that of the two rows. Takes no memory.
+fn is_two_rows(delta: &Delta) -> bool {
+    match delta.rows() {
+        [first, second] => {
+            delta.from_site() == 0
+                && is_row(first, 0, &[4, 3, 0], [1, 0, 0])
+                && is_row(second, 1, &[0, 0, 0], [0, 1, 0])
+        }
+        _ => false,
+    }
+}
+
+// The delta of the two rows; read again where that found no memory.
+fn two_rows(alloc: Global) -> Result<Delta, DecodeError> {
+    match decode(alloc, TWO_ROWS.as_bytes()) {
+        Err(DecodeError::Memory) => decode(alloc, TWO_ROWS.as_bytes()),
+        read => read,
+    }
+}
+
+// The text of a delta; written again where that found no memory.
+fn text_again(alloc: Global, delta: &Delta) -> Result<String, AllocError> {
+    match encode(alloc, delta) {
+        Err(_) => encode(alloc, delta),
+        text => text,
+    }
+}
+
+fn is_written(alloc: Global, delta: &Delta) -> bool {
+    match text_again(alloc, delta) {
+        Ok(text) => text.as_str() == TWO_ROWS,
+        Err(_) => false,
+    }
+}
+
+// Whether the two rows are read, and written again.
+fn come_back(alloc: Global) -> bool {
+    match two_rows(alloc) {
+        Ok(delta) => is_two_rows(&delta) && is_written(alloc, &delta),
+        Err(_) => false,
+    }
+}
+
+#[test]
+fn refused_growths_leave_a_text_whole(rt: HostRuntime) {
+    assert!(rt; come_back(rt.alloc()));
 }

@@ -2,7 +2,6 @@
 use crate::admission::sites::{Answer, told};
 use crate::layouts::one_record;
 use admission_model::Ask;
-use merge_core::Layout;
 use multi_site_world::*;
 use std::alloc::Global;
 
@@ -246,38 +245,48 @@ fn replies_served(alloc: Global, replies: &[WorldReply]) -> Option<Vec<Seen>> {
     Some(others)
 }
 
-// Runs the story, and gives the events and replies of those for which there was memory.
-fn story_served(alloc: Global, layout: Layout) -> Option<(Vec<Event>, Vec<Seen>)> {
-    let (_, replies) = run_world(alloc, layout, &STORY).ok()?;
+// Runs events in a new world, and gives the replies.
+fn replies_to(alloc: Global, events: &[Event]) -> Option<Vec<WorldReply>> {
+    let (_, replies) = run_world(alloc, one_record(alloc, 3, 3, 2)?, events).ok()?;
+    Some(replies)
+}
+
+// The events of the story for which there was memory, all but one at most, and their replies.
+fn story_served(alloc: Global) -> Option<(Vec<Event>, Vec<Seen>)> {
+    let replies = replies_to(alloc, &STORY)?;
     let events = events_served(alloc, replies.as_slice())?;
+    if events.len() != STORY.len() && events.len() != STORY.len() - 1 {
+        return None;
+    }
     Some((events, replies_served(alloc, replies.as_slice())?))
 }
 
 // The first reply that is another than wanted, when these events are run.
-fn first_apart(
-    alloc: Global,
-    layout: Layout,
-    events: &[Event],
-    wanted: &[Seen],
-) -> Option<(usize, Seen)> {
-    let (_, replies) = run_world(alloc, layout, events).ok()?;
-    first_other(replies.as_slice(), wanted)
+fn first_apart(alloc: Global, events: &[Event], wanted: &[Seen]) -> Option<Option<(usize, Seen)>> {
+    let replies = replies_to(alloc, events)?;
+    if replies.len() != wanted.len() {
+        return None;
+    }
+    Some(first_other(replies.as_slice(), wanted))
 }
 
-// The first reply of a run, which may find memory out once, that is another than in a run of the events that did
-// not find it out.
-fn strayed(alloc: Global) -> Option<(usize, Seen)> {
-    let layout = one_record(alloc, 3, 3, 2)?;
-    let copy = layout.try_copy(alloc).ok()?;
-    let (events, wanted) = story_served(alloc, layout)?;
-    match first_apart(alloc, copy, events.as_slice(), wanted.as_slice()) {
-        // It was this run that found memory out.
-        Some((_, Seen::Memory)) => None,
+// The first reply of a run that is another than in a run of the events that did not find memory out. Of both runs
+// together one allocation may be refused: where one gives no world for that, or finds memory out when the other had
+// not, it is run again. There is none where a run gives no world twice.
+fn strayed(alloc: Global) -> Option<Option<(usize, Seen)>> {
+    let (events, wanted) = match story_served(alloc) {
+        Some(served) => served,
+        None => story_served(alloc)?,
+    };
+    match first_apart(alloc, events.as_slice(), wanted.as_slice()) {
+        None | Some(Some((_, Seen::Memory))) => {
+            first_apart(alloc, events.as_slice(), wanted.as_slice())
+        }
         apart => apart,
     }
 }
 
 #[test]
 fn refused_growths_leave_the_run_of_the_other_events(rt: HostRuntime) {
-    assert!(rt; strayed(rt.alloc()) == None);
+    assert!(rt; strayed(rt.alloc()) == Some(None));
 }

@@ -7,15 +7,11 @@ use Rattle.store_rows.specs.declared.content.StoredNotice.{StoredNotice}
 use Rattle.store_rows.specs.declared.content.SessionEdit.{SessionEdit}
 use Rattle.store_rows.specs.Rows.{Stored}
 use Rattle.store_content.specs.Content.{IsContent, IsNotice}
-use Rattle.store_content.specs.Plan.{IsCell, IsPlan, IsTellable, Makes, RowsState, cells_of, edit_of, notices_of}
+use Rattle.store_content.specs.Plan.{IsCell, IsPlan, IsTellable, Makes, RowsState, cells_of, edit_of, notices_of, rows_for}
 use Rattle.store_content.proofs.DurableLemmas.{part}
 use Rattle.store_content.proofs.PutLemmas.{all_weaker, cells_small, each_by, each_of}
 use Rattle.store_content.proofs.SlotLaws.{cells_law, notices_are, put_notices_are, put_notices_rise, put_table_below, put_table_rises}
 use Rattle.store_content.proofs.SessionLaws.{AreSessions, edit_is, edit_storable, place_free, sessions_law}
-
--- the rows of a change
-abbrev pub rows_for : ChangeState → Stored → RowsState
-rows_for c it = record { cells = cells_of c.cells; notices = notices_of c.cells it; edit = edit_of c.session it }
 
 value_fits : (x : DurableCell) → IsCell x → x.value < 2 ^ 63
 value_fits x cell = let low : x.value ≤ 2000000000000 = cell.small in omega arith
@@ -50,7 +46,7 @@ rows_from : List StoredCell → List StoredNotice → Option SessionEdit → Row
 rows_from cells notices edit = record { cells = cells; notices = notices; edit = edit }
 
 -- rows that are a plan are those rows
-same_rows : (c : ChangeState) (it : Stored) (rows : RowsState) → IsPlan c it rows → rows ≡ rows_for c it
+pub same_rows : (c : ChangeState) (it : Stored) (rows : RowsState) → IsPlan c it rows → rows ≡ rows_for c it
 unfolding rows_from
 same_rows c it rows plan =
     ap (λ x. rows_from x rows.notices rows.edit) plan.cells ∙ ap (λ x. rows_from (cells_of c.cells) x rows.edit) plan.notices

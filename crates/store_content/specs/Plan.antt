@@ -80,6 +80,14 @@ pub record IsPlan (c : ChangeState) (it : Stored) (rows : RowsState) : Type 0 wh
   pub edit : rows.edit ≡ edit_of c.session it
   pub room : ¬ LacksPlace c.session it
 
+-- the rows of a change
+abbrev pub rows_for : ChangeState → Stored → RowsState
+rows_for c it = record { cells = cells_of c.cells; notices = notices_of c.cells it; edit = edit_of c.session it }
+
+-- a content after a change: a session that comes has the place after the greatest, and each other row stays as it is
+abbrev pub after_change : ChangeState → Stored → Stored
+after_change c it = after (rows_for c it) it
+
 -- the answer to a change: its rows, or that there is no place for its session
 abbrev pub IsPlanned : ChangeState → Stored → Option RowsState → Type 0
 IsPlanned c it (Some rows) = IsPlan c it rows

@@ -1,5 +1,5 @@
 //! What is remembered of a store's content between calls, so that a change needs no query.
-ghost use Rattle.std.specs.Prelude.{◌≡◌, ℕ, ◌≤◌, ◌↔◌, ◌++◌, List, [], ◌∷◌, length, max, Some, None, IsSome, IfOk, OnOk, IfSome, MatchResult, if◌then◌else◌};
+ghost use Rattle.std.specs.Prelude.{◌≡◌, ℕ, ◌≤◌, ◌↔◌, ◌++◌, List, [], ◌∷◌, length, max, Some, None, Ok, IsSome, IfOk, OnOk, IfSome, MatchResult, if◌then◌else◌};
 ghost use Rattle.std.specs.List.{IsDistinct};
 ghost use Rattle.std.specs.Map.{keys_of, lookup};
 ghost use Rattle.indexmap.specs.IndexMap.{spare};
@@ -90,6 +90,7 @@ impl Index {
     pub fn plan(&self, alloc: Global, change: &Change) -> Result<Option<Rows>, AllocError>
         ensures rows { (it : Stored) → Knows self.now it → IsTellable change.now → IfOk result (IsPlanned change.now it) }
         ensures law { (it : Stored) → Knows self.now it → IsContent it → IsTellable change.now → IfOk result (λ found. IfSome found (Makes change.now it)) }
+        ensures full { (it : Stored) → Knows self.now it → LacksPlace change.now.session it → result ≡ Ok None }
     {
         let Ok(edit) = self.edit_of(change.session()) else {
             return Ok(None);

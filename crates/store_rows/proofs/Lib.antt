@@ -3,6 +3,7 @@ pub mod CreateLemmas
 pub mod EditLemmas
 pub mod PutLemmas
 pub mod ReadLemmas
+pub mod RefusalLemmas
 pub mod SelectLemmas
 pub mod SessionLemmas
 pub mod SortedLemmas

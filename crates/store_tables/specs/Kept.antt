@@ -1,12 +1,14 @@
 -- What a store over a connection keeps.
 use Rattle.std.specs.Prelude.{◌≡◌, Bool, Option, None, Some}
 use Rattle.sqlite_trees.specs.declared.store.Store.{Ghosts}
-use Rattle.sqlite.specs.State.{HasCleanDisk}
+use Rattle.sqlite.specs.State.{HasCleanDisk, Survives}
 use Rattle.sqlite.specs.Held.{Held, state}
 use Rattle.sqlite_schema.specs.declared.schema.Schema.{Schema}
 use Rattle.store_schema.specs.Tables.{no_schema}
 use Rattle.store_rows.specs.Rows.{Stored}
 use Rattle.store_rows.specs.Holding.{Keeps, KeepsEither, KeepsNothing, KeepsNothingOr}
+use Rattle.store_tables.specs.Reads.{KeepsAny}
+use Rattle.store_tables.specs.Refusals.{HasRefused}
 use Rattle.store_tables.specs.declared.tables.Tables.{Tables}
 
 module _ {S : Type 0} {g : Ghosts S} where
@@ -41,6 +43,18 @@ module _ {S : Type 0} {g : Ghosts S} where
   -- whatever a crash at this moment leaves is a database without tables, or a store with this content
   abbrev pub KeepsBlankOr : Tables S g → Stored → Type 0
   KeepsBlankOr t it = KeepsNothingOr g t.conn it
+
+  -- whatever a crash at this moment leaves is a database without tables, or a store whose content is such
+  abbrev pub KeepsSome : Tables S g → (Stored → Type 0) → Type 0
+  KeepsSome t Fits = KeepsAny g t.conn Fits
+
+  -- nothing was committed: what a crash leaves now, it could leave before
+  abbrev pub CommitsNothing : Tables S g → Tables S g → Type 0
+  CommitsNothing old new = Survives (state g old.conn) (state g new.conn) (λ _. ⊥)
+
+  -- the device refused a call, or the connection was shut, or its queries may take only so many steps
+  abbrev pub IsRefusal : Tables S g → Tables S g → Type 0
+  IsRefusal old new = HasRefused (state g old.conn) (state g new.conn)
 
   -- the device has given back what was written so far
   abbrev pub IsHonest : Tables S g → Type 0

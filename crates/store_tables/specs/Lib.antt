@@ -1,3 +1,4 @@
 pub mod Kept
 pub mod Reads
+pub mod Refusals
 pub mod Transacts

@@ -1,13 +1,15 @@
 -- What the rows that a look shows tell, and the numbers that a store takes.
-use Rattle.std.specs.Prelude.{◌≡◌, ◌<◌, ◌≤◌, ◌^◌, Bool, true, ◌&&◌, List, [], ◌∷◌, All}
+use Rattle.std.specs.Prelude.{◌≡◌, ◌⊎◌, ◌<◌, ◌≤◌, ◌^◌, Bool, true, ◌&&◌, List, [], ◌∷◌, All}
 use Rattle.sqlite_value.specs.declared.value.Value.TheVariants.{Text}
 use Rattle.sqlite_value.specs.Order.{Row, column}
+use Rattle.sqlite_trees.specs.declared.store.Store.{Ghosts}
 use Rattle.sqlite_rules.specs.Lists.{Has}
+use Rattle.sqlite.specs.Held.{Held}
 use Rattle.store_rows.specs.declared.content.StoredCell.{StoredCell}
 use Rattle.store_rows.specs.declared.content.StoredSession.{StoredSession}
 use Rattle.store_rows.specs.declared.content.StoredNotice.{StoredNotice}
 use Rattle.store_rows.specs.Rows.{Stored, mark_row}
-use Rattle.store_rows.specs.Holding.{Mark}
+use Rattle.store_rows.specs.Holding.{Mark, Holds, HoldsNothing, Leaves}
 
 -- each element stands before the next
 abbrev pub is_chain : {X : Type 0} → (X → X → Bool) → List X → Bool
@@ -37,3 +39,7 @@ pub record IsInRange (it : Stored) : Type 0 where
   pub cells : All IsCellInRange it.cells
   pub sessions : All IsSessionInRange it.sessions
   pub notices : All IsNoticeInRange it.notices
+
+-- whatever a crash at this moment leaves is a database without tables, or a store whose content is such
+abbrev pub KeepsAny : {S : Type 0} (g : Ghosts S) → Held S → (Stored → Type 0) → Type 0
+KeepsAny g c Fits = Leaves g c (λ db. HoldsNothing db ⊎ ((it : Stored) × (Fits it × Holds it db)))

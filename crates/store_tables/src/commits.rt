@@ -1,10 +1,14 @@
 //! One change of a store, as one transaction.
-ghost use Rattle.std.specs.Prelude.{◌≡◌, ◌<◌, ◌^◌, false, All, IsTrue, OnOk, OnErr};
+ghost use Rattle.std.specs.Prelude.{◌≡◌, ◌≢◌, ◌<◌, ◌^◌, false, All, Err, IsTrue, OnOk, OnErr};
 ghost use Rattle.sqlite.specs.State.{HasCleanDisk, IsUnchanged, KeepsCommit, Survives};
 ghost use Rattle.sqlite.specs.Held.{state};
+ghost use Rattle.sqlite.specs.declared.error.Error.{Error as SqlError};
+ghost use Rattle.sqlite.specs.declared.error.Error.TheVariants.{SqliteFailure};
+ghost use Rattle.sqlite.specs.declared.error.ErrorCode.TheVariants.{OutOfMemory};
 ghost use Rattle.store_rows.specs.Changes.{changed};
 ghost use Rattle.store_rows.specs.Steps.{Goes, Brings, HasFreePlace, IsStorable, with_cells, with_notices, with_edit};
 ghost use Rattle.store_tables.specs.Transacts.{HasCommitted, MayCommit, Turns, Takes};
+ghost use Rattle.store_tables.specs.Refusals.{HasRefused};
 
 use sqlite::{Alter, Connection, Error, Transaction};
 use store_rows::writes::{edit_session, put_cells, put_notices};
@@ -15,6 +19,8 @@ pub(crate) fn check_open<S: Alter>(tx: &mut Transaction<'_, S>) -> Result<(), Er
     ensures same_reference { tx.new.conn.ghost_name ≡ tx.old.conn.ghost_name }
     ensures open { HasCleanDisk (state S.Store tx.new.conn.now) → OnOk result (IsUnchanged (state S.Store tx.old.conn.now) (state S.Store tx.new.conn.now)) }
     ensures kept { HasCleanDisk (state S.Store tx.new.conn.now) → KeepsCommit (state S.Store tx.old.conn.now) (state S.Store tx.new.conn.now) }
+    ensures refused { HasCleanDisk (state S.Store tx.new.conn.now) → (e : SqlError) → result ≡ Err e → e ≢ SqliteFailure OutOfMemory
+        → HasRefused (state S.Store tx.old.conn.now) (state S.Store tx.new.conn.now) }
     ensures survives { Survives (state S.Store tx.old.conn.now) (state S.Store tx.new.conn.now) (λ _. ⊥) }
 {
     let _statement = tx.prepare("SELECT 1")?;

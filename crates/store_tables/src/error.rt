@@ -1,8 +1,18 @@
-ghost use Rattle.std.specs.Prelude.{◌≡◌};
+ghost use Rattle.std.specs.Prelude.{◌≡◌, ◌↔◌, IsTrue};
+ghost use Rattle.sqlite.specs.declared.error.Error.TheVariants.{SqliteFailure};
+ghost use Rattle.sqlite.specs.declared.error.ErrorCode.TheVariants.{OutOfMemory};
 ghost use Rattle.store_tables.specs.declared.error.TableError.TheVariants.{Memory};
 
+use sqlite::{Error as SqlError, ErrorCode};
 use std::alloc::AllocError;
 use thiserror::Error;
+
+// The error is want of memory.
+pub(crate) fn is_memory(error: SqlError) -> bool
+    ensures { IsTrue result ↔ (error ≡ SqliteFailure OutOfMemory) }
+{
+    error == SqlError::SqliteFailure(ErrorCode::OutOfMemory)
+}
 
 /// Why a store does not do what it is asked.
 #[derive(Clone, Copy, Debug, PartialEq, Eq, Error)]

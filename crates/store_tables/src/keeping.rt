@@ -1,33 +1,28 @@
 //! What a connection keeps, over each transaction.
-ghost use Rattle.std.specs.Prelude.{◌≡◌, ◌≢◌, ◌⊎◌, ◌↔◌, ◌<◌, ◌^◌, false, All, None, Some, Ok, Err, IsTrue, IfOk, OnOk, OnErr};
+ghost use Rattle.std.specs.Prelude.{◌≡◌, ◌≢◌, ◌⊎◌, ◌<◌, ◌^◌, ⊤, false, All, None, Some, Ok, Err, IsTrue, IfOk, OnOk, OnErr};
 ghost use Rattle.sqlite.specs.State.{HasCleanDisk, Survives};
 ghost use Rattle.sqlite.specs.Held.{state};
 ghost use Rattle.sqlite.specs.declared.error.Error.TheVariants.{SqliteFailure};
 ghost use Rattle.sqlite.specs.declared.error.ErrorCode.TheVariants.{OutOfMemory};
-ghost use Rattle.store_schema.specs.Tables.{no_schema};
+ghost use Rattle.store_schema.specs.Tables.{no_schema, schema_of};
 ghost use Rattle.store_schema.specs.Found.{found_in};
-ghost use Rattle.store_schema.specs.declared.Found.TheVariants.{Blank, Store};
+ghost use Rattle.store_schema.specs.declared.Found.TheVariants.{Blank, Store, Other};
 ghost use Rattle.store_rows.specs.Changes.{changed, renewed};
 ghost use Rattle.store_rows.specs.Holding.{Keeps, KeepsEither, KeepsNothing, KeepsNothingOr, Holds, HoldsNothing, IsStoreOf};
 ghost use Rattle.store_rows.specs.Steps.{IsStorable};
 ghost use Rattle.store_tables.specs.Transacts.{Takes, made};
-ghost use Rattle.store_tables.specs.Reads.{IsInRange};
-ghost use Rattle.store_tables.specs.declared.reads.Unread.TheVariants.{Bad};
+ghost use Rattle.store_tables.specs.Reads.{IsInRange, KeepsAny};
+ghost use Rattle.store_tables.specs.Refusals.{HasRefused};
+ghost use Rattle.store_tables.specs.declared.reads.Unread.TheVariants.{Bad, Failed};
 
 use crate::commits::{check_open, write};
+use crate::error::is_memory;
 use crate::making::{make, renew};
 use crate::reads::{Unread, read_all};
-use sqlite::{Alter, Connection, Error, ErrorCode, Transaction};
+use sqlite::{Alter, Connection, Error, Transaction};
 use std::alloc::Global;
 use store_rows::{Content, SessionEdit, StoredCell, StoredNotice, Version};
 use store_schema::{Found, found_in};
-
-// The error is want of memory.
-fn is_memory(error: Error) -> bool
-    ensures { IsTrue result ↔ (error ≡ SqliteFailure OutOfMemory) }
-{
-    error == Error::SqliteFailure(ErrorCode::OutOfMemory)
-}
 
 /// Whether the connection is open still, with the last commit as it was. Commits nothing.
 fn is_open<S: Alter>(conn: &mut Connection<S>) -> bool
@@ -134,6 +129,8 @@ fn read_found<S: Alter>(
     ensures own { HasCleanDisk (state S.Store tx.new.conn.now) → (it : _) → found ≡ Store it.version → IsStoreOf (state S.Store tx.old.conn.now).now it → IsInRange it → result ≢ Err Bad }
     ensures blank { found ≡ Blank → IfOk result (λ content. content ≡ None) × (result ≢ Err Bad) }
     ensures cause { result ≡ Ok None → found ≡ Blank }
+    ensures refused { HasCleanDisk (state S.Store tx.new.conn.now) → ((v : Version) → found ≡ Store v → (state S.Store tx.old.conn.now).now.schema ≡ schema_of v)
+        → result ≡ Err Failed → HasRefused (state S.Store tx.old.conn.now) (state S.Store tx.new.conn.now) }
     ensures survives { Survives (state S.Store tx.old.conn.now) (state S.Store tx.new.conn.now) (λ _. ⊥) }
 {
     check_open(tx)?;
@@ -162,6 +159,8 @@ fn read_whole<S: Alter>(
     ensures own { HasCleanDisk (state S.Store conn.new) → (it : _) → found ≡ Store it.version → IsStoreOf (state S.Store conn.old).now it → IsInRange it → result ≢ Err Bad }
     ensures blank { found ≡ Blank → IfOk result (λ content. content ≡ None) × (result ≢ Err Bad) }
     ensures cause { result ≡ Ok None → found ≡ Blank }
+    ensures refused { HasCleanDisk (state S.Store conn.new) → ((v : Version) → found ≡ Store v → (state S.Store conn.old).now.schema ≡ schema_of v)
+        → result ≡ Err Failed → HasRefused (state S.Store conn.old) (state S.Store conn.new) }
     ensures survives { Survives (state S.Store conn.old) (state S.Store conn.new) (λ _. ⊥) }
 {
     let mut tx = conn.transaction();
@@ -187,6 +186,10 @@ pub(crate) fn look_kept<S: Alter>(
         ⊎ (Keeps S.Store conn.new it × (HasCleanDisk (state S.Store conn.new) → found ≡ Some it)) ∥₁) }
     ensures cause { result ≡ Ok None → found_in (state S.Store conn.old).now.schema ≡ Blank }
     ensures fresh { (state S.Store conn.old).now.schema ≡ no_schema → OnOk result (KeepsNothing S.Store conn.new) }
+    ensures sound { HasCleanDisk (state S.Store conn.new) → KeepsAny S.Store conn.old IsInRange → result ≢ Err Bad }
+    ensures refused { HasCleanDisk (state S.Store conn.new) → KeepsAny S.Store conn.old (λ _. ⊤) → result ≡ Err Failed → HasRefused (state S.Store conn.old) (state S.Store conn.new) }
+    ensures other { HasCleanDisk (state S.Store conn.new) → found_in (state S.Store conn.old).now.schema ≡ Other → result ≡ Err Failed
+        → HasRefused (state S.Store conn.old) (state S.Store conn.new) }
     ensures survives { Survives (state S.Store conn.old) (state S.Store conn.new) (λ _. ⊥) }
 {
     // what it ensures of a connection, the transaction is read with

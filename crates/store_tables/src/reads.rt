@@ -1,16 +1,21 @@
 //! What a store holds, read table by table inside one transaction.
-ghost use Rattle.std.specs.Prelude.{◌≡◌, ◌≢◌, ◌<◌, ◌^◌, ℕ, List, Bool, [], map, Some, None, Err, pos, All, IsTrue, IfOk, IfSome, IsSome, IsSomeAnd, OnOk};
+ghost use Rattle.std.specs.Prelude.{◌≡◌, ◌≢◌, ◌↔◌, ◌<◌, ◌^◌, ℕ, List, Bool, [], map, Some, None, Err, pos, All, IsTrue, IfOk, IfSome, IsSome, IsSomeAnd, OnOk};
 ghost use Rattle.sqlite_rules.specs.Lists.{Has};
 ghost use Rattle.sqlite_value.specs.declared.value.Value.TheVariants.{Int, Text};
 ghost use Rattle.sqlite_value.specs.Order.{Row as SqlRow, column};
 ghost use Rattle.sqlite.specs.State.{HasCleanDisk, Survives};
 ghost use Rattle.sqlite.specs.Held.{state};
+ghost use Rattle.sqlite.specs.declared.error.Error.TheVariants.{SqliteFailure};
+ghost use Rattle.sqlite.specs.declared.error.ErrorCode.TheVariants.{OutOfMemory};
+ghost use Rattle.store_schema.specs.Tables.{schema_of};
 ghost use Rattle.store_rows.specs.Rows.{cell_row, session_row, notice_row, cell_before, session_before, notice_before};
 ghost use Rattle.store_rows.specs.Holding.{HoldsParts, IsStoreOf, mark};
 ghost use Rattle.std.specs.List.{AllByRecursion};
+ghost use Rattle.store_tables.specs.Refusals.{HasRefused};
 ghost use Rattle.store_tables.specs.Reads.{is_chain, TellsMark, IsCellInRange, IsSessionInRange, IsNoticeInRange, IsInRange};
 ghost use Rattle.store_tables.specs.declared.reads.Unread.TheVariants.{Bad, Memory, Failed};
 
+use crate::error::is_memory;
 use crate::making::version_text;
 use sqlite::types::ValueRef;
 use sqlite::{Alter, Error, Row, Transaction};
@@ -22,7 +27,8 @@ pub(crate) enum Unread {
     /// It holds what no store holds.
     Bad,
     Memory,
-    Failed(Error),
+    /// The database refused a call, and not for want of memory.
+    Failed,
 }
 
 impl From<AllocError> for Unread {
@@ -34,10 +40,14 @@ impl From<AllocError> for Unread {
 }
 
 impl From<Error> for Unread {
-    ghost from_gives = { λ e u. u ≡ Failed e };
+    ghost from_gives = { λ e u. (u ≡ Memory ↔ (e ≡ SqliteFailure OutOfMemory)) × (u ≢ Bad) };
 
     fn from(error: Error) -> Unread {
-        Unread::Failed(error)
+        if is_memory(error) {
+            Unread::Memory
+        } else {
+            Unread::Failed
+        }
     }
 }
 
@@ -197,6 +207,7 @@ fn rising_in<T: Item>(alloc: Global, rows: &[Row]) -> Result<Vec<T>, Unread>
     ensures rows { IfOk result (λ all. map T.row_of all.items ≡ rows.now) }
     ensures chain { IfOk result (λ all. IsTrue (is_chain T.before all.items)) }
     ensures own { ((r : _) → Has rows.now r → (x : _) × T.is_in_range x × (r ≡ T.row_of x)) → ((all : _) → map T.row_of all ≡ rows.now → IsTrue (is_chain T.before all)) → result ≢ Err Bad }
+    ensures unrefused { result ≢ Err Failed }
 {
     let Some(all) = items_in::<T>(alloc, rows)? else {
         return Err(Unread::Bad);
@@ -216,6 +227,10 @@ fn read_cells<S: Alter>(
     ensures read { HasCleanDisk (state S.Store tx.new.conn.now) → (p : _) → HoldsParts p (state S.Store tx.old.conn.now).now
         → IfOk result (λ all. (all.items ≡ p.cells) × ((state S.Store tx.new.conn.now).now ≡ (state S.Store tx.old.conn.now).now)) }
     ensures own { HasCleanDisk (state S.Store tx.new.conn.now) → (p : _) → HoldsParts p (state S.Store tx.old.conn.now).now → All IsCellInRange p.cells → result ≢ Err Bad }
+    ensures same { HasCleanDisk (state S.Store tx.new.conn.now) → (v : Version) → (state S.Store tx.old.conn.now).now.schema ≡ schema_of v
+        → OnOk result ((state S.Store tx.new.conn.now).now ≡ (state S.Store tx.old.conn.now).now) }
+    ensures refused { HasCleanDisk (state S.Store tx.new.conn.now) → (v : Version) → (state S.Store tx.old.conn.now).now.schema ≡ schema_of v
+        → result ≡ Err Failed → HasRefused (state S.Store tx.old.conn.now) (state S.Store tx.new.conn.now) }
     ensures survives { Survives (state S.Store tx.old.conn.now) (state S.Store tx.new.conn.now) (λ _. ⊥) }
 {
     let rows = tx.query_all(
@@ -234,6 +249,10 @@ fn read_sessions<S: Alter>(
     ensures read { HasCleanDisk (state S.Store tx.new.conn.now) → (p : _) → HoldsParts p (state S.Store tx.old.conn.now).now
         → IfOk result (λ all. (all.items ≡ p.sessions) × ((state S.Store tx.new.conn.now).now ≡ (state S.Store tx.old.conn.now).now)) }
     ensures own { HasCleanDisk (state S.Store tx.new.conn.now) → (p : _) → HoldsParts p (state S.Store tx.old.conn.now).now → All IsSessionInRange p.sessions → result ≢ Err Bad }
+    ensures same { HasCleanDisk (state S.Store tx.new.conn.now) → (v : Version) → (state S.Store tx.old.conn.now).now.schema ≡ schema_of v
+        → OnOk result ((state S.Store tx.new.conn.now).now ≡ (state S.Store tx.old.conn.now).now) }
+    ensures refused { HasCleanDisk (state S.Store tx.new.conn.now) → (v : Version) → (state S.Store tx.old.conn.now).now.schema ≡ schema_of v
+        → result ≡ Err Failed → HasRefused (state S.Store tx.old.conn.now) (state S.Store tx.new.conn.now) }
     ensures survives { Survives (state S.Store tx.old.conn.now) (state S.Store tx.new.conn.now) (λ _. ⊥) }
 {
     let rows = tx.query_all(
@@ -253,6 +272,8 @@ fn read_notices<S: Alter>(
         → IfOk result (λ all. (all.items ≡ p.notices) × ((state S.Store tx.new.conn.now).now ≡ (state S.Store tx.old.conn.now).now)) }
     ensures own { HasCleanDisk (state S.Store tx.new.conn.now) → (p : _) → p.tables ≡ Version.Second
         → HoldsParts p (state S.Store tx.old.conn.now).now → All IsNoticeInRange p.notices → result ≢ Err Bad }
+    ensures refused { HasCleanDisk (state S.Store tx.new.conn.now) → (state S.Store tx.old.conn.now).now.schema ≡ schema_of Version.Second
+        → result ≡ Err Failed → HasRefused (state S.Store tx.old.conn.now) (state S.Store tx.new.conn.now) }
     ensures survives { Survives (state S.Store tx.old.conn.now) (state S.Store tx.new.conn.now) (λ _. ⊥) }
 {
     let rows = tx.query_all(
@@ -301,6 +322,7 @@ fn mark_in(alloc: Global, rows: &[Row], name: &[u8]) -> Result<Option<Vec<u8>>, 
 fn mark_of(alloc: Global, rows: &[Row], name: &[u8]) -> Result<Vec<u8>, Unread>
     ensures sound { (value : _) → TellsMark rows.now (mark name.now value) → IfOk result (λ text. text.items ≡ value) }
     ensures own { (value : _) → TellsMark rows.now (mark name.now value) → result ≢ Err Bad }
+    ensures unrefused { result ≢ Err Failed }
 {
     let Some(text) = mark_in(alloc, rows, name)? else {
         return Err(Unread::Bad);
@@ -314,6 +336,10 @@ fn read_marks<S: Alter>(tx: &mut Transaction<'_, S>) -> Result<Vec<Row>, Unread>
     ensures read { HasCleanDisk (state S.Store tx.new.conn.now) → (p : _) → HoldsParts p (state S.Store tx.old.conn.now).now
         → IfOk result (λ rows. AllByRecursion (TellsMark rows.items) p.marks × ((state S.Store tx.new.conn.now).now ≡ (state S.Store tx.old.conn.now).now)) }
     ensures own { result ≢ Err Bad }
+    ensures same { HasCleanDisk (state S.Store tx.new.conn.now) → (v : Version) → (state S.Store tx.old.conn.now).now.schema ≡ schema_of v
+        → OnOk result ((state S.Store tx.new.conn.now).now ≡ (state S.Store tx.old.conn.now).now) }
+    ensures refused { HasCleanDisk (state S.Store tx.new.conn.now) → (v : Version) → (state S.Store tx.old.conn.now).now.schema ≡ schema_of v
+        → result ≡ Err Failed → HasRefused (state S.Store tx.old.conn.now) (state S.Store tx.new.conn.now) }
     ensures survives { Survives (state S.Store tx.old.conn.now) (state S.Store tx.new.conn.now) (λ _. ⊥) }
 {
     let rows = tx.query_all("SELECT name, value FROM meta", &[])?;
@@ -330,6 +356,8 @@ fn read_notices_of<S: Alter>(
     ensures read { HasCleanDisk (state S.Store tx.new.conn.now) → (p : _) → p.tables ≡ version → HoldsParts p (state S.Store tx.old.conn.now).now
         → IfOk result (λ all. all.items ≡ p.notices) }
     ensures own { HasCleanDisk (state S.Store tx.new.conn.now) → (p : _) → p.tables ≡ version → HoldsParts p (state S.Store tx.old.conn.now).now → All IsNoticeInRange p.notices → result ≢ Err Bad }
+    ensures refused { HasCleanDisk (state S.Store tx.new.conn.now) → (state S.Store tx.old.conn.now).now.schema ≡ schema_of version
+        → result ≡ Err Failed → HasRefused (state S.Store tx.old.conn.now) (state S.Store tx.new.conn.now) }
     ensures survives { Survives (state S.Store tx.old.conn.now) (state S.Store tx.new.conn.now) (λ _. ⊥) }
 {
     match version {
@@ -348,6 +376,8 @@ pub(crate) fn read_all<S: Alter>(
     ensures read { HasCleanDisk (state S.Store tx.new.conn.now) → (it : _) → it.version ≡ version → IsStoreOf (state S.Store tx.old.conn.now).now it
         → IfOk result (λ found. found ≡ it) }
     ensures own { HasCleanDisk (state S.Store tx.new.conn.now) → (it : _) → it.version ≡ version → IsStoreOf (state S.Store tx.old.conn.now).now it → IsInRange it → result ≢ Err Bad }
+    ensures refused { HasCleanDisk (state S.Store tx.new.conn.now) → (state S.Store tx.old.conn.now).now.schema ≡ schema_of version
+        → result ≡ Err Failed → HasRefused (state S.Store tx.old.conn.now) (state S.Store tx.new.conn.now) }
     ensures survives { Survives (state S.Store tx.old.conn.now) (state S.Store tx.new.conn.now) (λ _. ⊥) }
 {
     let rows = read_marks(tx)?;

@@ -23,14 +23,14 @@ impl<S: Alter + Drop> Drop for Tables<S> {
 }
 
 impl<S: Alter> Tables<S> {
-    ghost use Rattle.std.specs.Prelude.{◌≡◌, ◌≢◌, ◌⊎◌, ◌<◌, ◌^◌, [], None, Ok, Err, false, All, Some, IsTrue, IfOk, OnOk, if◌then◌else◌};
+    ghost use Rattle.std.specs.Prelude.{◌≡◌, ◌≢◌, ◌⊎◌, ◌<◌, ◌^◌, ⊤, [], None, Ok, Err, false, All, Some, IsTrue, IfOk, OnOk, if◌then◌else◌};
     ghost use Rattle.store_rows.specs.Changes.{changed, renewed};
     ghost use Rattle.store_rows.specs.Steps.{IsStorable};
     ghost use Rattle.store_schema.specs.Found.{found_in};
-    ghost use Rattle.store_schema.specs.declared.Found.TheVariants.{Blank};
+    ghost use Rattle.store_schema.specs.declared.Found.TheVariants.{Blank, Other};
     ghost use Rattle.store_tables.specs.Transacts.{Takes, made};
     ghost use Rattle.store_tables.specs.Reads.{IsInRange};
-    ghost use Rattle.store_tables.specs.Kept.{has_failed, connection_of, schema_of, IsBlank, IsHonest, KeepsStore, KeepsOneOf, KeepsBlank, KeepsBlankOr, Settles, SettlesBlank};
+    ghost use Rattle.store_tables.specs.Kept.{has_failed, connection_of, schema_of, IsBlank, IsHonest, KeepsStore, KeepsOneOf, KeepsBlank, KeepsBlankOr, KeepsSome, CommitsNothing, IsRefusal, Settles, SettlesBlank};
     ghost use Rattle.store_tables.specs.declared.error.TableError.TheVariants.{BadStore, Memory, StoreFault};
 
     /// The tables of a database, of which the caller shows that no transaction is open. Calls no store.
@@ -173,18 +173,19 @@ impl<S: Alter> Tables<S> {
         ensures fault { result ≡ Err StoreFault → IsTrue (has_failed self.new) }
         ensures sound { result ≢ Err StoreFault → has_failed self.new ≡ false }
         ensures stopped { IsTrue (has_failed self.old) → (result ≡ Err StoreFault) × (self.new ≡ self.old) }
+        ensures good { KeepsSome self.old IsInRange → IsHonest self.new → result ≢ Err BadStore }
+        ensures refused { has_failed self.old ≡ false → KeepsSome self.old (λ _. ⊤) → IsHonest self.new → result ≡ Err StoreFault → IsRefusal self.old self.new }
+        ensures other { has_failed self.old ≡ false → found_in (schema_of self.old) ≡ Other → IsHonest self.new → result ≡ Err StoreFault → IsRefusal self.old self.new }
+        ensures unwritten { CommitsNothing self.old self.new }
     {
         if self.failed {
             return Err(TableError::StoreFault);
         }
-        let error = match look_kept(alloc, &mut self.conn) {
+        match look_kept(alloc, &mut self.conn) {
             Ok(found) => return Ok(found),
             Err(Unread::Bad) => return Err(TableError::BadStore),
             Err(Unread::Memory) => return Err(TableError::Memory),
-            Err(Unread::Failed(error)) => error,
-        };
-        if is_unchanged(&mut self.conn, error) {
-            return Err(TableError::Memory);
+            Err(Unread::Failed) => {}
         }
         self.failed = true;
         Err(TableError::StoreFault)

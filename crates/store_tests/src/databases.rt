@@ -1,7 +1,7 @@
 //! Databases that tests begin with: in memory, on files that stop, and with the tables of a store as they are documented.
 use merge_core::{Layout, RecordName, RecordSpec};
 use sqlite::{Alter, Connection, FileStore, Files, MemStore, Options};
-use sqlite_disk::{Crash, Fuse, Memory};
+use sqlite_disk::{Crash, Disk, Fuse, Memory};
 use std::alloc::Global;
 
 /// The line of the layout of two sites with record `a` of two seats at site 0.
@@ -88,6 +88,11 @@ pub fn crashed<D: Crash + Drop>(files: Files<D>) -> Files<D> {
 /// The files of a database, which are not closed in order.
 pub fn files_of<D: Crash + Drop>(connection: Connection<FileStore<D>>) -> Files<D> {
     connection.into_store().close()
+}
+
+/// The files of a database that is closed in order.
+pub fn closed<D: Disk + Drop>(connection: Connection<FileStore<D>>) -> Option<Files<D>> {
+    connection.close_files().ok()
 }
 
 /// Whether a database takes these statements.

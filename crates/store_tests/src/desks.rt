@@ -90,7 +90,7 @@ pub enum Told {
     Other,
 }
 
-fn told_by(reply: &Reply) -> Told {
+pub fn told_by(reply: &Reply) -> Told {
     match reply {
         Reply::Admitted => Told::Admitted,
         Reply::Left(_) => Told::Left,

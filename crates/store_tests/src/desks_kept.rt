@@ -34,7 +34,7 @@ fn keepers_of_both_kinds_keep_the_same(rt: HostRuntime) {
 // ---- the store with one reader
 
 /// A statement, a number of sites and a site, and what an opening of the store with one reader comes to then.
-const JUDGED: [(&str, u16, u16, Opened); 7] = [
+static JUDGED: [(&str, u16, u16, Opened); 7] = [
     ("", 2, 0, Opened::Holds(1, 1, true)),
     ("", 3, 0, Opened::Holds(1, 1, true)),
     ("", 2, 1, Opened::Refused(OpenError::WrongSite)),
@@ -89,7 +89,7 @@ fn a_store_with_a_reader_is_judged(rt: HostRuntime) {
 }
 
 /// The place of the one reader is the last but one: another enters behind it.
-const LAST_PLACE: [Step; 4] = [
+static LAST_PLACE: [Step; 4] = [
     Step::Serve(ENTERS),
     Step::Run("UPDATE sessions SET place = 4611686018427387903"),
     Step::Serve(Shift {
@@ -107,7 +107,7 @@ const LAST_PLACE: [Step; 4] = [
 ];
 
 /// Its place is the last: there is none for another, and the desk stops.
-const NO_PLACE: [Step; 4] = [
+static NO_PLACE: [Step; 4] = [
     Step::Serve(ENTERS),
     Step::Run("UPDATE sessions SET place = 4611686018427387904"),
     Step::Serve(Shift {
@@ -136,10 +136,10 @@ fn a_session_without_a_place_stops_the_desk(rt: HostRuntime) {
 // ---- a layout that grows
 
 /// What a site that is alone answers to a reader and to a gift.
-const ALONE: [(Ask, Told); 2] = [(READ_7, Told::Admitted), (GIVE, Told::NoSite)];
+static ALONE: [(Ask, Told); 2] = [(READ_7, Told::Admitted), (GIVE, Told::NoSite)];
 
 /// What it answers to the gift once it has a second site beside it.
-const GROWN: [(Ask, Told); 1] = [(GIVE, Told::Given)];
+static GROWN: [(Ask, Told); 1] = [(GIVE, Told::Given)];
 
 /// The run of a desk that answers calls so, and its connection.
 fn run_of<S: Alter + Drop>(
@@ -191,7 +191,7 @@ fn joined(alloc: Global, first: Run, second: Run) -> Option<Transcript> {
 }
 
 /// The numbers of sites and of entries of a transcript's runs.
-fn sizes(transcript: &Transcript) -> Option<(u16, usize, u16, usize)> {
+pub fn sizes(transcript: &Transcript) -> Option<(u16, usize, u16, usize)> {
     match transcript.runs.as_slice() {
         [first, second] => Some((
             first.sites,

@@ -93,21 +93,55 @@ fn admits(alloc: Global) -> Option<bool> {
     admits_over(alloc, in_memory(alloc)?)
 }
 
+// Of all that these try one allocation may be refused: what could not be tried for that is tried again.
+
+fn is_made(alloc: Global) -> bool {
+    let made = match makes(alloc) {
+        None => makes(alloc),
+        made => made,
+    };
+    made == Some(true)
+}
+
+fn is_found(alloc: Global, sites: u16) -> bool {
+    let found = match finds(alloc, sites) {
+        None => finds(alloc, sites),
+        found => found,
+    };
+    found == Some(true)
+}
+
+fn is_admitted_in_memory(alloc: Global) -> bool {
+    let admitted = match admits_in_memory(alloc) {
+        None => admits_in_memory(alloc),
+        admitted => admitted,
+    };
+    admitted == Some(true)
+}
+
+fn is_admitted(alloc: Global) -> bool {
+    let admitted = match admits(alloc) {
+        None => admits(alloc),
+        admitted => admitted,
+    };
+    admitted == Some(true)
+}
+
 #[test]
 fn a_store_is_made_or_not_for_want_of_memory(rt: HostRuntime) {
-    assert_ne!(rt; makes(rt.alloc()), Some(false));
+    assert!(rt; is_made(rt.alloc()));
 }
 
 #[test]
 fn a_store_is_found_or_not_for_want_of_memory(rt: HostRuntime) {
     for sites in [2u16, 3] {
-        assert_ne!(rt; finds(rt.alloc(), sites), Some(false), "{sites}");
+        assert!(rt; is_found(rt.alloc(), sites), "{sites}");
     }
 }
 
 #[test]
 fn a_reader_is_admitted_or_not_for_want_of_memory(rt: HostRuntime) {
     let alloc = rt.alloc();
-    assert_ne!(rt; admits_in_memory(alloc), Some(false));
-    assert_ne!(rt; admits(alloc), Some(false));
+    assert!(rt; is_admitted_in_memory(alloc));
+    assert!(rt; is_admitted(alloc));
 }

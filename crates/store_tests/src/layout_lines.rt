@@ -23,7 +23,7 @@ fn layout(alloc: Global, sites: u16) -> Option<Layout> {
 }
 
 /// The line of these records at so many sites.
-const WRITTEN: [(u16, &str); 2] = [
+static WRITTEN: [(u16, &str); 2] = [
     (16, "16;a,2,0,1;z-9,65535,3,2"),
     (4, "4;a,2,0,1;z-9,65535,3,2"),
 ];
@@ -39,7 +39,7 @@ fn is_written(alloc: Global, row: (u16, &str)) -> bool {
 }
 
 /// Lines, a site, and how they compare with the layout at 16 sites.
-const COMPARED: [(&str, u16, Line); 10] = [
+static COMPARED: [(&str, u16, Line); 10] = [
     ("16;a,2,0,1;z-9,65535,3,2", 15, Line::Same),
     ("15;a,2,0,1;z-9,65535,3,2", 14, Line::Earlier),
     ("15;a,2,0,1;z-9,65535,3,2", 15, Line::Other),

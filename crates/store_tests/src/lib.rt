@@ -1,6 +1,6 @@
 //! Tests of what keeps a site's durable part, from the tables of its store to the desk above, over databases in memory and
-//! on files that stop. A program of tests over a database begins with all that SQLite's crates promise, whatever the
-//! tests are: here it does so once for four crates, none of which is proved again for its tests.
+//! on files that stop; and of the whole program, over stores and a runtime of its own. A program of tests over a database
+//! begins with all that SQLite's crates promise, whatever the tests are: here it does so once for all of them.
 #![tactic(auto)]
 
 #[cfg(test)]
@@ -18,9 +18,19 @@ mod growths;
 #[cfg(test)]
 mod layout_lines;
 #[cfg(test)]
+mod shells;
+#[cfg(test)]
+mod sites;
+#[cfg(test)]
+mod sites_kept;
+#[cfg(test)]
+mod stored;
+#[cfg(test)]
 mod stores;
 #[cfg(test)]
 mod stores_opened;
+#[cfg(test)]
+mod stores_stopped;
 #[cfg(test)]
 mod tables;
 #[cfg(test)]

@@ -33,7 +33,7 @@ const WRONG_LAYOUT: Opened = Opened::Refused(OpenError::WrongLayout);
 const BAD_STORE: Opened = Opened::Refused(OpenError::BadStore);
 
 /// One store, new at site 0 of two sites: again, at site 1, with other seats, at three sites, and then at two again.
-const IN_TURN: [Step; 6] = [
+static IN_TURN: [Step; 6] = [
     Step::Open(HERE, EMPTY),
     Step::Open(HERE, EMPTY),
     Step::Open(OTHER_SITE, WRONG_SITE),
@@ -42,13 +42,19 @@ const IN_TURN: [Step; 6] = [
     Step::Open(HERE, WRONG_LAYOUT),
 ];
 
-const BESIDE: [Step; 2] = [
+static BESIDE: [Step; 2] = [
     Step::Run("CREATE TABLE other (x INTEGER)"),
     Step::Open(HERE, EMPTY),
 ];
 
+/// The only table has the name of one of a store's, and other columns.
+static ONLY_CELLS: [Step; 2] = [
+    Step::Run("CREATE TABLE cells (x INTEGER)"),
+    Step::Open(HERE, BAD_STORE),
+];
+
 /// Changes of a store of the first version, and what its opening comes to then.
-const CHANGED: [(&str, Opened); 15] = [
+static CHANGED: [(&str, Opened); 15] = [
     (
         "INSERT INTO cells VALUES (0, 200, 1), (0, 100, 3); INSERT INTO sessions VALUES (0, 7, 1, 5), (0, 9, 2, 2)",
         Opened::Holds(2, 2, false),
@@ -110,8 +116,12 @@ fn a_store_is_judged_before_it_is_opened(rt: HostRuntime) {
 fn a_new_store_is_its_own(rt: HostRuntime) {
     let alloc = rt.alloc();
     assert_eq!(rt;
-        [are_told(alloc, &IN_TURN), are_told(alloc, &BESIDE)],
-        [true, true]
+        [
+            are_told(alloc, &IN_TURN),
+            are_told(alloc, &BESIDE),
+            are_told(alloc, &ONLY_CELLS)
+        ],
+        [true, true, true]
     );
 }
 

@@ -110,7 +110,7 @@ const AT_LIMITS: [&str; 3] = [
 ];
 
 // What is found after other beginnings.
-const BEGINNINGS: [(&[&str], Found); 4] = [
+static BEGINNINGS: [(&[&str], Found); 4] = [
     (&[FIRST], Found::Store),
     (&[], Found::Blank),
     (&["CREATE TABLE other (x INTEGER)"], Found::Blank),
@@ -130,7 +130,7 @@ fn other_beginning(alloc: Global) -> Option<usize> {
 }
 
 // What is found after each kind of change.
-const JUDGED: [(&[&'static str], Found); 5] = [
+static JUDGED: [(&[&'static str], Found); 5] = [
     (&UNWRITABLE, Found::Refused),
     (&HARMLESS, Found::Store),
     (&MISSING, Found::BadStore),
@@ -229,7 +229,7 @@ fn put_waiting<S: Alter>(tables: &mut Tables<S>, r: u16, place: u16) -> bool {
 }
 
 /// The slots of what a site took, left and withdrew, beside those of what it gave and was given.
-const OWN_SLOTS: [u16; 3] = [200, 201, 202];
+static OWN_SLOTS: [u16; 3] = [200, 201, 202];
 
 fn fill_slots<S: Alter>(tables: &mut Tables<S>, r: u16) -> bool {
     for slot in OWN_SLOTS {

@@ -12,12 +12,13 @@ use store_tables::restart::restart;
 use store_tables::{Content, StoredCell, StoredNotice, StoredSession, Tables, Version};
 
 /// What a store holds.
-struct Held {
-    version: Version,
-    layout: &'static str,
-    cells: &'static [StoredCell],
-    notices: &'static [StoredNotice],
-    sessions: &'static [StoredSession],
+#[derive(Clone, Copy)]
+pub struct Held {
+    pub version: Version,
+    pub layout: &'static str,
+    pub cells: &'static [StoredCell],
+    pub notices: &'static [StoredNotice],
+    pub sessions: &'static [StoredSession],
 }
 
 /// A run: what its database begins with, its steps, and what is found after none of them, one, two and so on; `None`
@@ -92,7 +93,7 @@ fn has_rows(content: &Content, held: &Held) -> bool {
         && content.sessions.as_slice() == held.sessions
 }
 
-fn is_held(content: Option<&Content>, held: Option<&Held>) -> bool {
+pub fn is_held(content: Option<&Content>, held: Option<&Held>) -> bool {
     match (content, held) {
         (None, None) => true,
         (Some(content), Some(held)) => {

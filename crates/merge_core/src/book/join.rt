@@ -7,6 +7,7 @@ ghost use Rattle.merge_core.specs.Book.{record_rises};
 ghost use Rattle.merge_core.specs.Joined.{joined_record};
 
 use super::Book;
+use super::marks::mark;
 use crate::record::RecordState;
 use crate::{Delta, Row};
 
@@ -60,6 +61,7 @@ impl Book {
         ensures few { result ≤ 19 }
         ensures book { IsBook self.new }
     {
+        mark(&mut self.marks, row.r, row.s);
         let it = &mut self.records[usize::from(row.r)];
         join_record(it, row)
     }

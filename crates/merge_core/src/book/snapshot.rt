@@ -7,13 +7,14 @@ ghost use Rattle.merge_core.specs.Book.{IsRecord};
 ghost use Rattle.merge_core.specs.Kept.{start_in};
 
 use super::Book;
+use super::marks::is_marked;
 use crate::record::RecordState;
 use crate::{Delta, Row};
 use grow_counters::Counts;
 use std::alloc::{AllocError, Global};
 
 impl Book {
-    ghost use Rattle.std.specs.Prelude.{◌≡◌, ℕ, ◌↔◌, ◌<◌, ◌++◌, length, IfOk, OnOk};
+    ghost use Rattle.std.specs.Prelude.{◌≡◌, ℕ, ◌↔◌, ◌<◌, ◌++◌, [], length, IfOk, OnOk, IsTrue};
     ghost use Rattle.merge_core.specs.Book.{IsBook, counter_of, book_shape, Names};
     ghost use Rattle.merge_core.specs.declared.cell.Cell.{Cell};
     ghost use Rattle.merge_core.specs.Check.{IsChecked};
@@ -21,7 +22,7 @@ impl Book {
     ghost use Rattle.merge_core.specs.Moved.{told_row, has_moved, row_if, moved_rows, all_moved};
 
     /// All that the book names, as a delta of site `from`: the rows that have left their start, rising by
-    /// record and then by site. Linear in the counters.
+    /// record and then by site. Linear in the records, and in the counters of the rows that ever left their start.
     pub fn snapshot(&self, alloc: Global, from: u16) -> Result<Delta, AllocError>
         requires { from < self.now.sites }
         ensures label { IfOk result (λ d. d.from ≡ from) }
@@ -55,10 +56,21 @@ impl Book {
         requires { r < length self.now.records }
         ensures { OnOk result (rows.new.items ≡ rows.old.items ++ moved_rows (book_shape self.now) (counter_of self.now) r self.now.sites) }
     {
+        if self.is_unmoved(r) {
+            return Ok(());
+        }
         for s in 0..self.sites {
             self.push_if_moved(alloc, rows, r, s)?;
         }
         Ok(())
+    }
+
+    // Whether no row of record `r` is marked, so that none has left its start.
+    fn is_unmoved(&self, r: u16) -> bool
+        requires { r < length self.now.records }
+        ensures { IsTrue result → moved_rows (book_shape self.now) (counter_of self.now) r self.now.sites ≡ [] }
+    {
+        self.marks[usize::from(r)] == 0
     }
 
     // Adds the row of site `s` for record `r`, if it has left its start.
@@ -85,6 +97,9 @@ impl Book {
         requires site { s < self.now.sites }
         ensures { result ≡ has_moved (book_shape self.now) (counter_of self.now) r s }
     {
+        if !is_marked(self.marks.as_slice(), r, s) {
+            return false;
+        }
         let it = &self.records[usize::from(r)];
         has_moved_rights(self.sites, it, s) || has_moved_counts(it, s)
     }

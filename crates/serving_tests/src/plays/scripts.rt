@@ -279,26 +279,33 @@ impl Write for Fixed {
 }
 
 // Whether the last story of a writer is answered as with ample memory, or ends for want of it with nothing written.
-fn ends_whole_or_not_at_all(alloc: Global) -> bool {
+fn ends_whole_or_not_at_all(alloc: Global) -> Option<bool> {
     let (toml, first, _, script, _, output) = WRITER[4];
     let mut writer = Fixed {
         bytes: [0; 256],
         len: 0,
     };
-    match end_of(alloc, toml, first, false, script, &mut writer) {
-        None => true,
-        Some(Status::Memory) => writer.len == 0,
-        Some(Status::Done) => {
+    match end_of(alloc, toml, first, false, script, &mut writer)? {
+        Status::Memory => Some(writer.len == 0),
+        Status::Done => {
             let end = writer.len.min(256);
-            &writer.bytes[..end] == output.as_bytes()
+            Some(&writer.bytes[..end] == output.as_bytes())
         }
-        Some(_) => false,
+        _ => Some(false),
+    }
+}
+
+// The same; played again where there was no memory for the layout.
+fn ends_so_now_or_then(alloc: Global) -> Option<bool> {
+    match ends_whole_or_not_at_all(alloc) {
+        None => ends_whole_or_not_at_all(alloc),
+        ended => ended,
     }
 }
 
 #[test]
 fn refused_growths_end_a_script_or_change_nothing(rt: HostRuntime) {
-    assert!(rt; ends_whole_or_not_at_all(rt.alloc()));
+    assert!(rt; ends_so_now_or_then(rt.alloc()) == Some(true));
 }
 
 // Three sites after a script.

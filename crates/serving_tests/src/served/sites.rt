@@ -2,13 +2,13 @@
 ghost use Rattle.std.specs.Prelude.{◌≡◌, IfSome};
 
 use super::keepers::Failing;
+use crate::faults::{FAULTS, FIVE_ANSWERS, Fault, is_ended, reader_of, writer_of};
 use durable_keeper::MemoryKeeper;
 use exit_status::Status;
 use layout_file::read_layout;
 use merge_core::Layout;
 use site_engine::site_engine;
 use std::alloc::Global;
-use std::io::ErrorKind;
 use test_streams::texts::{TWO_SITES, WRITERS_FIRST};
 use test_streams::{Giving, Keeping, NEVER};
 use text_input::{Sink, Source};
@@ -200,24 +200,22 @@ fn an_input_past_the_limit_is_refused_whole(rt: HostRuntime) {
     assert!(rt; writer.bytes() == "input refused TooLong\n".as_bytes());
 }
 
-// The call of the reader that fails, that of the writer, the kind of the fault, and how the engine ends. The input comes
-// in one call, a second tells the end; the answer goes out in two calls and a flush.
-static FAULTS: [(usize, usize, ErrorKind, Status); 6] = [
-    (0, NEVER, ErrorKind::Other, Status::Io),
-    (1, NEVER, ErrorKind::Other, Status::Io),
-    (NEVER, 0, ErrorKind::Other, Status::Io),
-    (NEVER, 1, ErrorKind::Other, Status::Io),
-    (NEVER, 2, ErrorKind::Other, Status::Io),
-    (1, NEVER, ErrorKind::OutOfMemory, Status::Memory),
-];
+const FIVE_CALLS: &[u8] = b"read a 7\nread a 8\nread a 9\nleave a 7\nleave a 8\n";
+
+// Whether the script of five calls ends so.
+fn ends_so(alloc: Global, fault: &Fault) -> bool {
+    let mut reader = reader_of(FIVE_CALLS, fault);
+    let mut writer = writer_of(alloc, fault);
+    match ending(alloc, &mut reader, &mut writer) {
+        Some(ended) => is_ended(ended, &writer, FIVE_ANSWERS, fault),
+        None => false,
+    }
+}
 
 #[test]
-fn a_failed_read_or_write_is_told(rt: HostRuntime) {
-    for (reads, writes, kind, status) in &FAULTS {
-        let mut reader = Giving::new(b"read a 7\n", *reads).failing_by(*kind);
-        let mut writer = Keeping::new(rt.alloc(), *writes);
-        let ended = ending(rt.alloc(), &mut reader, &mut writer);
-        assert!(rt; ended == Some(*status), "{reads} {writes}");
+fn a_site_whose_reader_or_writer_fails_says_so(rt: HostRuntime) {
+    for (row, fault) in FAULTS.iter().enumerate() {
+        assert!(rt; ends_so(rt.alloc(), fault), "row {row}");
     }
 }
 

@@ -5,8 +5,8 @@ use admission_core::*;
 use merge_core::Delta;
 use std::alloc::Global;
 
-// With ample memory these tests see each call succeed. They are written so that any one allocation may be
-// refused while they run: a call that then finds no memory has changed nothing.
+// With ample memory these tests see each call succeed. They are written so that any one allocation may be refused while
+// they run: a call that then finds no memory has changed nothing, and what else finds none is tried again.
 
 // A site of two with three seats, before any operation.
 fn fresh(alloc: Global) -> Option<SiteCore> {
@@ -59,6 +59,15 @@ fn at_work_serves_or_keeps(alloc: Global, call: &Call) -> Option<bool> {
     serves_or_keeps(alloc, &mut at_work(alloc)?, call)
 }
 
+// The same; tried again where there was no memory for the site or for a look at it.
+fn is_kept(alloc: Global, call: &Call) -> bool {
+    let kept = match at_work_serves_or_keeps(alloc, call) {
+        None => at_work_serves_or_keeps(alloc, call),
+        kept => kept,
+    };
+    kept == Some(true)
+}
+
 // The asks that the site at work carries out.
 const ASKS: [Ask; 5] = [
     Ask::Read { r: 0, h: 3 },
@@ -75,7 +84,7 @@ const ASKS: [Ask; 5] = [
 // How many of these asks are carried out, or have no effect for want of memory, before the first that is not.
 fn asks_kept(alloc: Global) -> usize {
     for (k, ask) in ASKS.iter().enumerate() {
-        if at_work_serves_or_keeps(alloc, &Call::Ask(*ask)) == Some(false) {
+        if !is_kept(alloc, &Call::Ask(*ask)) {
             return k;
         }
     }
@@ -87,29 +96,89 @@ fn an_ask_without_memory_changes_nothing(rt: HostRuntime) {
     assert!(rt; asks_kept(rt.alloc()) == 5);
 }
 
-// Whether a help is carried out, or has no effect.
+// A site whose writer waits, with all seats at hand.
+fn with_writer(alloc: Global) -> Option<SiteCore> {
+    let mut core = fresh(alloc)?;
+    let announced = serve(&mut core, Ask::Announce { r: 0, h: 2 });
+    (announced == Answer::Announced(1)).then_some(core)
+}
+
+const WRITE: Ask = Ask::Quill { r: 0, h: 2 };
+
+// What `enter_write` answers, after which the writer is inside, or is as before for want of memory, and enters then.
+fn writer_answers(core: &mut SiteCore) -> [Answer; 2] {
+    [serve(core, WRITE), serve(core, WRITE)]
+}
+
+const INSIDE: Answer = Answer::Refused(Refusal::AlreadyInside);
+
+const NO_MEMORY: Answer = Answer::Refused(Refusal::Memory);
+
+// Whether a writer enters at the first call, or at the second where the first finds no memory.
+fn writer_enters(alloc: Global) -> Option<bool> {
+    let answers = writer_answers(&mut with_writer(alloc)?);
+    Some(answers == [Answer::Admitted, INSIDE] || answers == [NO_MEMORY, Answer::Admitted])
+}
+
+// Whether a writer's call, prepared and carried out by hand, succeeds or has no effect.
+fn write_kept(alloc: Global) -> Option<bool> {
+    serves_or_keeps(alloc, &mut with_writer(alloc)?, &Call::Ask(WRITE))
+}
+
+// Both of these; again where there was no memory for the site or for a look at it.
+fn writer_served(alloc: Global) -> [Option<bool>; 2] {
+    let enters = match writer_enters(alloc) {
+        None => writer_enters(alloc),
+        enters => enters,
+    };
+    let kept = match write_kept(alloc) {
+        None => write_kept(alloc),
+        kept => kept,
+    };
+    [enters, kept]
+}
+
+#[test]
+fn a_writer_without_memory_enters_later(rt: HostRuntime) {
+    assert!(rt; writer_served(rt.alloc()) == [Some(true), Some(true)]);
+}
+
 fn help_kept(alloc: Global) -> Option<bool> {
     serves_or_keeps(alloc, &mut fresh(alloc)?, &Call::Ask(Ask::Help { r: 0 }))
 }
 
-// The same of a merge.
-fn merge_kept(alloc: Global) -> Option<bool> {
-    let merge = Call::Merge(delta(alloc, (0, 1, &[0, 0], [0, 1, 0]))?);
-    at_work_serves_or_keeps(alloc, &merge)
+// Whether a help is carried out, or has no effect.
+fn is_help_kept(alloc: Global) -> bool {
+    let kept = match help_kept(alloc) {
+        None => help_kept(alloc),
+        kept => kept,
+    };
+    kept == Some(true)
 }
 
-// The same of a snapshot.
-fn snapshot_kept(alloc: Global) -> Option<bool> {
-    at_work_serves_or_keeps(alloc, &Call::Snapshot)
+// A merge of what site 1 tells, read again where that found no memory.
+fn merge(alloc: Global) -> Option<Call> {
+    let told = match delta(alloc, (0, 1, &[0, 0], [0, 1, 0])) {
+        None => delta(alloc, (0, 1, &[0, 0], [0, 1, 0]))?,
+        Some(told) => told,
+    };
+    Some(Call::Merge(told))
+}
+
+// The same of a merge.
+fn is_merge_kept(alloc: Global) -> bool {
+    match merge(alloc) {
+        Some(call) => is_kept(alloc, &call),
+        None => false,
+    }
 }
 
 #[test]
 fn a_help_or_merge_without_memory_changes_nothing(rt: HostRuntime) {
-    let help = help_kept(rt.alloc());
-    let merge = merge_kept(rt.alloc());
-    let snapshot = snapshot_kept(rt.alloc());
-    let no = Some(false);
-    assert!(rt; help != no && merge != no && snapshot != no);
+    let help = is_help_kept(rt.alloc());
+    let merge = is_merge_kept(rt.alloc());
+    let snapshot = is_kept(rt.alloc(), &Call::Snapshot);
+    assert!(rt; [help, merge, snapshot] == [true; 3]);
 }
 
 fn left(alloc: Global) -> Option<Durable> {
@@ -126,7 +195,15 @@ fn restored_or_not(alloc: Global) -> Option<bool> {
     }
 }
 
+// The same; tried again where there was no memory for what is restored.
+fn restored_now_or_then(alloc: Global) -> Option<bool> {
+    match restored_or_not(alloc) {
+        None => restored_or_not(alloc),
+        restored => restored,
+    }
+}
+
 #[test]
 fn a_restore_without_memory_says_so(rt: HostRuntime) {
-    assert!(rt; restored_or_not(rt.alloc()) != Some(false));
+    assert!(rt; restored_now_or_then(rt.alloc()) == Some(true));
 }

@@ -134,7 +134,7 @@ macro_rules! of_sessions {
 }
 
 // Each kind of content that is none of a site.
-const NONE_OF_A_SITE: [First; 10] = [
+static NONE_OF_A_SITE: [First; 10] = [
     of_cells!(stored!(0, 1, 1), stored!(0, 1, 1)),
     of_cells!(stored!(0, 300, 1)),
     of_notices!(notice!(1, 0, 1, 1), notice!(0, 1, 1, 1)),

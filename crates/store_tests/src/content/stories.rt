@@ -80,7 +80,7 @@ struct Story {
     inside: &'static [Session],
 }
 
-const STORIES: [Story; 3] = [
+static STORIES: [Story; 3] = [
     // Counters of each kind, and sessions that come and change, are read back from the rows that were planned.
     Story {
         sessions: &[],

@@ -1,4 +1,5 @@
-use Rattle.std.proofs.Common.{◌≡◌, List, ℕ, sym, ap, subst, ◌∙◌, arith, false}
+use Rattle.std.proofs.Common.{◌≡◌, List, ℕ, Result, Err, refl, sym, ap, subst, ◌∙◌, arith, false}
+use Rattle.std.proofs.lemmas.Result.{err_from_is_err_and}
 use Rattle.layout_line.specs.declared.Line.{Line}
 use Rattle.layout_line.specs.Line.{line_of, IsLine}
 use Rattle.store_schema.specs.declared.Version.TheVariants.{Second}
@@ -6,8 +7,14 @@ use Rattle.store_rows.specs.Rows.{Stored}
 use Rattle.store_rows.specs.Changes.{renewed}
 use Rattle.store_rows.specs.Holding.{Keeps}
 use Rattle.store_tables.specs.Kept.{connection_of}
+use Rattle.store_tables.specs.declared.error.TableError.{TableError}
+use Rattle.site_store.specs.Opened.{IsDeviceCause}
 use Rattle.site_store.proofs.OpenLemmas.{as_renewed, is_ready}
+use Rattle.site_store.proofs.OwnLemmas.{device_two, own_cause, same_line, table_cause}
 use Rattle.site_store.proofs.opening.open_found.Goals as goal
+
+abbrev error : TableError → Result (Unit {0}) TableError
+error e = Err e
 
 pub returns-then-not-is_due-clause-ready : goal.returns-then-not-is_due-clause-ready
 returns-then-not-is_due-clause-ready g c it keeps found =
@@ -32,3 +39,55 @@ returns-clause-ready g c it keeps found =
     is_ready g.S.Store conn layout c.args.site it c.args.content.now c.in_ok-index.index (λ clean. found (c.renew.ensures.honest clean)) judged.0 judged.1.0
     (λ clean. let e = found (c.renew.ensures.honest clean) in
     subst (λ (t : List ℕ). Keeps g.S.Store conn (renewed t it)) c.requires (c.in_ok-renew.ensures.ok it (ap (λ (s : Stored). s.version) (sym e) ∙ sym version) keeps))
+
+-- ---- refusals
+
+pub returns-in_err-index-clause-own : goal.returns-in_err-index-clause-own
+returns-in_err-index-clause-own g c own =
+    let p = err_from_is_err_and c.from_residual.result c.from_residual.ensures.1 in
+    rw p.1 (subst IsDeviceCause (sym p.2) (own_cause c.args.layout.now c.args.site c.args.content.now _ own c.in_err-index.ensures.0))
+
+pub returns-in_err-renew-clause-own : goal.returns-in_err-renew-clause-own
+returns-in_err-renew-clause-own g c own =
+    let p = err_from_is_err_and c.from_residual-in_err-renew.result c.from_residual-in_err-renew.ensures.1 in
+    rw p.1 (subst IsDeviceCause (sym p.2) (table_cause _ (λ is. c.in_err-renew.ensures.kind (ap error is))))
+
+pub returns-in_err-index-clause-due : goal.returns-in_err-index-clause-due
+returns-in_err-index-clause-due g c =
+    let p = err_from_is_err_and c.from_residual.result c.from_residual.ensures.1 in
+    rw p.1 (λ fault. absurd (c.in_err-index.ensures.1 (sym p.2 ∙ fault)))
+
+pub returns-in_err-renew-clause-due : goal.returns-in_err-renew-clause-due
+returns-in_err-renew-clause-due g c =
+    let p = err_from_is_err_and c.from_residual-in_err-renew.result c.from_residual-in_err-renew.ensures.1 in
+    rw p.1 (λ fault. (
+      c.in_ok-index.ensures.0,
+      λ current.
+          let found = same_line c.args.layout.now c.args.site c.args.content.now.layout _ c.sites.ensures.layout.few_sites current.its_line c.in_ok-index.ensures.1.1 in
+          let off : c.is_due.result ≡ false = c.is_due.ensures.1 (found, grind (arith, c.content.view_is, current.second)) in
+          grind (arith, off, c.if-not-is_due.false),
+    ))
+
+pub returns-in_err-index-clause-judged : goal.returns-in_err-index-clause-judged
+returns-in_err-index-clause-judged g c =
+    let p = err_from_is_err_and c.from_residual.result c.from_residual.ensures.1 in
+    rw p.1 (λ other room. refl)
+
+pub returns-in_err-renew-clause-judged : goal.returns-in_err-renew-clause-judged
+returns-in_err-renew-clause-judged g c =
+    let p = err_from_is_err_and c.from_residual-in_err-renew.result c.from_residual-in_err-renew.ensures.1 in
+    rw p.1 (λ other room. absurd (device_two p.0 (subst IsDeviceCause (sym p.2) (table_cause _ (λ is. c.in_err-renew.ensures.kind (ap error is)))) other room))
+
+-- ---- nothing is due
+
+pub returns-in_err-renew-clause-current : goal.returns-in_err-renew-clause-current
+returns-in_err-renew-clause-current g c current =
+    let found = same_line c.args.layout.now c.args.site c.args.content.now.layout _ c.sites.ensures.layout.few_sites current.its_line c.in_ok-index.ensures.1.1 in
+    let off : c.is_due.result ≡ false = c.is_due.ensures.1 (found, grind (arith, c.content.view_is, current.second)) in
+    absurd (grind (arith, off, c.if-not-is_due.false))
+
+pub returns-clause-current : goal.returns-clause-current
+returns-clause-current g c current =
+    let found = same_line c.args.layout.now c.args.site c.args.content.now.layout _ c.sites.ensures.layout.few_sites current.its_line c.in_ok-index.ensures.1.1 in
+    let off : c.is_due.result ≡ false = c.is_due.ensures.1 (found, grind (arith, c.content.view_is, current.second)) in
+    absurd (grind (arith, off, c.if-not-is_due.false))

@@ -1,11 +1,22 @@
-use Rattle.std.proofs.Common.{Option, Result, Err, sym, ap, subst, ◌∙◌}
-use Rattle.std.proofs.lemmas.Option.{none-some}
+use Rattle.std.proofs.Common.{◌≡◌, ◌≢◌, inl, inr, decimal, Option, Result, Ok, Err, sym, ap, subst, ◌∙◌}
+use Rattle.std.proofs.lemmas.Option.{none-some, same_Some}
+use Rattle.std.proofs.lemmas.Result.{IfErr-at_err, IfErr-weaker, err_from_is_err_and}
+use Rattle.store_rows.proofs.StepLemmas.{survives_same}
+use Rattle.layout_line.specs.Line.{line_of}
+use Rattle.store_tables.specs.Kept.{CommitsNothing}
+use Rattle.store_tables.specs.Transacts.{made}
+use Rattle.store_tables.specs.Reads.{IsInRange}
+use Rattle.store_tables.specs.declared.tables.Tables.{Tables}
+use Rattle.store_tables.proofs.LookLemmas.{if_ok_from}
+use Rattle.store_content.specs.declared.index.Index.{Index}
+use Rattle.site_store.specs.declared.error.OpenError.TheVariants.{StoreFault, Memory}
 use Rattle.store_rows.specs.Rows.{Stored}
 use Rattle.store_tables.specs.declared.error.TableError.{TableError}
 use Rattle.store_tables.specs.Kept.{connection_of}
 use Rattle.site_store.specs.declared.error.OpenError.{OpenError}
-use Rattle.site_store.specs.Opened.{IsRefused, IsRefusedBlank}
+use Rattle.site_store.specs.Opened.{IsCurrent, IsDeviceCause, IsDue, IsOwn, IsReady, IsRefused, IsRefusedBlank, Readies, ReadiesBlank}
 use Rattle.site_store.proofs.OpenLemmas.{refused, refused_blank, readies_any, settled_none, settled}
+use Rattle.site_store.proofs.OwnLemmas.{any_of, any_of_either, any_of_nothing_or, device_two, either_own, fault_of, if_err_from, made_own, memory_cause, memory_is_none, none_kept, some_found, some_kept, table_cause}
 use Rattle.site_store.proofs.opening.prepare.Goals as goal
 
 abbrev error : TableError → Result (Option Stored) TableError
@@ -37,3 +48,130 @@ pub returns-in-Ok-Some-clause-settles : goal.returns-in-Ok-Some-clause-settles
 returns-in-Ok-Some-clause-settles g c a b keeps =
     settled g.S.Store (connection_of c.open_found.new.tables) c.args.layout.now c.args.site a b _ _ _ c.open_found.ensures.honest
     c.in-Ok-Some.field-0 c.in-Ok-Some.content c.in-Ok-Some.field-0-is c.open_found.result (c.open_found.ensures.ready a) (c.open_found.ensures.ready b) (c.in-Ok-Some.ensures.settles a b keeps)
+
+-- ---- after a creation in doubt
+
+pub returns-in-Ok-Some-clause-settles_or : goal.returns-in-Ok-Some-clause-settles_or
+returns-in-Ok-Some-clause-settles_or g c keeps =
+    let layout = c.args.layout.now in
+    let conn = connection_of c.look.new.self in
+    let new = made (decimal c.args.site) (line_of layout) in
+    let found = c.in-Ok-Some.ensures.settles_or new keeps in
+    let t = c.in-Ok-Some.field-0 in
+    if_ok_from c.open_found.result (λ index is clean.
+    let early = c.open_found.ensures.honest clean in
+    let kept = some_kept g.S.Store conn new _ early t found c.in-Ok-Some.content c.in-Ok-Some.field-0-is in
+    let same = some_found g.S.Store conn new _ early t found c.in-Ok-Some.content c.in-Ok-Some.field-0-is in
+    let ready : IsReady g.S.Store layout c.args.site new (connection_of c.open_found.new.tables) index = subst (λ (r : Result Index OpenError). Readies g.S.Store layout c.args.site new (connection_of c.open_found.new.tables) r) is (c.open_found.ensures.ready new kept (λ _. same)) in
+    ready.stores clean)
+
+pub returns-in-Ok-None-clause-settles_or : goal.returns-in-Ok-None-clause-settles_or
+returns-in-Ok-None-clause-settles_or g c keeps =
+    let layout = c.args.layout.now in
+    let new = made (decimal c.args.site) (line_of layout) in
+    let found = c.in-Ok-None.ensures.settles_or new keeps in
+    if_ok_from c.make_new.result (λ index is clean.
+    let blank = none_kept g.S.Store (connection_of c.look.new.self) new _ (c.make_new.ensures.honest clean) c.in-Ok-None.field-0 found c.in-Ok-None.field-0-is in
+    subst (λ (r : Result Index OpenError). ReadiesBlank g.S.Store layout c.args.site (connection_of c.make_new.new.tables) r) is (c.make_new.ensures.made blank) clean)
+
+-- ---- a content of the site's own is refused by the device alone
+
+pub returns-in-Ok-Some-clause-own : goal.returns-in-Ok-Some-clause-own
+returns-in-Ok-Some-clause-own g c a b first second keeps =
+    if_err_from c.open_found.result (λ e is clean.
+    either_own c.args.layout.now c.args.site a b c.in-Ok-Some.content _ _ _ (c.open_found.ensures.honest clean) c.in-Ok-Some.field-0 c.in-Ok-Some.field-0-is first second
+    (c.in-Ok-Some.ensures.settles a b keeps) e (λ own. IfErr-at_err IsDeviceCause is (c.open_found.ensures.own own)))
+
+pub returns-in-Ok-None-clause-own : goal.returns-in-Ok-None-clause-own
+returns-in-Ok-None-clause-own g c a b first second keeps =
+    IfErr-weaker c.make_new.result IsDeviceCause _ (λ e cause clean. cause) c.make_new.ensures.device
+
+pub returns-clause-own : goal.returns-clause-own
+returns-clause-own g c a b first second keeps = λ clean.
+    subst IsDeviceCause (sym c.from.ensures)
+    (table_cause c.in-Err.error (λ is. c.in-Err.ensures.good (any_of_either g.S.Store (connection_of c.args.tables.now) IsInRange a b first.in_range second.in_range keeps) clean (ap error is)))
+
+pub returns-in-Ok-Some-clause-own_or : goal.returns-in-Ok-Some-clause-own_or
+returns-in-Ok-Some-clause-own_or g c keeps =
+    let layout = c.args.layout.now in
+    let new = made (decimal c.args.site) (line_of layout) in
+    if_err_from c.open_found.result (λ e is clean.
+    let same = some_found g.S.Store (connection_of c.look.new.self) new _ (c.open_found.ensures.honest clean) c.in-Ok-Some.field-0 (c.in-Ok-Some.ensures.settles_or new keeps) c.in-Ok-Some.content c.in-Ok-Some.field-0-is in
+    IfErr-at_err IsDeviceCause is (c.open_found.ensures.own (subst (IsOwn layout c.args.site) (sym same) (made_own layout c.args.site))))
+
+pub returns-in-Ok-None-clause-own_or : goal.returns-in-Ok-None-clause-own_or
+returns-in-Ok-None-clause-own_or g c keeps =
+    IfErr-weaker c.make_new.result IsDeviceCause _ (λ e cause clean. cause) c.make_new.ensures.device
+
+pub returns-clause-own_or : goal.returns-clause-own_or
+returns-clause-own_or g c keeps = λ clean.
+    let layout = c.args.layout.now in
+    let new = made (decimal c.args.site) (line_of layout) in
+    subst IsDeviceCause (sym c.from.ensures)
+    (table_cause c.in-Err.error (λ is. c.in-Err.ensures.good (any_of_nothing_or g.S.Store (connection_of c.args.tables.now) IsInRange new (made_own layout c.args.site).in_range keeps) clean (ap error is)))
+
+-- ---- when a fault comes
+
+pub returns-in-Ok-Some-clause-fault : goal.returns-in-Ok-Some-clause-fault
+returns-in-Ok-Some-clause-fault g c sound it keeps =
+    if_err_from c.open_found.result (λ e is fault clean.
+    let early = c.open_found.ensures.honest clean in
+    let same = same_Some c.in-Ok-Some.content it (sym c.in-Ok-Some.field-0-is ∙ c.in-Ok-Some.ensures.read it keeps early) in
+    inr (subst (IsDue c.args.layout.now c.args.site) same (IfErr-at_err (λ x. x ≡ StoreFault → IsDue c.args.layout.now c.args.site c.in-Ok-Some.content) is c.open_found.ensures.due fault)))
+
+pub returns-in-Ok-None-clause-fault : goal.returns-in-Ok-None-clause-fault
+returns-in-Ok-None-clause-fault g c sound it keeps =
+    if_err_from c.make_new.result (λ e is fault clean.
+    absurd (none-some it (sym c.in-Ok-None.field-0-is ∙ c.in-Ok-None.ensures.read it keeps (c.make_new.ensures.honest clean))))
+
+pub returns-clause-fault : goal.returns-clause-fault
+returns-clause-fault g c sound it keeps = λ fault clean.
+    inl (c.in-Err.ensures.refused sound (any_of g.S.Store (connection_of c.args.tables.now) (λ _. Unit {0}) it tt keeps) clean (ap error (fault_of c.in-Err.error (sym c.from.ensures ∙ fault))))
+
+-- ---- what is committed
+
+pub returns-in-Ok-Some-clause-judged : goal.returns-in-Ok-Some-clause-judged
+returns-in-Ok-Some-clause-judged g c =
+    if_err_from c.open_found.result (λ e is other room.
+    let same = IfErr-at_err (λ x. x ≢ StoreFault → x ≢ Memory → c.open_found.new.tables ≡ c.look.new.self) is c.open_found.ensures.judged other room in
+    subst (λ (t : Tables g.row.S.Denot g.S.Store). CommitsNothing c.args.tables.now t) (sym same) c.in-Ok-Some.ensures.unwritten)
+
+pub returns-in-Ok-None-clause-judged : goal.returns-in-Ok-None-clause-judged
+returns-in-Ok-None-clause-judged g c =
+    if_err_from c.make_new.result (λ e is other room. absurd (device_two e (IfErr-at_err IsDeviceCause is c.make_new.ensures.device) other room))
+
+pub returns-in-Ok-Some-clause-current : goal.returns-in-Ok-Some-clause-current
+returns-in-Ok-Some-clause-current g c it current keeps clean =
+    let early = c.open_found.ensures.honest clean in
+    let found = same_Some c.in-Ok-Some.content it (sym c.in-Ok-Some.field-0-is ∙ c.in-Ok-Some.ensures.read it keeps early) in
+    let same = c.open_found.ensures.current (subst (IsCurrent c.args.layout.now) (sym found) current) in
+    subst (λ (t : Tables g.row.S.Denot g.S.Store). CommitsNothing c.args.tables.now t) (sym same) c.in-Ok-Some.ensures.unwritten
+
+pub returns-in-Ok-None-clause-current : goal.returns-in-Ok-None-clause-current
+returns-in-Ok-None-clause-current g c it current keeps clean =
+    absurd (none-some it (sym c.in-Ok-None.field-0-is ∙ c.in-Ok-None.ensures.read it keeps (c.make_new.ensures.honest clean)))
+
+-- ---- there was no memory for the line
+
+pub returns-in_err-line-clause-own : goal.returns-in_err-line-clause-own
+returns-in_err-line-clause-own g c a b first second keeps =
+    let p = err_from_is_err_and c.from_residual.result c.from_residual.ensures.1 in
+    rw p.1 (λ clean. memory_cause p.0 p.2)
+
+pub returns-in_err-line-clause-own_or : goal.returns-in_err-line-clause-own_or
+returns-in_err-line-clause-own_or g c keeps =
+    let p = err_from_is_err_and c.from_residual.result c.from_residual.ensures.1 in
+    rw p.1 (λ clean. memory_cause p.0 p.2)
+
+pub returns-in_err-line-clause-fault : goal.returns-in_err-line-clause-fault
+returns-in_err-line-clause-fault g c sound it keeps =
+    let p = err_from_is_err_and c.from_residual.result c.from_residual.ensures.1 in
+    rw p.1 (λ fault clean. absurd (memory_is_none (sym p.2 ∙ fault)))
+
+pub returns-in_err-line-clause-judged : goal.returns-in_err-line-clause-judged
+returns-in_err-line-clause-judged g c =
+    let p = err_from_is_err_and c.from_residual.result c.from_residual.ensures.1 in
+    rw p.1 (λ other room. absurd (room p.2))
+
+pub returns-in_err-line-clause-current : goal.returns-in_err-line-clause-current
+returns-in_err-line-clause-current g c it current keeps clean = survives_same _

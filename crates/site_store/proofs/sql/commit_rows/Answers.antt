@@ -3,10 +3,10 @@ use Rattle.sqlite.specs.Held.{Held}
 use Rattle.store_rows.specs.Holding.{Keeps}
 use Rattle.store_tables.specs.declared.error.TableError.{TableError}
 use Rattle.store_tables.specs.Kept.{connection_of}
-use Rattle.store_content.specs.Plan.{RowsState, Makes}
+use Rattle.store_content.specs.Plan.{IsPlan, IsPlanned, RowsState, Makes}
 use Rattle.site_store.specs.Errors.{keeper_error}
 use Rattle.durable_keeper.specs.declared.error.KeeperError.TheVariants.{StoreFault}
-use Rattle.site_store.proofs.SqlLemmas.{fault_is, unchanged, takes_rows, in_doubt}
+use Rattle.site_store.proofs.SqlLemmas.{fault_is, unchanged, takes_rows, in_doubt, made_change}
 use Rattle.site_store.proofs.sql.commit_rows.Goals as goal
 
 abbrev error : TableError → Result (Unit {0}) TableError
@@ -22,12 +22,26 @@ returns-then-not-are_rows-clause-fault g c layout i it stores fault =
     unchanged g.S.Store (connection_of c.stop-then-not-are_rows.new.self) layout i c.args.change.now it stores.own
     (subst (λ (h : Held g.row.S.Denot). Keeps g.S.Store h it) (sym c.stop-then-not-are_rows.ensures.connection) stores.kept)
 
-pub returns-in-Err-clause-fault : goal.returns-in-Err-clause-fault
-returns-in-Err-clause-fault g c layout i it stores fault =
+pub returns-clause-fault : goal.returns-clause-fault
+returns-clause-fault g c layout i it stores fault =
     let conn = connection_of c.put.new.tables in
-    let told : keeper_error c.in-Err.error ≡ StoreFault = grind (arith, fault, c.keeper_error.ensures) in
-    let is = fault_is c.in-Err.error (λ e. c.in-Err.ensures.kind (ap error e)) told in
+    let told : keeper_error c.in-Err.refusal ≡ StoreFault = grind (arith, fault, c.keeper_error.ensures) in
+    let is = fault_is c.in-Err.refusal (λ e. c.in-Err.ensures.kind (ap error e)) told in
     let makes : Makes c.args.change.now it c.in-Some.rows =
     subst (λ (o : Option RowsState). IfSome o (Makes c.args.change.now it)) c.in-Some.is (c.in_ok-rows.ensures.law it stores.known stores.own.content c.requires.tellable) in
-    in_doubt g.S.Store conn layout i c.args.change.now it stores.own c.in-Some.rows makes
+    let plan : IsPlan c.args.change.now it c.in-Some.rows =
+    subst (λ (o : Option RowsState). IsPlanned c.args.change.now it o) c.in-Some.is (c.in_ok-rows.ensures.rows it stores.known c.requires.tellable) in
+    in_doubt g.S.Store conn layout i c.args.change.now it stores.own c.in-Some.rows plan makes
     (c.in-Err.ensures.either it (takes_rows layout i it c.args.change.now c.in-Some.rows stores.own makes) stores.kept (ap error is))
+
+pub returns-in-Ok-clause-ok : goal.returns-in-Ok-clause-ok
+returns-in-Ok-clause-ok g c layout i it stores =
+    let conn = connection_of c.put.new.tables in
+    let rows = c.in-Some.rows in
+    let makes : Makes c.args.change.now it rows =
+    subst (λ (o : Option RowsState). IfSome o (Makes c.args.change.now it)) c.in-Some.is (c.in_ok-rows.ensures.law it stores.known stores.own.content c.requires.tellable) in
+    let plan : IsPlan c.args.change.now it rows =
+    subst (λ (o : Option RowsState). IsPlanned c.args.change.now it o) c.in-Some.is (c.in_ok-rows.ensures.rows it stores.known c.requires.tellable) in
+    made_change g.S.Store conn layout i c.args.change.now it stores.own rows plan makes c.advance.new.self
+    (c.in-Ok.ensures.ok it (takes_rows layout i it c.args.change.now rows stores.own makes) stores.kept)
+    (c.advance.ensures c.args.change.now it (c.in_ok-reserve.ensures.knows it stores.known) stores.own.content plan)

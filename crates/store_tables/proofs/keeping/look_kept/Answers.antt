@@ -1,4 +1,6 @@
-use Rattle.std.proofs.Common.{◌≡◌, Option, None, Some, Ok, IfOk, OnOk, IsTrue, ap, subst, ◌∙◌, arith}
+use Rattle.std.proofs.Common.{◌≡◌, ◌⊎◌, inl, inr, Option, None, Some, Ok, IfOk, OnOk, IsTrue, sym, ap, subst, ◌∙◌, arith}
+use Rattle.std.proofs.lemmas.Bool.{cases_Bool}
+use Rattle.sqlite_trees.specs.Tree.{Trees}
 use Rattle.std.proofs.Math.Logic.{∥∥₁_elim}
 use Rattle.sqlite.specs.Effect.{IsDatabase}
 use Rattle.sqlite.specs.State.{HasCleanDisk}
@@ -10,6 +12,10 @@ use Rattle.store_rows.specs.Rows.{Stored}
 use Rattle.store_rows.specs.Holding.{IsStoreOf, Holds, HoldsNothing}
 use Rattle.store_tables.proofs.KeepLemmas.{seen_is, store_of, bare, nothing_seen, settles}
 use Rattle.store_tables.proofs.LookLemmas.{if_ok_given, found_store, found_once, on_ok_given, if_ok_from}
+use Rattle.store_schema.specs.declared.Version.{Version}
+use Rattle.store_schema.specs.Tables.{schema_of}
+use Rattle.store_tables.specs.Reads.{IsInRange}
+use Rattle.store_tables.proofs.RefusalLemmas.{schema_once, version_of, not_blank, not_other}
 use Rattle.store_tables.proofs.keeping.look_kept.Goals as goal
 
 pub returns-clause-read : goal.returns-clause-read
@@ -89,3 +95,47 @@ returns-clause-settles_or g c it keeps =
     (λ clean. subst (λ r. OnOk r (IsTrue (state g.S.Store old).is_open)) is (c.read_whole.ensures.opened clean))
     (λ clean sound nothing. subst (λ r. IfOk r (λ x. x ≡ None)) is (c.read_whole.ensures.blank (c.found_in-found.ensures ∙ ap found_in (c.schema.ensures.value ∙ bare (state g.S.Store old).now sound nothing) ∙ found_blank)).0)
     (holds_as it found is))
+
+-- ---- a store of its own, or none, is not bad, and is read unless a call is refused
+
+abbrev Some_kept : (Stored → Type 0) → Trees → Type 0
+Some_kept Fits db = HoldsNothing db ⊎ ((it : Stored) × (Fits it × Holds it db))
+
+pub returns-clause-sound : goal.returns-clause-sound
+returns-clause-sound g c clean keeps bad =
+    let old = c.args.conn.now in
+    let now = (state g.S.Store old).now in
+    let early : HasCleanDisk (state g.S.Store old) = omega (arith, c.read_whole.ensures.survives.clean) in
+    let idle = c.is_autocommit-is_idle.ensures.settled (rw (c.is_autocommit-is_idle.ensures.value, c.requires)) in
+    let up = c.read_whole.ensures.judged clean bad in
+    let seen = seen_is g.S.Store g.met.S.Store.settled g.met.S.Store.stays old (Some_kept IsInRange) keeps c.schema.ensures.live idle early up in
+    ∥∥₁_elim seen.1 (λ a b. absurd a) (λ holds. elim holds [
+      | inl nothing ↦ (c.read_whole.ensures.blank (c.found_in-found.ensures ∙ ap found_in (c.schema.ensures.value ∙ bare now seen.0 nothing) ∙ found_blank)).1 bad
+      | inr x ↦
+          let store : IsStoreOf now x.0 = store_of now x.0 seen.0 x.1.1 in
+          let found : c.found_in-found.result ≡ Store x.0.version = c.found_in-found.ensures ∙ ap found_in (c.schema.ensures.value ∙ store.schema) ∙ found_store x.0.version in
+          c.read_whole.ensures.own clean x.0 found store x.1.0 bad
+    ])
+
+pub returns-clause-refused : goal.returns-clause-refused
+returns-clause-refused g c clean keeps failed =
+    let old = c.args.conn.now in
+    let now = (state g.S.Store old).now in
+    let early : HasCleanDisk (state g.S.Store old) = omega (arith, c.read_whole.ensures.survives.clean) in
+    let idle = c.is_autocommit-is_idle.ensures.settled (rw (c.is_autocommit-is_idle.ensures.value, c.requires)) in
+    elim (cases_Bool (state g.S.Store old).is_open) [
+      | inl up ↦
+          let seen = seen_is g.S.Store g.met.S.Store.settled g.met.S.Store.stays old (Some_kept (λ _. Unit {0})) keeps c.schema.ensures.live idle early up in
+          c.read_whole.ensures.refused clean (λ v is. ∥∥₁_elim seen.1 (schema_once now.schema (schema_of v)) (λ holds. elim holds [
+            | inl nothing ↦ absurd (not_blank v (sym is ∙ c.found_in-found.ensures ∙ ap found_in (c.schema.ensures.value ∙ bare now seen.0 nothing) ∙ found_blank))
+            | inr x ↦
+                let store : IsStoreOf now x.0 = store_of now x.0 seen.0 x.1.1 in
+                let found : c.found_in-found.result ≡ Store x.0.version = c.found_in-found.ensures ∙ ap found_in (c.schema.ensures.value ∙ store.schema) ∙ found_store x.0.version in
+                store.schema ∙ ap schema_of (version_of x.0.version v (sym found ∙ is))
+          ])) failed
+      | inr down ↦ inr (inl down)
+    ]
+
+pub returns-clause-other : goal.returns-clause-other
+returns-clause-other g c clean other failed =
+    c.read_whole.ensures.refused clean (λ v is. absurd (not_other v (sym is ∙ c.found_in-found.ensures ∙ ap found_in c.schema.ensures.value ∙ other))) failed

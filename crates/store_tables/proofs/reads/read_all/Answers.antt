@@ -1,10 +1,14 @@
-use Rattle.std.proofs.Common.{◌≡◌, List, codes, sym, ap, subst, arith, rules}
+use Rattle.std.proofs.Common.{◌≡◌, List, codes, sym, ap, subst, ◌∙◌, arith, rules}
+use Rattle.sqlite.specs.Effect.{Database}
 use Rattle.sqlite_value.specs.Order.{Row}
 use Rattle.sqlite.specs.State.{HasCleanDisk}
 use Rattle.sqlite.specs.Held.{state}
 use Rattle.store_rows.specs.Rows.{version_text}
 use Rattle.store_rows.specs.Holding.{HoldsParts, parts_of, mark}
 use Rattle.store_tables.specs.Reads.{TellsMark}
+use Rattle.store_schema.specs.Tables.{schema_of}
+use Rattle.store_rows.proofs.StepLemmas.{survives_more}
+use Rattle.store_tables.proofs.RefusalLemmas.{refused_since}
 use Rattle.store_tables.proofs.reads.read_all.Goals as goal
 
 pub returns-clause-read : goal.returns-clause-read
@@ -95,3 +99,57 @@ returns-in_err-notices-clause-own g c clean it fits h range bad =
     let h3 : HoldsParts p s3.now = subst (HoldsParts p) (sym (c.in_ok-sessions.ensures.read clean3 p h2).1) h2 in
     let kind = c.in_err-notices.ensures.own clean p fits h3 range.notices in
     kind (search rules)
+
+-- ---- refused calls
+
+pub returns-in_err-rows-clause-refused : goal.returns-in_err-rows-clause-refused
+returns-in_err-rows-clause-refused g c clean has failed = c.in_err-rows.ensures.refused clean c.args.version has (search rules)
+
+pub returns-in_err-found-clause-refused : goal.returns-in_err-found-clause-refused
+returns-in_err-found-clause-refused g c clean has failed = let none = c.in_err-found.ensures.unrefused in absurd (none (search rules))
+
+pub returns-in_err-site-clause-refused : goal.returns-in_err-site-clause-refused
+returns-in_err-site-clause-refused g c clean has failed = let none = c.in_err-site.ensures.unrefused in absurd (none (search rules))
+
+pub returns-in_err-layout-clause-refused : goal.returns-in_err-layout-clause-refused
+returns-in_err-layout-clause-refused g c clean has failed = let none = c.in_err-layout.ensures.unrefused in absurd (none (search rules))
+
+pub returns-in_err-cells-clause-refused : goal.returns-in_err-cells-clause-refused
+returns-in_err-cells-clause-refused g c clean has failed =
+    let s0 = state g.S.Store c.args.tx.now.conn.now in
+    let s1 = state g.S.Store c.read_marks.new.tx.conn.now in
+    let s2 = state g.S.Store c.read_cells.new.tx.conn.now in
+    let clean1 : HasCleanDisk s1 = omega (arith, c.read_cells.ensures.survives.clean) in
+    let has1 : s1.now.schema ≡ schema_of c.args.version = ap (λ (d : Database). d.schema) (c.in_ok-rows.ensures.same clean1 c.args.version has) ∙ has in
+    let why = c.in_err-cells.ensures.refused clean c.args.version has1 in
+    refused_since s0 s1 s2 c.read_marks.ensures.survives clean1 c.read_cells.ensures.survives.counts (why (search rules))
+
+pub returns-in_err-sessions-clause-refused : goal.returns-in_err-sessions-clause-refused
+returns-in_err-sessions-clause-refused g c clean has failed =
+    let s0 = state g.S.Store c.args.tx.now.conn.now in
+    let s1 = state g.S.Store c.read_marks.new.tx.conn.now in
+    let s2 = state g.S.Store c.read_cells.new.tx.conn.now in
+    let s3 = state g.S.Store c.read_sessions.new.tx.conn.now in
+    let clean2 : HasCleanDisk s2 = omega (arith, c.read_sessions.ensures.survives.clean) in
+    let clean1 : HasCleanDisk s1 = omega (arith, c.read_cells.ensures.survives.clean) in
+    let has1 : s1.now.schema ≡ schema_of c.args.version = ap (λ (d : Database). d.schema) (c.in_ok-rows.ensures.same clean1 c.args.version has) ∙ has in
+    let has2 : s2.now.schema ≡ schema_of c.args.version = ap (λ (d : Database). d.schema) (c.in_ok-cells.ensures.same clean2 c.args.version has1) ∙ has1 in
+    let why = c.in_err-sessions.ensures.refused clean c.args.version has2 in
+    refused_since s0 s2 s3 (survives_more s0 s1 s2 c.read_marks.ensures.survives c.read_cells.ensures.survives) clean2 c.read_sessions.ensures.survives.counts (why (search rules))
+
+pub returns-in_err-notices-clause-refused : goal.returns-in_err-notices-clause-refused
+returns-in_err-notices-clause-refused g c clean has failed =
+    let s0 = state g.S.Store c.args.tx.now.conn.now in
+    let s1 = state g.S.Store c.read_marks.new.tx.conn.now in
+    let s2 = state g.S.Store c.read_cells.new.tx.conn.now in
+    let s3 = state g.S.Store c.read_sessions.new.tx.conn.now in
+    let s4 = state g.S.Store c.read_notices_of.new.tx.conn.now in
+    let clean3 : HasCleanDisk s3 = omega (arith, c.read_notices_of.ensures.survives.clean) in
+    let clean2 : HasCleanDisk s2 = omega (arith, c.read_sessions.ensures.survives.clean) in
+    let clean1 : HasCleanDisk s1 = omega (arith, c.read_cells.ensures.survives.clean) in
+    let has1 : s1.now.schema ≡ schema_of c.args.version = ap (λ (d : Database). d.schema) (c.in_ok-rows.ensures.same clean1 c.args.version has) ∙ has in
+    let has2 : s2.now.schema ≡ schema_of c.args.version = ap (λ (d : Database). d.schema) (c.in_ok-cells.ensures.same clean2 c.args.version has1) ∙ has1 in
+    let has3 : s3.now.schema ≡ schema_of c.args.version = ap (λ (d : Database). d.schema) (c.in_ok-sessions.ensures.same clean3 c.args.version has2) ∙ has2 in
+    let why = c.in_err-notices.ensures.refused clean has3 in
+    let early = survives_more s0 s2 s3 (survives_more s0 s1 s2 c.read_marks.ensures.survives c.read_cells.ensures.survives) c.read_sessions.ensures.survives in
+    refused_since s0 s3 s4 early clean3 c.read_notices_of.ensures.survives.counts (why (search rules))

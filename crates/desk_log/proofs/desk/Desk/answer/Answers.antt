@@ -1,7 +1,7 @@
-use Rattle.std.proofs.Common.{◌≡◌, false, sym, subst, ◌∙◌}
+use Rattle.std.proofs.Common.{sym, subst, ◌∙◌}
 use Rattle.admission_model.specs.declared.reply.Refusal.TheVariants.{Memory}
 use Rattle.admission_model.specs.declared.reply.Reply.TheVariants.{Refused}
-use Rattle.desk_log.specs.Desk.{DeskState, IsOpen, IsServing, is_frozen, account_of}
+use Rattle.desk_log.specs.Desk.{DeskState, IsOpen, IsServing, account_of}
 use Rattle.desk_log.proofs.DeskLemmas.{core_there, has_place, no_memory, desk_unserved, desk_logged, receipt_given}
 use Rattle.desk_log.proofs.desk.Desk.answer.Goals as goal
 

@@ -1,5 +1,5 @@
 use Rattle.std.proofs.Common.{subst}
-use Rattle.desk_log.specs.Desk.{DeskState, IsDesk}
+use Rattle.desk_log.specs.Desk.{IsDesk}
 use Rattle.desk_log.proofs.DeskLemmas.{seats_inside}
 use Rattle.desk_log.proofs.desk.Desk.core.Goals as goal
 

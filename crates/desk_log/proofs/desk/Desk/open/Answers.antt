@@ -1,4 +1,4 @@
-use Rattle.std.proofs.Common.{◌≡◌, ◌<◌, sym, subst, arith}
+use Rattle.std.proofs.Common.{◌<◌, sym, subst, arith}
 use Rattle.desk_log.specs.Desk.{IsDesk}
 use Rattle.desk_log.proofs.DeskLemmas.{desk_begun}
 use Rattle.desk_log.proofs.desk.Desk.open.Goals as goal

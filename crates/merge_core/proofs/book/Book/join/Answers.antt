@@ -14,7 +14,7 @@ use Rattle.merge_core.proofs.book.Book.join.Goals as goal
 
 pub loop-row-init : goal.loop-row-init
 loop-row-init c = record {
-  joined = IsJoinedWith-start c.args.self.now (rw (← c.self.view_is) c.self.invariant);
+  joined = IsJoinedWith-start c.args.self.now (rw (← c.self.view_is) c.self.invariant.0);
   counted = sym (records_rise-same _);
   few = omega arith;
 }
@@ -33,7 +33,7 @@ pub loop-row-preserved : goal.loop-row-preserved
 loop-row-preserved c =
     let rows = c.rows-row-items.result.now in
     let old : BookState = c.args.self.now in
-    let book : IsBook old = rw (← c.self.view_is) c.self.invariant in
+    let book : IsBook old = rw (← c.self.view_is) c.self.invariant.0 in
     let rising : IsRising rows = rw c.rows-row-items.ensures.rows c.rows-row-items.ensures.valid.rising in
     let placed : All (IsPlaced (book_shape old)) rows = rw c.rows-row-items.ensures.rows (checked_placed (book_shape old) c.args.delta.now.rows c.requires) in
     let turn = join_step old c.loop-row.self c.join_row-risen.new.self rows c.loop-row.row-index c.row-item.result c.loop-row.risen c.join_row-risen.result book rising placed c.loop-row-test.true c.row-item.is c.loop-row.invariant.joined c.loop-row.invariant.counted c.join_row-risen.ensures.change c.join_row-risen.ensures.risen c.join_row-risen.ensures.book in
@@ -47,7 +47,7 @@ pub returns-clause-risen : goal.returns-clause-risen
 returns-clause-risen c =
     let rows = c.rows-row-items.result.now in
     let old : BookState = c.args.self.now in
-    let book : IsBook old = rw (← c.self.view_is) c.self.invariant in
+    let book : IsBook old = rw (← c.self.view_is) c.self.invariant.0 in
     let whole : take c.loop-row.row-index rows ≡ c.args.delta.now.rows = take_all c.loop-row.row-index rows (omega arith) ∙ c.rows-row-items.ensures.rows in
     let joined = subst (λ (ps : List Row). IsJoinedWith old c.loop-row.self ps) whole c.loop-row.invariant.joined in
     c.loop-row.invariant.counted

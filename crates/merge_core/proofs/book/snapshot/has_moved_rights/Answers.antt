@@ -1,4 +1,4 @@
-use Rattle.std.proofs.Common.{◌==◌, not, sym, ap, ◌∙◌, eqb}
+use Rattle.std.proofs.Common.{not, sym, ap, ◌∙◌, eqb}
 use Rattle.rights_matrix.specs.Matrix.{entry}
 use Rattle.merge_core.specs.declared.cell.Cell.TheVariants.{Out}
 use Rattle.merge_core.specs.Kept.{start_in}

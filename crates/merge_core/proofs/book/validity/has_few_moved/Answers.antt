@@ -1,4 +1,4 @@
-use Rattle.std.proofs.Common.{◌≡◌, ◌==◌, Bool, true, false, refl, sym, ◌∙◌, eqb, eq-eqb, eqb-true}
+use Rattle.std.proofs.Common.{◌≡◌, Bool, true, false, refl, sym, ◌∙◌, eqb, eq-eqb, eqb-true}
 use Rattle.std.proofs.lemmas.Bool.{false≢true}
 use Rattle.merge_core.specs.Tests.{overfull}
 use Rattle.merge_core.proofs.TestLemmas.{few_moved-from, overfull-none}

@@ -1,5 +1,3 @@
-use Rattle.std.proofs.Common.{List}
-use Rattle.merge_core.specs.declared.delta.Row.{Row}
 use Rattle.merge_core.specs.Delta.{DeltaState}
 use Rattle.merge_core.proofs.ThinLemmas.{IsDelta-thin}
 use Rattle.merge_core.proofs.delta.Delta.thin.Goals as goal

@@ -1,4 +1,4 @@
-use Rattle.std.proofs.Common.{◌≡◌, true, false, List, [], ◌∷◌, ◌++◌, cond, sym, ◌∙◌, ap, append-nil, Vec, Global}
+use Rattle.std.proofs.Common.{◌≡◌, [], ◌∷◌, ◌++◌, cond, sym, ◌∙◌, ap, append-nil, Vec, Global}
 use Rattle.merge_core.specs.declared.delta.Row.{Row}
 use Rattle.merge_core.proofs.ThinLemmas.{thin_turn, ArePast-step}
 use Rattle.merge_core.proofs.delta.thin.thin_rows.Goals as goal

@@ -14,7 +14,7 @@ grown_core-requires-clause-records c =
     let below : c.from.result < length k.sites.items = omega (arith, c.requires, c.from.ensures, ap (λ (x : WorldState). length x.cores) c.self.view_is) in
     same_records c.self.invariant.model w c.from.result c.index-core.result.now _ c.index-core.ensures below c.self.invariant.stands
 
-step : (c : goal.After-drop-index_mut-6) → IsStepHere (record { layout = c.self.inside.layout; cores = c.self.inside.sites.items; sent = c.self.inside.sent.items }) (record { layout = c.self.inside.layout; cores = set c.self.inside.sites.items c.from-2.result c.in-Ok.grown; sent = c.self.inside.sent.items }) (Grow c.args.i) Grown
+step : (c : goal.After-drop-index_mut-7) → IsStepHere (record { layout = c.self.inside.layout; cores = c.self.inside.sites.items; sent = c.self.inside.sent.items }) (record { layout = c.self.inside.layout; cores = set c.self.inside.sites.items c.from-2.result c.in-Ok.grown; sent = c.self.inside.sent.items }) (Grow c.args.i) Grown
 step c =
     let k = c.self.inside in
     let w : WorldState = record { layout = k.layout; cores = k.sites.items; sent = k.sent.items } in

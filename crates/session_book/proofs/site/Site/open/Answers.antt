@@ -1,7 +1,7 @@
 use Rattle.std.proofs.Common.{arith}
 use Rattle.session_book.specs.Sites.{AreFew}
 use Rattle.session_book.proofs.LockedLemmas.{locked_begun}
-use Rattle.session_book.proofs.SiteLemmas.{is_site, new_site}
+use Rattle.session_book.proofs.SiteLemmas.{new_site}
 use Rattle.session_book.proofs.site.Site.open.Goals as goal
 
 pub returns : goal.returns

@@ -1,15 +1,18 @@
-use Rattle.std.proofs.Common.{◌⊎◌, inl, inr, refl, sym, subst}
+use Rattle.std.proofs.Common.{◌⊎◌, inl, inr, decimal, refl, sym, subst}
 use Rattle.std.proofs.Math.Logic.{∥∥₁_map}
 use Rattle.sqlite.specs.State.{HasCleanDisk}
 use Rattle.sqlite.specs.Held.{Held, state}
 use Rattle.merge_core.specs.Layout.{LayoutState}
 use Rattle.layout_line.specs.Line.{line_of}
 use Rattle.store_rows.specs.Rows.{Stored}
-use Rattle.store_rows.specs.Holding.{Keeps, KeepsEither}
+use Rattle.store_rows.specs.Holding.{Keeps, KeepsEither, KeepsNothingOr}
 use Rattle.store_rows.specs.Changes.{renewed}
 use Rattle.store_tables.specs.Kept.{connection_of}
+use Rattle.store_tables.specs.Transacts.{made}
 use Rattle.site_store.specs.Sql.{Stores}
-use Rattle.site_store.specs.Opened.{IsReady}
+use Rattle.site_store.specs.Opened.{CommitsNothing, IsDeviceCause, IsDue, IsReady, IsRefusal}
+use Rattle.store_rows.proofs.StepLemmas.{survives_same}
+use Rattle.site_store.proofs.OwnLemmas.{memory_is_none}
 use Rattle.site_store.proofs.sql.SqlKeeper.open.Goals as goal
 
 pub returns-in-Ok-prepare-clause-store : goal.returns-in-Ok-prepare-clause-store
@@ -33,3 +36,59 @@ returns-in-Ok-prepare-clause-settles g c a b keeps =
 pub returns-in-Ok-prepare-clause-honest : goal.returns-in-Ok-prepare-clause-honest
 returns-in-Ok-prepare-clause-honest g c honest =
     subst (λ (h : Held g.row.S.Denot). HasCleanDisk (state g.S.Store h)) c.over-tables.ensures.connection (c.in-Ok-prepare.ensures.honest honest)
+
+-- ---- after a creation in doubt, and refusals by the device
+
+pub returns-in-Ok-prepare-clause-settles_or : goal.returns-in-Ok-prepare-clause-settles_or
+returns-in-Ok-prepare-clause-settles_or g c keeps =
+    let new = made (decimal c.args.site) (line_of c.args.layout.now) in
+    let settled = c.in-Ok-prepare.ensures.settles_or (subst (λ (h : Held g.row.S.Denot). KeepsNothingOr g.S.Store h new) (sym c.over-tables.ensures.connection) keeps) in
+    λ honest. (new, (subst (λ (l : LayoutState). Stores g.S.Store l c.args.site (connection_of c.prepare.new.tables) c.in-Ok-prepare.index new) (sym c.in-Ok.ensures) (settled honest), refl))
+
+pub returns-in-Err-clause-own : goal.returns-in-Err-clause-own
+returns-in-Err-clause-own g c a b first second keeps = λ clean.
+    c.in-Err.ensures.own a b first second (subst (λ (h : Held g.row.S.Denot). KeepsEither g.S.Store h a b) (sym c.over-tables.ensures.connection) keeps)
+    (subst (λ (h : Held g.row.S.Denot). HasCleanDisk (state g.S.Store h)) c.into_connection.ensures clean)
+
+pub returns-in-Err-clause-own_or : goal.returns-in-Err-clause-own_or
+returns-in-Err-clause-own_or g c keeps = λ clean.
+    c.in-Err.ensures.own_or
+    (subst (λ (h : Held g.row.S.Denot). KeepsNothingOr g.S.Store h (made (decimal c.args.site) (line_of c.args.layout.now))) (sym c.over-tables.ensures.connection) keeps)
+    (subst (λ (h : Held g.row.S.Denot). HasCleanDisk (state g.S.Store h)) c.into_connection.ensures clean)
+
+pub returns-in-Err-clause-fault : goal.returns-in-Err-clause-fault
+returns-in-Err-clause-fault g c it keeps = λ fault clean.
+    let told = c.in-Err.ensures.fault c.over-tables.ensures.sound it (subst (λ (h : Held g.row.S.Denot). Keeps g.S.Store h it) (sym c.over-tables.ensures.connection) keeps) fault
+    (subst (λ (h : Held g.row.S.Denot). HasCleanDisk (state g.S.Store h)) c.into_connection.ensures clean) in
+    subst (λ (h : Held g.row.S.Denot). IsRefusal g.S.Store h c.into_connection.result ⊎ IsDue c.args.layout.now c.args.site it) c.over-tables.ensures.connection
+    (subst (λ (h : Held g.row.S.Denot). IsRefusal g.S.Store (connection_of c.over-tables.result) h ⊎ IsDue c.args.layout.now c.args.site it) (sym c.into_connection.ensures) told)
+
+-- ---- what is committed
+
+pub returns-in-Err-clause-judged : goal.returns-in-Err-clause-judged
+returns-in-Err-clause-judged g c = λ other room.
+    subst (λ (h : Held g.row.S.Denot). CommitsNothing g.S.Store h c.into_connection.result) c.over-tables.ensures.connection
+    (subst (λ (h : Held g.row.S.Denot). CommitsNothing g.S.Store (connection_of c.over-tables.result) h) (sym c.into_connection.ensures) (c.in-Err.ensures.judged other room))
+
+pub returns-in-Err-clause-current : goal.returns-in-Err-clause-current
+returns-in-Err-clause-current g c it current keeps clean =
+    let still = c.in-Err.ensures.current it current (subst (λ (h : Held g.row.S.Denot). Keeps g.S.Store h it) (sym c.over-tables.ensures.connection) keeps)
+    (subst (λ (h : Held g.row.S.Denot). HasCleanDisk (state g.S.Store h)) c.into_connection.ensures clean) in
+    subst (λ (h : Held g.row.S.Denot). CommitsNothing g.S.Store h c.into_connection.result) c.over-tables.ensures.connection
+    (subst (λ (h : Held g.row.S.Denot). CommitsNothing g.S.Store (connection_of c.over-tables.result) h) (sym c.into_connection.ensures) still)
+
+pub returns-in-Ok-prepare-clause-current : goal.returns-in-Ok-prepare-clause-current
+returns-in-Ok-prepare-clause-current g c it current keeps clean =
+    let still = c.in-Ok-prepare.ensures.current it current (subst (λ (h : Held g.row.S.Denot). Keeps g.S.Store h it) (sym c.over-tables.ensures.connection) keeps) clean in
+    subst (λ (h : Held g.row.S.Denot). CommitsNothing g.S.Store h (connection_of c.prepare.new.tables)) c.over-tables.ensures.connection still
+
+-- ---- there was no memory for the layout
+
+pub returns-in_default-clause-fault : goal.returns-in_default-clause-fault
+returns-in_default-clause-fault g c it keeps = λ fault clean. absurd (memory_is_none fault)
+
+pub returns-in_default-clause-judged : goal.returns-in_default-clause-judged
+returns-in_default-clause-judged g c = λ other room. absurd (room refl)
+
+pub returns-in_default-clause-current : goal.returns-in_default-clause-current
+returns-in_default-clause-current g c it current keeps clean = survives_same _

@@ -14,3 +14,16 @@ returns-clause-law c =
       edit = (c.in-Ok.ensures it knows).0 ∙ ap (λ s. edit_of s it) c.session.ensures;
       room = subst (λ s. LacksPlace s it → ⊥) c.session.ensures (c.in-Ok.ensures it knows).1;
     })
+
+-- where no place is left, the edit was refused first
+pub returns-in_err-cells-clause-full : goal.returns-in_err-cells-clause-full
+returns-in_err-cells-clause-full c it knows lacks =
+    absurd ((c.in-Ok.ensures it knows).1 (subst (λ s. LacksPlace s it) (sym c.session.ensures) lacks))
+
+pub returns-in_err-notices-clause-full : goal.returns-in_err-notices-clause-full
+returns-in_err-notices-clause-full c it knows lacks =
+    absurd ((c.in-Ok.ensures it knows).1 (subst (λ s. LacksPlace s it) (sym c.session.ensures) lacks))
+
+pub returns-clause-full : goal.returns-clause-full
+returns-clause-full c it knows lacks =
+    absurd ((c.in-Ok.ensures it knows).1 (subst (λ s. LacksPlace s it) (sym c.session.ensures) lacks))

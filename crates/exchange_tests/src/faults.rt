@@ -1,0 +1,117 @@
+//! Peers that go away, logs that get full, and stores that fail.
+use crate::ends::inlet;
+use crate::gates::TestGate;
+use crate::nets::{THREE, has_reports, jobs_of, numbers, run_sites};
+use crate::sites::{Job, Outcome, Shape, job_of, run_site};
+use admission_core::{Ask, Refusal, Reply};
+use crossbeam_channel::unbounded;
+use exchange_threads::End;
+use std::alloc::Global;
+use std::sync::Wait;
+use std::thread::Threads;
+
+const TWO: Shape = Shape {
+    sites: 2,
+    records: 1,
+    seats: 2,
+    problem: 1,
+};
+
+// Site 0 runs 40 turns, and site 1 goes away after 4.
+fn jobs_left(alloc: Global) -> Option<Vec<Job>> {
+    let mut jobs = jobs_of(alloc, TWO, 40, 0)?;
+    jobs.get_mut(1)?.turns = 4;
+    Some(jobs)
+}
+
+// Whether site 0 sent until its peer was gone, and the peer took what it asked for.
+fn ends_early<R: Threads + Wait + Sync>(rt: &R, alloc: Global) -> Option<bool> {
+    let all = run_sites(rt, alloc, jobs_left(alloc)?)?;
+    let stays = all.get(0)?.as_ref()?;
+    let leaves = all.get(1)?.as_ref()?;
+    let (_, turns, sent, _) = numbers(stays.reports.as_slice().first()?);
+    let early = 4 <= sent && sent <= 21 && turns == sent.saturating_add(1);
+    let heard = numbers(stays.reports.as_slice().last()?) == (2, 4, 0, 0);
+    Some(early && heard && has_reports(leaves, 2, &[(1, 4, 4, 0), (2, 4, 0, 0)]))
+}
+
+#[test]
+fn a_peer_that_goes_away_ends_the_run(rt: HostRuntime) {
+    assert!(rt; ends_early(&rt, rt.alloc()) == Some(true));
+}
+
+// What site 1 tells of a writer that it announced.
+const NOTICE: &str =
+    "{\"from\":1,\"rows\":[{\"ann\":1,\"fin\":0,\"out\":[0,0,0],\"r\":0,\"s\":1,\"taken\":0}],\"v\":1}";
+
+// Site 0 with an outlet that may always send, whose texts nobody takes, and an inlet with 40 texts.
+fn job_with_two(alloc: Global, texts: End<TestGate>, sends: End<TestGate>) -> Option<Job> {
+    let mut ends = Vec::new(alloc);
+    ends.push(sends).ok()?;
+    ends.push(texts).ok()?;
+    let mut job = job_of(THREE, 0, ends, 40);
+    job.after = Some(Ask::Read { r: 0, h: 1 });
+    Some(job)
+}
+
+// What comes of site 0 with a log of 16 entries, or with a store that fails at the first change.
+fn stopped<R: Threads + Wait + Sync>(
+    rt: &R,
+    alloc: Global,
+    limit: usize,
+    left: Option<u64>,
+) -> Option<Outcome> {
+    let (sender, receiver) = unbounded(alloc).ok()?;
+    let texts = inlet(rt, alloc, &[NOTICE; 40])?;
+    let mut job = job_with_two(alloc, texts, End::Outlet(sender, TestGate::Always))?;
+    job.limit = limit;
+    job.left = left;
+    let ended = run_site(rt, alloc, job);
+    drop(receiver);
+    ended
+}
+
+// How many entries there are, and how many of them the store refused.
+fn entries_of(ended: &Outcome) -> Option<(usize, usize)> {
+    let entries = ended.transcript.runs.as_slice().first()?.entries.as_slice();
+    let mut faults = 0usize;
+    for entry in entries {
+        if matches!(entry.reply, Reply::Refused(Refusal::StoreFault)) {
+            faults = faults.saturating_add(1);
+        }
+    }
+    Some((entries.len(), faults))
+}
+
+// Whether both runners ended as the log was full.
+fn fills<R: Threads + Wait + Sync>(rt: &R, alloc: Global) -> Option<bool> {
+    let ended = stopped(rt, alloc, 16, None)?;
+    let after = matches!(ended.after, Some(Reply::Refused(Refusal::LogFull)));
+    let (_, turns, sent, memory) = numbers(ended.reports.as_slice().first()?);
+    let early = turns <= 9 && sent <= turns && memory == 0;
+    Some(early && after && ended.marks == (0, 2) && entries_of(&ended)? == (16, 0))
+}
+
+#[test]
+fn a_full_log_ends_all_runs(rt: HostRuntime) {
+    assert!(rt; fills(&rt, rt.alloc()) == Some(true));
+}
+
+// Whether both runners ended as the store failed, one of them with its fault.
+fn freezes<R: Threads + Wait + Sync>(rt: &R, alloc: Global) -> Option<bool> {
+    let ended = stopped(rt, alloc, 1024, Some(0))?;
+    let after = matches!(ended.after, Some(Reply::Refused(Refusal::Frozen)));
+    let sends = numbers(ended.reports.as_slice().first()?);
+    let hears = numbers(ended.reports.as_slice().last()?);
+    let fault = match hears {
+        (2, 2, 1, 0) => sends == (1, 1, 0, 0),
+        (2, 1, 0, 0) => sends == (1, 1, 0, 0),
+        _ => false,
+    };
+    Some(fault && after && ended.marks == (2, 0) && entries_of(&ended)? == (1, 1))
+}
+
+#[test]
+fn a_store_that_fails_ends_all_runs(rt: HostRuntime) {
+    assert!(rt; freezes(&rt, rt.alloc()) == Some(true));
+}

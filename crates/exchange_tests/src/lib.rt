@@ -1,0 +1,22 @@
+//! Tests of the exchange: sites of one process that tell each other over links, gates that open and shut, peers that go
+//! away, logs that get full and stores that fail.
+#![tactic(auto)]
+
+#[cfg(test)]
+mod ends;
+#[cfg(test)]
+mod faults;
+#[cfg(test)]
+mod gates;
+#[cfg(test)]
+mod growths;
+#[cfg(test)]
+mod keepers;
+#[cfg(test)]
+mod knowledge;
+#[cfg(test)]
+mod nets;
+#[cfg(test)]
+mod sites;
+#[cfg(test)]
+mod texts;

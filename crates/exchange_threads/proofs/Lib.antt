@@ -1,0 +1,4 @@
+pub mod Replies
+pub mod Told
+pub mod Heard
+pub mod Counting

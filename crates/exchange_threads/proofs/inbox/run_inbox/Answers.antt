@@ -1,0 +1,38 @@
+use Rattle.std.proofs.Common.{◌+◌, refl, ap, subst, arith}
+use Rattle.exchange_threads.specs.declared.turn.Turn.{Turn}
+use Rattle.exchange_threads.specs.declared.turn.Turn.TheVariants.{GoesOn, EndsRun}
+use Rattle.exchange_threads.specs.Counts.{count_total}
+use Rattle.exchange_threads.specs.Inbox.{HasHeard, nothing_heard}
+use Rattle.exchange_threads.proofs.Heard.{heard_same, heard_both, heard_on, counted_on, in_at_more}
+use Rattle.exchange_threads.proofs.inbox.run_inbox.Goals as goal
+
+pub turns-init : goal.turns-init
+turns-init g c = record {
+  heard = heard_same c.args.pass.now nothing_heard c.new-report.result c.new-report.ensures.taken c.new-report.ensures.raised c.new-report.ensures.refused c.new-report.ensures.memory;
+  at = record {
+    taken = omega (arith, c.new-report.ensures.taken);
+    raised = omega (arith, c.new-report.ensures.raised);
+    noted = omega (arith, c.new-report.ensures.memory, ap count_total c.new-report.ensures.refused);
+  };
+}
+
+pub turns-preserved : goal.turns-preserved
+turns-preserved g c =
+    let heard : HasHeard c.args.pass.now c.in_turn-turn.new.pass nothing_heard c.in_turn-turn.new.report (c.turns.t + 1) c.in_turn-turn.result =
+    heard_both c.args.pass.now c.turns.pass c.in_turn-turn.new.pass nothing_heard c.turns.report c.in_turn-turn.new.report c.turns.t 1 GoesOn c.in_turn-turn.result refl c.turns.invariant.heard c.in_turn-turn.ensures.heard in
+    record {
+      heard = heard_on c.args.pass.now c.in_turn-turn.new.pass nothing_heard c.in_turn-turn.new.report (c.turns.t + 1) c.in_turn-turn.result c.in_default.not-EndsRun heard;
+      at = counted_on c.turns.t c.turns.report c.in_turn-turn.new.report c.turns.invariant.at c.in_turn-turn.ensures.counts;
+    }
+
+pub returns-in-EndsRun : goal.returns-in-EndsRun
+returns-in-EndsRun g c =
+    let heard : HasHeard c.args.pass.now c.in_turn-turn.new.pass nothing_heard c.in_turn-turn.new.report (c.turns.t + 1) c.in_turn-turn.result =
+    heard_both c.args.pass.now c.turns.pass c.in_turn-turn.new.pass nothing_heard c.turns.report c.in_turn-turn.new.report c.turns.t 1 GoesOn c.in_turn-turn.result refl c.turns.invariant.heard c.in_turn-turn.ensures.heard in
+    record {
+      turns = c.turns.t + 1;
+      last = EndsRun;
+      heard = subst (λ (x : Turn). HasHeard c.args.pass.now c.in_turn-turn.new.pass nothing_heard c.in_turn-turn.new.report (c.turns.t + 1) x) c.in-EndsRun.is heard;
+      within = in_at_more (c.turns.t + 1) c.args.turns c.in_turn-turn.new.report (omega (arith, c.turns-test.true)) (counted_on c.turns.t c.turns.report c.in_turn-turn.new.report c.turns.invariant.at c.in_turn-turn.ensures.counts);
+      ending = omega (arith, c.turns-test.true);
+    }

@@ -1,0 +1,7 @@
+pub mod Names
+pub mod Counts
+pub mod Links
+pub mod Turns
+pub mod Outbox
+pub mod Inbox
+pub mod Ports

@@ -1,0 +1,21 @@
+-- What the runner of a port leaves (this project's own).
+use Rattle.std.specs.Prelude.{◌≡◌, ℕ, Option, Some, None}
+use Rattle.session_book.specs.Passes.{PassState}
+use Rattle.exchange_threads.specs.declared.port.End.{End}
+use Rattle.exchange_threads.specs.declared.port.End.TheVariants.{Outlet, Inlet}
+use Rattle.exchange_threads.specs.declared.port.Report.{Report}
+use Rattle.exchange_threads.specs.declared.port.Report.TheVariants.{Sent, Got}
+use Rattle.exchange_threads.specs.declared.port.Port.{Port}
+use Rattle.exchange_threads.specs.Outbox.{HasRunOut}
+use Rattle.exchange_threads.specs.Inbox.{HasRunIn}
+
+-- the report is that of a run at this end
+abbrev pub IsReportOf : {G : Type 0} → ℕ → Option (End G) → PassState → PassState → ℕ → Option Report → Type 0
+IsReportOf records (Some (Outlet sender gate)) old new asked (Some (Sent r)) = HasRunOut records old new asked r
+IsReportOf records (Some (Inlet receiver)) old new asked (Some (Got r)) = HasRunIn old new asked r
+IsReportOf records _ old new asked _ = ⊥
+
+-- a port's runner has run for a site with so many records: its end is gone, and its report is there
+pub record HasRunPort {L G : Type 0} (records asked : ℕ) (old new : Port L G) : Type 0 where
+  pub no_end : new.link ≡ None
+  pub report : IsReportOf records old.link old.pass new.pass asked new.report

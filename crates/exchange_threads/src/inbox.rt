@@ -1,0 +1,92 @@
+ghost use Rattle.std.specs.Prelude.{◌≡◌, ◌+◌, ◌*◌, ◌<◌, ◌≤◌};
+ghost use Rattle.exchange_threads.specs.Inbox.{HearsText, HasHeard, HasRunIn, CanCount, CountsTurn};
+
+use crate::report::InReport;
+use crate::turn::Turn;
+use admission_core::Call;
+use crossbeam_channel::Receiver;
+use delta_codec::decode;
+use durable_keeper::Keeper;
+use session_book::{Opening, Pass, Site};
+use std::alloc::Global;
+use std::sync::Wait;
+
+// A text that was taken: it is read, and the site merges its delta.
+fn hear_text<K: Keeper, L: Opening, R: Wait>(
+    rt: &R,
+    alloc: Global,
+    site: &Site<K, L>,
+    pass: &mut Pass<L>,
+    text: &[u8],
+    report: &mut InReport,
+) -> Turn
+    requires room { 0 < report.old.refused.room }
+    requires fits { CanCount report.old }
+    ensures hears { HearsText text.now pass.old pass.new report.old report.new result }
+    ensures counts { CountsTurn report.old report.new }
+{
+    report.taken += 1;
+    match decode(alloc, text) {
+        Ok(delta) => {
+            let reply = site.call(rt, pass, Call::Merge(delta));
+            report.note_merge(&reply)
+        }
+        Err(error) => {
+            report.note_unread(error);
+            Turn::GoesOn
+        }
+    }
+}
+
+// One turn. Room for the name of a refusal is made before a text is taken.
+fn in_turn<K: Keeper, L: Opening, R: Wait>(
+    rt: &R,
+    alloc: Global,
+    site: &Site<K, L>,
+    pass: &mut Pass<L>,
+    receiver: &Receiver<String>,
+    report: &mut InReport,
+) -> Turn
+    requires fits { CanCount report.old }
+    ensures heard { HasHeard pass.old pass.new report.old report.new 1 result }
+    ensures counts { CountsTurn report.old report.new }
+{
+    if report.refused.reserve().is_err() {
+        report.memory += 1;
+        return Turn::IsOver;
+    }
+    let Ok(text) = receiver.recv(rt) else {
+        return Turn::EndsRun;
+    };
+    hear_text(rt, alloc, site, pass, text.as_bytes(), report)
+}
+
+/// Runs an inbox of a site for so many turns, of which there are at most 10^9. Each turn takes a text, reads it in place,
+/// and has the site merge its delta. While the channel is empty the runner waits for a text. The run ends early once the site
+/// answers `Frozen` or `LogFull`, or once the channel is closed: all its senders are gone, and each text that it held was
+/// taken. A text that is no delta's, or whose delta the site refuses, is counted by the name of the refusal. A turn that
+/// meets want of memory is counted, does nothing more, and the runner goes on; it takes no text where no name could be
+/// counted. The receiver is dropped at the end, which closes the channel for its senders if it is the last.
+///
+/// Linear in the text, of which no copy is made, and in what the site copies of its delta. May wait, for the site's lock
+/// and the channel.
+pub fn run_inbox<K: Keeper, L: Opening, R: Wait>(
+    rt: &R,
+    alloc: Global,
+    site: &Site<K, L>,
+    pass: &mut Pass<L>,
+    receiver: Receiver<String>,
+    turns: u64,
+) -> InReport
+    requires few { turns ≤ 1000000000 }
+    ensures { HasRunIn pass.old pass.new turns result }
+{
+    let mut report = InReport::new(alloc);
+    'turns: for t in 0..turns {
+        let turn = in_turn(rt, alloc, site, pass, &receiver, &mut report);
+        if let Turn::EndsRun = turn {
+            return report;
+        }
+    }
+    report
+}

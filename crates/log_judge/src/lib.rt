@@ -1,0 +1,18 @@
+//! The judge of closed logs: whether each site's log is legal, and whether a cut through all of them is consistent.
+#![tactic(auto)]
+
+pub use cut::is_cut;
+pub use judging::{are_of_sites, judge};
+pub use table::cut_table;
+pub use verdict::Verdict;
+
+mod cut;
+mod entries;
+mod excess;
+mod joint;
+mod judging;
+pub mod laws;
+mod own;
+mod replay;
+mod table;
+mod verdict;

@@ -1,0 +1,133 @@
+-- What an opening makes of a content that is the site's own, and of a line that is the layout's.
+use Rattle.std.proofs.Common.{◌≡◌, ◌≢◌, ◌⊎◌, ◌<◌, ◌≤◌, ℕ, inl, inr, refl, sym, subst, List, [], ◌++◌, ◌∙◌, decimal, Option, Some, None, Result, Ok, Err, IfErr, arith}
+use Rattle.std.proofs.lemmas.Option.{none-some, same_Some}
+use Rattle.std.proofs.lemmas.List.{append_cancel_right}
+use Rattle.std.proofs.lemmas.List.Elements.{All-from_recursion}
+use Rattle.std.proofs.lemmas.Fmt.{decimal_injective}
+use Rattle.std.proofs.Math.Logic.{∥∥₁_elim, ∥∥₁_map, ∥∥₁_prop}
+use Rattle.sqlite_trees.specs.Tree.{Trees}
+use Rattle.sqlite_trees.specs.declared.store.Store.{Ghosts}
+use Rattle.sqlite.specs.State.{HasCleanDisk}
+use Rattle.sqlite.specs.Held.{Held, state}
+use Rattle.merge_core.specs.Layout.{LayoutState}
+use Rattle.layout_line.specs.declared.Line.{Line}
+use Rattle.layout_line.specs.declared.Line.TheVariants as lines
+use Rattle.layout_line.specs.Line.{IsLine, line_of, records_text}
+use Rattle.store_rows.specs.Rows.{Stored}
+use Rattle.store_rows.specs.Holding.{Keeps, KeepsEither, KeepsNothing, KeepsNothingOr, Leaves, Holds, HoldsNothing}
+use Rattle.store_tables.specs.Transacts.{made}
+use Rattle.store_tables.specs.Reads.{IsCellInRange, IsSessionInRange, IsNoticeInRange, IsInRange, KeepsAny}
+use Rattle.store_tables.specs.declared.error.TableError.{TableError}
+use Rattle.store_tables.specs.declared.error.TableError.TheVariants as tables
+use Rattle.store_tables.proofs.LookLemmas.{found_once}
+use Rattle.site_store.specs.declared.error.OpenError.{OpenError}
+use Rattle.site_store.specs.declared.error.OpenError.TheVariants as opening
+use Rattle.site_store.specs.Errors.{open_error}
+use Rattle.site_store.specs.Opened.{Fits, IsCause, IsDeviceCause, IsOwn}
+use Rattle.site_store.proofs.OpenLemmas.{made_content}
+
+-- a line that is a layout's own is found to be
+pub same_line : (layout : LayoutState) (i : ℕ) (line : List ℕ) (found : Line) → layout.sites ≤ 16 → line ≡ line_of layout → IsLine layout i line found → found ≡ lines.Same
+same_line layout i line lines.Same few own is = refl
+same_line layout i line lines.Earlier few own (n, it) =
+    let numbers : decimal n ≡ decimal layout.sites = append_cancel_right (decimal n) (decimal layout.sites) (records_text layout.records) (sym it.is_its ∙ own) in
+    let fewer : n < layout.sites = it.earlier.fewer_sites in
+    let same : n ≡ layout.sites = decimal_injective n layout.sites (omega (arith, fewer, few)) (omega (arith, few)) numbers in
+    absurd (omega (arith, fewer, same))
+same_line layout i line lines.Other few own is = absurd (is.0 own)
+
+other_line : (layout : LayoutState) (i : ℕ) (it : Stored) → Fits layout i it → IsLine layout i it.layout lines.Other → ⊥
+other_line layout i it (inl same) is = is.0 same
+other_line layout i it (inr earlier) is = is.1 earlier.0 earlier.1
+
+-- the site's own content is refused for no cause of its own
+pub own_cause : (layout : LayoutState) (i : ℕ) (it : Stored) (e : OpenError) → IsOwn layout i it → IsCause layout i it e → IsDeviceCause e
+own_cause layout i it opening.BadStore own cause = absurd (cause (record { in_range = own.in_range; content = own.fits.content }))
+own_cause layout i it opening.WrongSite own cause = absurd (cause.1 own.fits.its_site)
+own_cause layout i it opening.WrongLayout own cause = absurd (other_line layout i it own.fits.its_layout cause.1.1)
+own_cause layout i it opening.StoreFault own cause = _
+own_cause layout i it opening.Memory own cause = _
+
+-- nor do tables refuse it
+pub table_cause : (e : TableError) → (e ≡ tables.BadStore → ⊥) → IsDeviceCause (open_error e)
+table_cause tables.BadStore good = absurd (good refl)
+table_cause tables.Memory good = _
+table_cause tables.StoreFault good = _
+
+pub device_two : (e : OpenError) → IsDeviceCause e → e ≢ opening.StoreFault → e ≢ opening.Memory → ⊥
+device_two opening.BadStore cause fault memory = cause
+device_two opening.WrongSite cause fault memory = cause
+device_two opening.WrongLayout cause fault memory = cause
+device_two opening.StoreFault cause fault memory = fault refl
+device_two opening.Memory cause fault memory = memory refl
+
+pub memory_cause : (e : OpenError) → e ≡ opening.Memory → IsDeviceCause e
+memory_cause e is = subst IsDeviceCause (sym is) _
+
+device_prop : (e : OpenError) → IsProp (IsDeviceCause e)
+device_prop opening.BadStore = λ a b. absurd a
+device_prop opening.WrongSite = λ a b. absurd a
+device_prop opening.WrongLayout = λ a b. absurd a
+device_prop opening.StoreFault = λ a b. refl
+device_prop opening.Memory = λ a b. refl
+
+-- a new store is one of its site
+pub made_own : (layout : LayoutState) (i : ℕ) → IsOwn layout i (made (decimal i) (line_of layout))
+made_own layout i = record {
+  in_range = record { cells = All-from_recursion IsCellInRange [] tt; sessions = All-from_recursion IsSessionInRange [] tt; notices = All-from_recursion IsNoticeInRange [] tt };
+  fits = record { content = made_content (decimal i) (line_of layout); its_site = refl; its_layout = inl refl };
+}
+
+module _ {S : Type 0} (g : Ghosts S) (c : Held S) (Such : Stored → Type 0) where
+  pub any_of : (it : Stored) → Such it → Keeps g c it → KeepsAny g c Such
+  any_of it fits keeps = record { left = λ clean db left. ∥∥₁_map (keeps.left clean db left) (λ h. inr (it, (fits, h))) }
+
+  pub any_of_either : (a b : Stored) → Such a → Such b → KeepsEither g c a b → KeepsAny g c Such
+  any_of_either a b first second keeps = record {
+    left = λ clean db left. ∥∥₁_map (keeps.left clean db left) (λ h. elim h [ inl x ↦ inr (a, (first, x)) | inr y ↦ inr (b, (second, y)) ]);
+  }
+
+  pub any_of_nothing_or : (it : Stored) → Such it → KeepsNothingOr g c it → KeepsAny g c Such
+  any_of_nothing_or it fits keeps = record {
+    left = λ clean db left. ∥∥₁_map (keeps.left clean db left) (λ h. elim h [ inl x ↦ inl x | inr y ↦ inr (it, (fits, y)) ]);
+  }
+
+-- what a connection keeps, known by truncation
+leaves_from : {S : Type 0} (g : Ghosts S) (c : Held S) (P : Trees → Type 0) (A : Type 0) → ∥ A ∥₁ → (A → Leaves g c P) → Leaves g c P
+leaves_from g c P A some f = record { left = λ clean db left. ∥∥₁_elim some ∥∥₁_prop (λ x. (f x).left clean db left) }
+
+-- nothing or one content was kept, and a look found none, or it
+module _ {S : Type 0} (g : Ghosts S) (c : Held S) (it : Stored) (H : Type 0) (clean : H) (t : Option Stored)
+    (found : ∥ (KeepsNothing g c × (H → t ≡ None)) ⊎ (Keeps g c it × (H → t ≡ Some it)) ∥₁) where
+  pub none_kept : t ≡ None → KeepsNothing g c
+  none_kept none = leaves_from g c HoldsNothing _ found (λ f. elim f [ inl x ↦ x.0 | inr y ↦ absurd (none-some it (sym none ∙ y.1 clean)) ])
+
+  pub some_kept : (content : Stored) → t ≡ Some content → Keeps g c it
+  some_kept content is = leaves_from g c (Holds it) _ found (λ f. elim f [ inl x ↦ absurd (none-some content (sym (x.1 clean) ∙ is)) | inr y ↦ y.0 ])
+
+  pub some_found : (content : Stored) → t ≡ Some content → content ≡ it
+  some_found content is =
+      same_Some content it (sym is ∙ ∥∥₁_elim found (found_once {E = TableError} (Ok t) (Some it)) (λ f. elim f [ inl x ↦ absurd (none-some content (sym (x.1 clean) ∙ is)) | inr y ↦ y.1 clean ]))
+
+-- one of two contents was kept, each of them the site's own, and a look found it
+pub either_own : (layout : LayoutState) (i : ℕ) (a b content : Stored) (P Q H : Type 0) → H → (t : Option Stored) → t ≡ Some content → IsOwn layout i a → IsOwn layout i b
+    → ∥ (P × (H → t ≡ Some a)) ⊎ (Q × (H → t ≡ Some b)) ∥₁ → (e : OpenError) → (IsOwn layout i content → IsDeviceCause e) → IsDeviceCause e
+either_own layout i a b content P Q H clean t is first second found e refused =
+    ∥∥₁_elim found (device_prop e) (λ f. elim f [
+      | inl x ↦ refused (subst (IsOwn layout i) (sym (same_Some content a (sym is ∙ x.1 clean))) first)
+      | inr y ↦ refused (subst (IsOwn layout i) (sym (same_Some content b (sym is ∙ y.1 clean))) second)
+    ])
+
+-- what holds of an error
+pub if_err_from : {A E : Type 0} {G : E → Type 0} (r : Result A E) → ((e : E) → r ≡ Err e → G e) → IfErr r G
+if_err_from (Ok x) k = tt
+if_err_from (Err e) k = k e refl
+
+-- a fault of an opening is the tables'
+pub fault_of : (e : TableError) → open_error e ≡ opening.StoreFault → e ≡ tables.StoreFault
+fault_of tables.BadStore is = absurd (cc)
+fault_of tables.Memory is = absurd (cc)
+fault_of tables.StoreFault is = refl
+
+pub memory_is_none : opening.Memory ≡ opening.StoreFault → ⊥
+memory_is_none is = absurd (cc)

@@ -1,0 +1,138 @@
+-- Why a call that only reads is refused, other than for want of memory.
+use Rattle.std.proofs.Common.{◌≡◌, ◌≢◌, ◌⊎◌, ◌≤◌, inl, inr, ℕ, Bool, true, false, List, [], length, append-nil, Option, Some, None, IsSome, Result, Ok, Err, OnOk, IsTrue, ◌↔◌, refl, sym, ap, subst, subst₂, ◌∙◌, arith}
+use Rattle.std.proofs.lemmas.Bool.{cases_Bool, both_ways}
+use Rattle.sqlite_rules.proofs.ListLemmas.{any_has}
+use Rattle.sqlite_disk.specs.Disk.{MoreFaults}
+use Rattle.sqlite_value.specs.Order.{Row}
+use Rattle.sqlite_value.specs.declared.keys.Key.{Key}
+use Rattle.sqlite_trees.specs.declared.error.StoreError.{StoreError}
+use Rattle.sqlite_trees.specs.declared.error.StoreError.TheVariants as store
+use Rattle.sqlite_sql.specs.Term.{Term}
+use Rattle.sqlite_sql.specs.Program.{overlay}
+use Rattle.std.specs.Coded.{Coded-set}
+use Rattle.sqlite_schema.specs.declared.schema.Schema.{Schema}
+use Rattle.sqlite_schema.specs.contracts.schema.Schema.{the_row}
+use Rattle.store_schema.specs.declared.Version.{Version}
+use Rattle.store_schema.specs.declared.Found.TheVariants.{Blank, Store, Other}
+use Rattle.sqlite_schema.specs.declared.command.Command.{Command}
+use Rattle.sqlite_schema.specs.declared.command.Command.TheVariants.{Select}
+use Rattle.sqlite_schema.specs.declared.command.Returning.{Returning}
+use Rattle.sqlite_resolve.specs.declared.compiled.Compiled.{Compiled}
+use Rattle.sqlite_resolve.specs.declared.error.CompileError.{CompileError}
+use Rattle.sqlite_typing.specs.Types.{accepts_program}
+use Rattle.sqlite.specs.declared.error.Error.{Error}
+use Rattle.sqlite.specs.declared.error.Error.TheVariants.{SqliteFailure}
+use Rattle.sqlite.specs.declared.error.ErrorCode.TheVariants.{OutOfMemory}
+use Rattle.sqlite.specs.Effect.{Database, RefusesToRead}
+use Rattle.sqlite.specs.State.{State, HasCleanDisk, Survives, IsNotRun, IsNoStatement, Fails, FailsToQuery, FailsToShow, IsTooLate, IsStatement, Shown}
+use Rattle.sqlite.specs.Listing.{understood, reads_listing, IsSourceOf}
+use Rattle.sqlite.specs.Clock.{timed}
+use Rattle.sqlite.proofs.Callers.{IsPlain, command_of}
+use Rattle.store_rows.proofs.ReadLemmas.{query_on, shown_same}
+use Rattle.store_rows.proofs.SelectLemmas.{reads}
+use Rattle.store_rows.proofs.RefusalLemmas.{IsWhole}
+use Rattle.store_tables.specs.declared.reads.Unread.{Unread}
+use Rattle.store_tables.specs.declared.reads.Unread.TheVariants.{Memory, Failed}
+use Rattle.store_tables.specs.Refusals.{HasRefused}
+
+-- ---- between more moments
+
+pub refused_until : (a b c : State) → HasRefused a b → b.faults ≤ c.faults → HasRefused a c
+refused_until a b c (inl more) later = inl (omega (arith, more, later))
+refused_until a b c (inr why) later = inr why
+
+pub refused_since : (a b c : State) → Survives a b (λ _. ⊥) → HasCleanDisk b → b.faults ≤ c.faults → HasRefused b c → HasRefused a c
+refused_since a b c one clean later (inl more) = inl (omega (arith, more, one.counts))
+refused_since a b c one clean later (inr (inr limit)) = inr (inr (subst (λ (l : Option ℕ). IsSome l) one.limit limit))
+refused_since a b c one clean later (inr (inl shut)) = elim (cases_Bool a.is_open) [
+  | inl up ↦ elim (one.closes clean up) [
+    | inl still ↦ absurd (both_ways _ shut still)
+    | inr more ↦ inl (omega (arith, more, later))
+  ]
+  | inr down ↦ inr (inl down)
+]
+
+-- ---- one call
+
+fails : (old new : State) (e : Error) → e ≢ SqliteFailure OutOfMemory → Fails old new ⊥ e → HasRefused old new
+fails old new e other h = by h.0 (λ is. other (h.1 ∙ ap Rattle.sqlite.specs.State.store_error is)) h.2
+  where
+    by : (cause : StoreError) → (cause ≡ store.OutOfMemory → ⊥) → Rattle.sqlite.specs.State.HasCause old new ⊥ cause → HasRefused old new
+    by store.OutOfMemory none why = absurd (none refl)
+    by store.Io none why = inl why
+    by store.Corrupt none why = inl why
+    by store.Full none why = inl why
+    by store.Broken none why = inr (inl why)
+    by store.Unstorable none why = absurd why
+
+module _ (sql : List ℕ) (old new : State) (whole : IsWhole sql (understood old.now.schema sql)) (plain : IsPlain (understood old.now.schema sql)) where
+  is_statement : (e : Error) → IsNoStatement old sql [] e → ⊥
+  is_statement e (inl (fault, is, same)) = subst (IsWhole sql) is whole
+  is_statement e (inr (c, is, inl (some, same))) = some (let k = (subst (IsWhole sql) is whole).0 in omega (arith, k))
+  is_statement e (inr (c, is, inr (inl (other, same)))) = other (ap length (sym (subst (IsWhole sql) is whole).1))
+  is_statement e (inr (c, is, inr (inr (timely, same)))) = timely (subst IsPlain is plain).1
+
+  pub not_run_refused : (e : Error) → e ≢ SqliteFailure OutOfMemory → IsNotRun old new sql [] e → HasRefused old new
+  unfolding IsNotRun
+  not_run_refused e other (inl h) = absurd (is_statement e h.0)
+  not_run_refused e other (inr h) = fails old new e other h
+
+  pub on_time : (e : Error) → IsTooLate sql [] old new e → ⊥
+  on_time e h = absurd (let some = subst (λ (r : Option Returning). IsSome r) (subst IsPlain h.1.is plain).0 h.2 in cc)
+
+-- a query on one table, all of whose rows are shown
+module _ (sql : List ℕ) (old new : State) (schema : Schema) (has : old.now.schema ≡ schema) (tree : ℕ) (project : List Term) (order : List (Term × Key)) (names : List (List ℕ))
+    (it : reads tree project order names schema sql) (fits : IsWhole sql (understood schema sql) × (accepts_program schema [] (query_on tree [] project order) [] ≡ true)) where
+  known : (P : Result Compiled CompileError → Type 0) → P (understood schema sql) → P (understood old.now.schema sql)
+  known P h = subst (λ (s : Schema). P (understood s sql)) (sym has) h
+
+  read_refused : (db : Database) (e : Error) → db.schema ≡ schema → RefusesToRead old.step_limit (Select (record { lets = []; body = query_on tree [] project order }) names) db [] e → HasRefused old new
+  read_refused db e same (inl (mismatch, untyped)) = absurd (both_ways _ (subst (λ (s : Schema). accepts_program s [] (query_on tree [] project order) [] ≡ false) same untyped) fits.1)
+  read_refused db e same (inr (inl (overflow, inl sum))) = absurd sum
+  read_refused db e same (inr (inl (overflow, inr fold))) = absurd (any_has (λ _. ⊥) (overlay db.trees [] tree) fold).2
+  read_refused db e same (inr (inr (interrupted, limit))) = inr (inr limit)
+
+  pub query_refused : (e : Error) → e ≢ SqliteFailure OutOfMemory → FailsToQuery sql [] old new e ⊎ IsTooLate sql [] old new e → HasRefused old new
+  unfolding FailsToQuery
+  query_refused e other (inl (inl h)) = not_run_refused sql old new (known (IsWhole sql) fits.0) (known IsPlain it.1) e other h
+  query_refused e other (inl (inr h)) =
+      let same : understood schema sql ≡ Ok h.0 = ap (λ (s : Schema). understood s sql) (sym has) ∙ h.1.is in
+      let bare = subst IsPlain same it.1 in
+      let shows = subst (λ (r : Option Returning). FailsToShow old new sql h.0 (timed [] h.0.formats h.1.now) e r) bare.0 h.2 in
+      let db : shows.0 ≡ old.now = subst (λ (b : Bool). IsSourceOf b old.now shows.0) (ap (λ (s : Schema). reads_listing s sql) has ∙ it.2) shows.1 in
+      let command : h.0.command ≡ Select (record { lets = []; body = query_on tree [] project order }) names = sym (ap command_of same) ∙ it.0 in
+      let given : timed [] h.0.formats h.1.now ≡ [] = ap (λ (f : List (List ℕ)). timed [] f h.1.now) bare.1 in
+      read_refused shows.0 e (ap (λ (d : Database). d.schema) db ∙ has)
+      (subst₂ (λ (k : Command) (params : Row). RefusesToRead old.step_limit k shows.0 params e) command given shows.2)
+  query_refused e other (inr late) = absurd (on_time sql old new (known (IsWhole sql) fits.0) (known IsPlain it.1) e late)
+
+  -- where it is shown, nothing changes
+  pub query_same : (rows : List Row) → Shown sql [] old new rows → new.now ≡ old.now
+  query_same rows shown = (shown_same sql [] old new rows (known IsPlain it.1) shown).0.now_is
+
+-- ---- answers
+
+-- a reading that failed met no want of memory
+pub not_memory : (u : Unread) (e : Error) → (u ≡ Memory ↔ (e ≡ SqliteFailure OutOfMemory)) → u ≡ Failed → e ≢ SqliteFailure OutOfMemory
+not_memory u e both is oom = absurd (let m : u ≡ Memory = both.1 oom in let clash : Memory ≡ Failed = sym m ∙ is in cc)
+
+pub one_error : {A E : Type 0} (r : Result A E) (x y : E) → r ≡ Err x → r ≡ Err y → x ≡ y
+one_error {A} {E} r x y first second = let both = subst (λ (q : Result A E). q ≡ Err y) first second in cc
+
+pub all_on_ok : {A E Q : Type 0} (r : Result A E) → Q → OnOk r Q
+all_on_ok (Ok x) h = h
+all_on_ok (Err e) h = tt
+
+-- ---- schemas and versions
+
+pub schema_once : (a b : Schema) → IsProp (a ≡ b)
+schema_once a b = Coded-set the_row.coded a b
+
+pub version_of : (v w : Version) → Store v ≡ Store w → v ≡ w
+version_of v w is = cc
+
+pub not_blank : (v : Version) → Store v ≡ Blank → ⊥
+not_blank v is = absurd (cc)
+
+pub not_other : (v : Version) → Store v ≡ Other → ⊥
+not_other v is = absurd (cc)

@@ -1,0 +1,151 @@
+//! What the whole program says of itself on a fake runtime: the help of each command, and the version.
+use super::programs::answers;
+use std::alloc::Global;
+use test_streams::texts::GAVE;
+
+const HELP: &str = "\
+Admits readers and writers to shared records at several sites, which exchange deltas
+
+Usage: seat_cli [COMMAND]
+
+Commands:
+  join  Joins deltas, one a line, and prints one delta that has all of them
+  play  Simulates several sites: carries out one event a line, and prints one reply a line
+  site  Serves one site over its store: carries out one call a line, and prints one reply a line
+
+Options:
+  -h, --help     Print help
+  -V, --version  Print version
+
+Without arguments it is `join`. It reads standard input and writes standard output.
+
+Exit status:
+  0  every line was carried out, whatever the replies; or help or the version was printed
+  2  the arguments are wrong
+  3  there is no layout, or it has no such site: `layout refused NAME` on standard error
+  4  a line can't be read, or `join` refused it, or the input is above 16 MiB: the output says which
+  5  the store can't be used: `store refused NAME` on standard error; or it failed: a reply was `refused StoreFault`
+  6  out of memory: `memory` on standard error
+  7  reading or writing failed: `io` on standard error
+
+Examples:
+  cat site_0.deltas site_1.deltas | seat_cli join --layout three_sites.toml
+  printf '0 give a 1 1\\n0 send\\n1 take 0\\n1 read a 8\\n' | seat_cli play --tables
+";
+
+const JOIN_HELP: &str = "\
+Joins deltas, one a line, and prints one delta that has all of them
+
+Usage: seat_cli join [--layout FILE]
+
+Options:
+      --layout <FILE>  A TOML file with the sites and records [default: two sites, record a of two seats at site 0]
+  -h, --help           Print help
+
+Each line of the input is a delta, and so is the output:
+  {\"from\":0,\"rows\":[{\"ann\":0,\"fin\":0,\"out\":[2,1],\"r\":0,\"s\":0,\"taken\":0}],\"v\":1}
+Row (r, s) says what site s did at record r: `out` counts the seats that it began with or got back, at its own place,
+and those that it gave to each other site; `taken` the seats that its callers took; `ann` and `fin` the writers that it
+announced and finished. If a line is refused, the output is `line K refused NAME` alone, for the first such line.
+";
+
+const PLAY_HELP: &str = "\
+Simulates several sites: carries out one event a line, and prints one reply a line
+
+Usage: seat_cli play [--tables] [--from M] [--layout FILE]
+
+Options:
+      --tables         After a script that was read to its end, writes a table of seats and one of sessions
+      --from <M>       The first M sites begin with the layout of M sites, the others with all [default: all sites]
+      --layout <FILE>  A TOML file with the sites and records [default: two sites, record a of two seats at site 0]
+  -h, --help           Print help
+
+Each line of the input is an event, with one space between words:
+  I read NAME H      at site I, holder H enters record NAME as a reader
+  I announce NAME H  H announces that it will write
+  I write NAME H     H, who has announced it, enters as the writer, who needs all seats
+  I leave NAME H     H leaves, or withdraws its announcement
+  I give NAME J N    site I gives N of its seats to site J
+  I help NAME        site I gives seats to the site of an announced writer, or its surplus to the next site
+  I send             site I makes a message of all that it knows; messages are numbered from 0
+  I take K           site I merges message K; it may do so again
+  I restart          site I stops, and starts again from what it has stored
+  I grow             site I, which began with the first M sites, starts again with all
+I and J are sites, from 0. H is a holder: any number up to 1,000,000,000,000. Numbers have no leading zero.
+Each line gets one reply, as `admitted`, `sent 0` or `refused NoSeat 0`. A refused event changes nothing, and the script
+goes on. The first line that can't be read ends it, with `line K refused BadWord` and status 4.
+
+M is the number of sites, or a smaller one with every record's home among them; else `layout refused BadGrowth` and
+status 3.
+
+Example:
+  printf '0 give a 1 1\\n0 send\\n1 take 0\\n1 read a 8\\n' | seat_cli play --tables
+";
+
+const SITE_HELP: &str = "\
+Serves one site over its store: carries out one call a line, and prints one reply a line
+
+Usage: seat_cli site --site I --store FILE [--layout FILE]
+
+Options:
+      --site <I>       The number of the site in the layout, from 0
+      --store <FILE>   The file of the site's store, which is made where it is new
+      --layout <FILE>  A TOML file with the sites and records [default: two sites, record a of two seats at site 0]
+  -h, --help           Print help
+
+Each line of the input is a call, with one space between words:
+  read NAME H      holder H enters record NAME as a reader
+  announce NAME H  H announces that it will write
+  write NAME H     H, who has announced it, enters as the writer, who needs all seats
+  leave NAME H     H leaves, or withdraws its announcement
+  give NAME J N    the site gives N of its seats to site J
+  help NAME        the site gives seats to the site of an announced writer, or its surplus to the next site
+  send             the reply is a delta that has all that the site knows
+  take DELTA       the site merges this delta, which is the rest of the line
+J is a site, from 0. H is a holder: any number up to 1,000,000,000,000. Numbers have no leading zero.
+Each line gets one reply, as `admitted` or `refused NoSeat 0`. A refused call changes nothing, and the script goes on.
+The first line that can't be read ends it, with `line K refused BadWord` and status 4.
+
+All input is read before the first line is carried out, and one run answers at most 65,536 calls.
+
+FILE is an SQLite database, which is made if there is none: a mistyped path makes a new site. Each change is committed
+before its reply is printed, and the next run goes on from there. A database that can't be used is refused with
+`store refused NAME` and status 5: that of another site, or of a layout which the given one has not grown from; one with
+other tables of these names; and, as `StoreFault`, one that can't be opened or is in use. While `site` runs, no other
+process can use FILE, `sqlite3` included: another `site` is refused at once, and reads no input. If a change can't be
+committed, the reply is `refused StoreFault`, that to each later call `refused Frozen`, and the status is 5.
+
+Example:
+  printf 'read a 7\\nleave a 7\\n' | seat_cli site --site 0 --store site_0.db
+";
+
+// Arguments, and what goes to standard output.
+static TOLD: [(&[&[u8]], &str); 10] = [
+    (&[b"seat_cli", b"--help"], HELP),
+    (&[b"seat_cli", b"-h"], HELP),
+    (&[b"seat_cli", b"join", b"--help"], JOIN_HELP),
+    (&[b"seat_cli", b"join", b"-h"], JOIN_HELP),
+    (&[b"seat_cli", b"play", b"--help"], PLAY_HELP),
+    (&[b"seat_cli", b"play", b"-h"], PLAY_HELP),
+    (&[b"seat_cli", b"site", b"--help"], SITE_HELP),
+    (&[b"seat_cli", b"site", b"-h"], SITE_HELP),
+    (&[b"seat_cli", b"--version"], "seat_cli 0.1.0\n"),
+    (&[b"seat_cli", b"-V"], "seat_cli 0.1.0\n"),
+];
+
+/// The first row that the program answers otherwise; it reads nothing.
+fn wrongly_told(alloc: Global) -> Option<usize> {
+    let mut at = 0usize;
+    for (arguments, output) in TOLD {
+        if !answers(alloc, arguments, GAVE, (0, output, "", "")) {
+            return Some(at);
+        }
+        at = at.saturating_add(1);
+    }
+    None
+}
+
+#[test]
+fn help_and_the_version_are_printed(rt: HostRuntime) {
+    assert_eq!(rt; wrongly_told(rt.alloc()), None);
+}

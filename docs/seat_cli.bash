@@ -1,0 +1,14 @@
+# Completions of seat_cli for bash, made by checks/manual.py.
+_seat_cli() {
+    local word=${COMP_WORDS[COMP_CWORD]} before=${COMP_WORDS[COMP_CWORD-1]}
+    case $before in
+        --layout | --store) COMPREPLY=($(compgen -f -- "$word")); return ;;
+    esac
+    case ${COMP_WORDS[1]} in
+        join) COMPREPLY=($(compgen -W "--help --layout" -- "$word")) ;;
+        play) COMPREPLY=($(compgen -W "--from --help --layout --tables" -- "$word")) ;;
+        site) COMPREPLY=($(compgen -W "--help --layout --site --store" -- "$word")) ;;
+        *) COMPREPLY=($(compgen -W "join play site --help --version" -- "$word")) ;;
+    esac
+}
+complete -F _seat_cli seat_cli
