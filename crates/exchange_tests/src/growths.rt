@@ -1,12 +1,13 @@
-//! Three sites with all their links, of which any one allocation may be refused: each turn that meets the refusal is
-//! counted, and every other text is merged.
-use crate::nets::{THREE, jobs_of, port_to, run_sites};
-use crate::sites::Outcome;
+//! Three sites with all their links, of which any one allocation may be refused. A turn that meets the refusal is counted.
+//! For each link, the turns that are counted and the texts that are merged are as many as the turns of a runner.
+use crate::nets::{THREE, jobs_of, port_to};
+use crate::sites::{Job, Outcome, run_site};
 use admission_core::{Ask, Call};
 use exchange_threads::Report;
 use std::alloc::Global;
 use std::sync::Wait;
-use std::thread::Threads;
+use std::thread;
+use std::thread::{JoinHandle, Threads};
 
 const TURNS: u64 = 8;
 
@@ -30,8 +31,10 @@ fn merges_of(ended: &Outcome, pass: u16) -> Option<u64> {
     Some(merges)
 }
 
-// The turns without memory of both ends of a link: those of the outbox are those that sent no text, and those of the inbox
-// the texts that were sent and not merged.
+// The turns without memory of both ends of a link, if the reports are right. With these turns, the texts that were merged
+// are as many as the turns. Each text that was taken was merged, or its turn is counted. The outbox sent a text in each turn
+// that it doesn't count, but perhaps for the last: an inbox that found no memory for a name skipped that turn, so it may
+// end before the last text is sent. That text finds the link closed, and is lost.
 fn lacks_of(from: &Outcome, to: &Outcome, (sends, hears): (u16, u16)) -> Option<u64> {
     let Report::Sent(told) = from.reports.as_slice().get(usize::from(sends))? else {
         return None;
@@ -39,24 +42,29 @@ fn lacks_of(from: &Outcome, to: &Outcome, (sends, hears): (u16, u16)) -> Option<
     let Report::Got(heard) = to.reports.as_slice().get(usize::from(hears))? else {
         return None;
     };
-    let merged = merges_of(to, hears)?;
-    let all_sent = told.turns == TURNS && told.sent.saturating_add(told.memory) == TURNS;
-    let all_heard = merged.saturating_add(heard.memory) == told.sent;
-    if all_sent && all_heard && heard.taken <= told.sent && heard.refused.is_empty() {
-        Some(told.memory.saturating_add(heard.memory))
+    let merges = merges_of(to, hears)?;
+    let lacks = told.memory.saturating_add(heard.memory);
+    let all_merged = told.turns == TURNS && merges.saturating_add(lacks) == TURNS;
+    let all_sent = told.sent.saturating_add(told.memory) <= TURNS
+        && told.sent.saturating_add(lacks) >= TURNS;
+    let all_taken = heard.taken <= told.sent
+        && heard.taken >= merges
+        && heard.taken <= merges.saturating_add(heard.memory);
+    if all_merged && all_sent && all_taken && heard.refused.is_empty() {
+        Some(lacks)
     } else {
         None
     }
 }
 
-// The turns without memory of all runners, if each report tells of them.
-fn all_lacks(all: &[Option<Outcome>]) -> Option<u64> {
+// The turns without memory of all runners, if all reports fit.
+fn all_lacks(all: &[Outcome]) -> Option<u64> {
     let mut lacks = 0u64;
     for from in 0..3u16 {
         for to in 0..3u16 {
             if from != to {
-                let sender = all.get(usize::from(from))?.as_ref()?;
-                let hearer = all.get(usize::from(to))?.as_ref()?;
+                let sender = all.get(usize::from(from))?;
+                let hearer = all.get(usize::from(to))?;
                 let ports = (port_to(from, to), port_from(from, to));
                 lacks = lacks.saturating_add(lacks_of(sender, hearer, ports)?);
             }
@@ -65,29 +73,57 @@ fn all_lacks(all: &[Option<Outcome>]) -> Option<u64> {
     Some(lacks)
 }
 
-// The sites' outcomes, where there was memory to open and to close them all.
-fn opened<R: Threads + Wait + Sync>(rt: &R, alloc: Global) -> Option<Vec<Option<Outcome>>> {
+// Starts each site on a thread of its own, up to the first thread that can't be started. Then the ends of the sites that
+// are left are dropped, so no site that runs waits for them. `thread::map_vec` would run such a site on the thread of
+// another one, after it, and that one might wait for it for ever.
+fn started<R>(rt: R, alloc: Global, jobs: Vec<Job>) -> Option<Vec<JoinHandle<Option<Outcome>>>>
+where
+    R: Threads + Wait + Sync + Send + Copy + 'static,
+{
+    let mut threads = Vec::with_capacity(alloc, jobs.len()).ok()?;
+    for job in jobs {
+        let Ok(thread) = thread::spawn(&rt, move || run_site(&rt, alloc, job)) else {
+            break;
+        };
+        let _ = threads.push(thread);
+    }
+    Some(threads)
+}
+
+// The sites' outcomes, where there was memory to start, to open and to close them all.
+fn ended<R>(rt: R, alloc: Global) -> Option<Vec<Outcome>>
+where
+    R: Threads + Wait + Sync + Send + Copy + 'static,
+{
     let mut jobs = jobs_of(alloc, THREE, TURNS, 0)?;
     jobs.get_mut(1)?.before = Some(Ask::Announce { r: 0, h: 5 });
-    let all = run_sites(rt, alloc, jobs)?;
-    if all.as_slice().iter().all(|ended| ended.is_some()) {
-        Some(all)
-    } else {
-        None
+    let mut all = Vec::with_capacity(alloc, jobs.len()).ok()?;
+    for thread in started(rt, alloc, jobs)? {
+        if let Some(outcome) = thread.join(&rt) {
+            let _ = all.push(outcome);
+        }
     }
+    if all.len() == 3 { Some(all) } else { None }
 }
 
-// A run with at most one refusal; where it met the opening or the closing of a site, another one, which meets none.
-fn counted<R: Threads + Wait + Sync>(rt: &R, alloc: Global) -> Option<u64> {
-    match opened(rt, alloc) {
+// The turns without memory of a run. Where that run met the refusal before or after the turns, another run, which meets
+// none, has no such turn.
+fn counted<R>(rt: R, alloc: Global) -> Option<u64>
+where
+    R: Threads + Wait + Sync + Send + Copy + 'static,
+{
+    match ended(rt, alloc) {
         Some(all) => all_lacks(all.as_slice()),
-        None => all_lacks(opened(rt, alloc)?.as_slice()),
+        None => match all_lacks(ended(rt, alloc)?.as_slice())? {
+            0 => Some(0),
+            _ => None,
+        },
     }
 }
 
-// At most one allocation is refused, so that at most one turn is counted.
+// At most one allocation is refused, so at most one turn is counted.
 #[test]
 fn refused_growths_are_counted_turn_by_turn(rt: HostRuntime) {
-    let lacks = counted(&rt, rt.alloc());
+    let lacks = counted(rt, rt.alloc());
     assert!(rt; matches!(lacks, Some(0 | 1)), "{lacks:?}");
 }

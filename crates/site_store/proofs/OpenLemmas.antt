@@ -1,9 +1,10 @@
 -- What the opening of a store comes to.
 use Rattle.std.proofs.Common.{◌≡◌, ◌⊎◌, ℕ, inl, inr, refl, sym, ap, subst, List, ◌∙◌, decimal, Option, Some, None, Result, Ok, Err, IfOk}
 use Rattle.std.proofs.lemmas.Option.{none-some, same_Some}
-use Rattle.std.proofs.Math.Logic.{∥∥₁_map}
+use Rattle.std.proofs.Math.Logic.{∥∥₁_elim, ∥∥₁_map}
 use Rattle.sqlite_trees.specs.Tree.{Trees}
 use Rattle.sqlite_trees.specs.declared.store.Store.{Ghosts}
+use Rattle.sqlite.specs.Effect.{Database}
 use Rattle.sqlite.specs.State.{HasCleanDisk}
 use Rattle.sqlite.specs.Held.{Held, state}
 use Rattle.merge_core.specs.Layout.{LayoutState}
@@ -14,7 +15,7 @@ use Rattle.store_schema.specs.declared.Version.{Version}
 use Rattle.store_schema.specs.declared.Version.TheVariants.{Second}
 use Rattle.store_rows.specs.Rows.{Stored}
 use Rattle.store_rows.specs.Changes.{renewed}
-use Rattle.store_rows.specs.Holding.{Keeps, KeepsEither, KeepsNothing, Leaves, Holds, HoldsNothing}
+use Rattle.store_rows.specs.Holding.{Keeps, KeepsBeside, KeepsEither, KeepsNothing, Leaves, Holds, HoldsNothing}
 use Rattle.store_tables.specs.Transacts.{made}
 use Rattle.store_content.specs.Content.{IsContent}
 use Rattle.store_content.specs.declared.index.Index.{Index}
@@ -41,14 +42,14 @@ as_renewed line it second same =
 -- a new store has the content of a site
 pub made_content : (site line : List ℕ) → IsContent (made site line)
 made_content site line = record {
-  rows = record { cells_rise = _; slots = _; notices_rise = _; notices = _; sessions_rise = _; places = _ };
+  rows = record { cells_rise = _; notices_rise = _; notices = _; sessions_rise = _; places = _ };
   once = _;
 }
 
 -- and what is renewed keeps it
 pub renewed_content : (line : List ℕ) (it : Stored) → IsContent it → IsContent (renewed line it)
 renewed_content line it h = record {
-  rows = record { cells_rise = h.rows.cells_rise; slots = h.rows.slots; notices_rise = h.rows.notices_rise; notices = h.rows.notices; sessions_rise = h.rows.sessions_rise; places = h.rows.places };
+  rows = record { cells_rise = h.rows.cells_rise; notices_rise = h.rows.notices_rise; notices = h.rows.notices; sessions_rise = h.rows.sessions_rise; places = h.rows.places };
   once = h.once;
 }
 
@@ -83,6 +84,13 @@ module _ {S : Type 0} (g : Ghosts S) (c : Held S) where
   refused layout i it tables.BadStore bad keeps = record { cause = bad refl; left = keeps }
   refused layout i it tables.Memory bad keeps = record { cause = λ _. _; left = keeps }
   refused layout i it tables.StoreFault bad keeps = record { cause = λ _. _; left = leaves_first g c (Holds it) (Holds (renewed (line_of layout) it)) keeps }
+
+  -- a refused renewal leaves what was kept, or after a fault perhaps what was to come
+  pub refused_renewal : (layout : LayoutState) (i : ℕ) (it : Stored) (e : TableError) → (e ≡ tables.BadStore → ⊥) → (e ≡ tables.Memory → Keeps g c it)
+      → (e ≡ tables.StoreFault → KeepsEither g c it (renewed (line_of layout) it)) → IsRefused g layout i it c (open_error e)
+  refused_renewal layout i it tables.BadStore good memory fault = absurd (good refl)
+  refused_renewal layout i it tables.Memory good memory fault = record { cause = λ _. _; left = memory refl }
+  refused_renewal layout i it tables.StoreFault good memory fault = record { cause = λ _. _; left = fault refl }
 
   pub refused_blank : (layout : LayoutState) (i : ℕ) (e : TableError) → (e ≡ tables.BadStore → HasCleanDisk (state g c) → ⊥) → KeepsNothing g c → IsRefusedBlank g layout i c (open_error e)
   refused_blank layout i tables.BadStore bad keeps = record { cause = bad refl; left = keeps }
@@ -133,3 +141,22 @@ module _ {S : Type 0} (g : Ghosts S) (c : Held S) where
       | inl x ↦ inl (first x.0 (λ clean. same_Some content a (sym is ∙ x.1 clean)))
       | inr y ↦ inr (second y.0 (λ clean. same_Some content b (sym is ∙ y.1 clean)))
     ])
+
+  -- the other tables stay, whichever of two contents was kept
+  module _ (a b : Stored) (P Q C : Type 0) (others : Database) (early : HasCleanDisk (state g c) → C) where
+    pub beside_none : (t : Option Stored) → t ≡ None → ∥ (P × (C → t ≡ Some a)) ⊎ (Q × (C → t ≡ Some b)) ∥₁ → KeepsBeside g c others
+    beside_none t none found = record {
+      left = λ clean db left. ∥∥₁_elim found squash₁ (λ f. elim f [
+        | inl x ↦ absurd (none-some a (sym none ∙ x.1 (early clean)))
+        | inr y ↦ absurd (none-some b (sym none ∙ y.1 (early clean)))
+      ]);
+    }
+
+    pub beside_some : (t : Option Stored) (content : Stored) → t ≡ Some content → (P → (C → content ≡ a) → KeepsBeside g c others) → (Q → (C → content ≡ b) → KeepsBeside g c others)
+        → ∥ (P × (C → t ≡ Some a)) ⊎ (Q × (C → t ≡ Some b)) ∥₁ → KeepsBeside g c others
+    beside_some t content is first second found = record {
+      left = λ clean db left. ∥∥₁_elim found squash₁ (λ f. elim f [
+        | inl x ↦ (first x.0 (λ honest. same_Some content a (sym is ∙ x.1 honest))).left clean db left
+        | inr y ↦ (second y.0 (λ honest. same_Some content b (sym is ∙ y.1 honest))).left clean db left
+      ]);
+    }

@@ -1,5 +1,5 @@
 -- What an opening makes of a content that is the site's own, and of a line that is the layout's.
-use Rattle.std.proofs.Common.{◌≡◌, ◌≢◌, ◌⊎◌, ◌<◌, ◌≤◌, ℕ, inl, inr, refl, sym, subst, List, [], ◌++◌, ◌∙◌, decimal, Option, Some, None, Result, Ok, Err, IfErr, arith}
+use Rattle.std.proofs.Common.{◌≡◌, ◌≢◌, ◌⊎◌, ◌<◌, ◌≤◌, ℕ, inl, inr, refl, sym, subst, List, [], ◌∙◌, decimal, Option, Some, None, Result, Ok, Err, IfErr, arith}
 use Rattle.std.proofs.lemmas.Option.{none-some, same_Some}
 use Rattle.std.proofs.lemmas.List.{append_cancel_right}
 use Rattle.std.proofs.lemmas.List.Elements.{All-from_recursion}
@@ -7,8 +7,7 @@ use Rattle.std.proofs.lemmas.Fmt.{decimal_injective}
 use Rattle.std.proofs.Math.Logic.{∥∥₁_elim, ∥∥₁_map, ∥∥₁_prop}
 use Rattle.sqlite_trees.specs.Tree.{Trees}
 use Rattle.sqlite_trees.specs.declared.store.Store.{Ghosts}
-use Rattle.sqlite.specs.State.{HasCleanDisk}
-use Rattle.sqlite.specs.Held.{Held, state}
+use Rattle.sqlite.specs.Held.{Held}
 use Rattle.merge_core.specs.Layout.{LayoutState}
 use Rattle.layout_line.specs.declared.Line.{Line}
 use Rattle.layout_line.specs.declared.Line.TheVariants as lines
@@ -16,7 +15,7 @@ use Rattle.layout_line.specs.Line.{IsLine, line_of, records_text}
 use Rattle.store_rows.specs.Rows.{Stored}
 use Rattle.store_rows.specs.Holding.{Keeps, KeepsEither, KeepsNothing, KeepsNothingOr, Leaves, Holds, HoldsNothing}
 use Rattle.store_tables.specs.Transacts.{made}
-use Rattle.store_tables.specs.Reads.{IsCellInRange, IsSessionInRange, IsNoticeInRange, IsInRange, KeepsAny}
+use Rattle.store_tables.specs.Reads.{IsCellInRange, IsSessionInRange, IsNoticeInRange, KeepsAny}
 use Rattle.store_tables.specs.declared.error.TableError.{TableError}
 use Rattle.store_tables.specs.declared.error.TableError.TheVariants as tables
 use Rattle.store_tables.proofs.LookLemmas.{found_once}

@@ -3,7 +3,7 @@ ghost use Rattle.std.specs.Prelude.{◌≡◌, ◌≢◌, ◌⊎◌, ◌↔◌, 
 ghost use Rattle.sqlite.specs.State.{HasCleanDisk};
 ghost use Rattle.sqlite.specs.Held.{state};
 ghost use Rattle.layout_line.specs.Line.{line_of};
-ghost use Rattle.store_rows.specs.Holding.{Keeps, KeepsEither, KeepsNothing, KeepsNothingOr};
+ghost use Rattle.store_rows.specs.Holding.{Keeps, KeepsBeside, KeepsEither, KeepsNothing, KeepsNothingOr};
 ghost use Rattle.store_tables.specs.Kept.{has_failed, connection_of, CommitsNothing, IsRefusal};
 ghost use Rattle.store_tables.specs.Transacts.{made};
 ghost use Rattle.site_store.specs.declared.error.OpenError.TheVariants.{StoreFault, Memory};
@@ -81,6 +81,8 @@ fn open_found<S: Alter>(
     requires { line.now ≡ line_of layout.now }
     ensures ready { (it : _) → Keeps S.Store (connection_of tables.old) it → (HasCleanDisk (state S.Store (connection_of tables.old)) → content.now ≡ it)
         → Readies S.Store layout.now site it (connection_of tables.new) result }
+    ensures beside { (it : _) → (others : _) → Keeps S.Store (connection_of tables.old) it → (HasCleanDisk (state S.Store (connection_of tables.old)) → content.now ≡ it)
+        → KeepsBeside S.Store (connection_of tables.old) others → KeepsBeside S.Store (connection_of tables.new) others }
     ensures honest { HasCleanDisk (state S.Store (connection_of tables.new)) → HasCleanDisk (state S.Store (connection_of tables.old)) }
     ensures sound { has_failed tables.old ≡ false → IsOk result → has_failed tables.new ≡ false }
     ensures own { IsOwn layout.now site content.now → IfErr result IsDeviceCause }
@@ -133,6 +135,8 @@ pub(crate) fn prepare<S: Alter>(
         → IfErr result (λ e. HasCleanDisk (state S.Store (connection_of tables.new)) → IsDeviceCause e) }
     ensures own_or { KeepsNothingOr S.Store (connection_of tables.old) (made (decimal site) (line_of layout.now))
         → IfErr result (λ e. HasCleanDisk (state S.Store (connection_of tables.new)) → IsDeviceCause e) }
+    ensures beside { (a b : _) → (others : _) → KeepsEither S.Store (connection_of tables.old) a b → KeepsBeside S.Store (connection_of tables.old) others
+        → KeepsBeside S.Store (connection_of tables.new) others }
     ensures fault { has_failed tables.old ≡ false → (it : _) → Keeps S.Store (connection_of tables.old) it
         → IfErr result (λ e. e ≡ StoreFault → HasCleanDisk (state S.Store (connection_of tables.new)) → IsRefusal tables.old tables.new ⊎ IsDue layout.now site it) }
     ensures judged { IfErr result (λ e. e ≢ StoreFault → e ≢ Memory → CommitsNothing tables.old tables.new) }

@@ -1,7 +1,10 @@
 //! A crash of a keeper's files, and the keeper opened again.
 ghost use Rattle.std.specs.Prelude.{◌≡◌, ◌⊎◌, IfSome};
 ghost use Rattle.admission_core.specs.Kept.{DurableState};
-ghost use Rattle.site_store.specs.Sql.{KeepsPart, KeepsEitherPart, is_honest, layout_of, site_of};
+ghost use Rattle.sqlite.specs.Effect.{Database};
+ghost use Rattle.sqlite.specs.Files.{over_files};
+ghost use Rattle.store_rows.specs.Holding.{KeepsBeside};
+ghost use Rattle.site_store.specs.Sql.{KeepsPart, KeepsEitherPart, below, is_honest, layout_of, site_of};
 
 use crate::sql::SqlKeeper;
 use sqlite::{FileStore, Options};
@@ -10,7 +13,7 @@ use std::alloc::Global;
 
 /// Gives up a keeper without closing it, lets both files of its store crash, and opens them again, for the same site and
 /// layout: what it kept is what the new one keeps, and where it was not known which of two durable parts that is, the
-/// new one keeps one of them. `None` where the files do not open, or the store is refused.
+/// new one keeps one of them. Tables of other names, which were made behind those of the store, keep their rows. `None` where the files do not open, or the store is refused.
 pub fn restart<D: Crash + Drop>(
     alloc: Global,
     keeper: SqlKeeper<FileStore<D>>,
@@ -19,7 +22,11 @@ pub fn restart<D: Crash + Drop>(
     ensures layout { IfSome result (λ again. layout_of again ≡ layout_of keeper) }
     ensures site { IfSome result (λ again. site_of again ≡ site_of keeper) }
     ensures kept { (d : DurableState) → KeepsPart keeper d → IfSome result (λ again. KeepsPart again d) }
+    ensures beside { (d : DurableState) → (others : Database) → KeepsPart keeper d → KeepsBeside over_files (below keeper) others
+        → IfSome result (λ again. KeepsBeside over_files (below again) others) }
     ensures either { (d e : DurableState) → KeepsEitherPart keeper d e → IfSome result (λ again. is_honest again → ∥ KeepsPart again d ⊎ KeepsPart again e ∥₁) }
+    ensures either_beside { (d e : DurableState) → (others : Database) → KeepsEitherPart keeper d e → KeepsBeside over_files (below keeper) others
+        → IfSome result (λ again. KeepsBeside over_files (below again) others) }
 {
     let (tables, layout, site) = keeper.into_parts();
     let Ok(again) = store_tables::restart::restart(alloc, tables, options) else {

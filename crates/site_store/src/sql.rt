@@ -1,5 +1,6 @@
 //! A keeper over an SQLite database.
 ghost use Rattle.std.specs.Prelude.{◌≡◌, ◌≢◌, ◌↔◌, ℕ, ◌<◌, ◌^◌, All, Err, false, IsTrue, OnOk};
+ghost use Rattle.sqlite.specs.Effect.{Database};
 ghost use Rattle.sqlite.specs.State.{HasCleanDisk};
 ghost use Rattle.sqlite.specs.Held.{state};
 ghost use Rattle.sqlite.specs.declared.connection.Connection.{Connection};
@@ -7,7 +8,7 @@ ghost use Rattle.merge_core.specs.Layout.{LayoutState};
 ghost use Rattle.store_rows.specs.Rows.{Stored};
 ghost use Rattle.store_rows.specs.Steps.{IsStorable};
 ghost use Rattle.store_tables.specs.Kept.{has_failed, connection_of};
-ghost use Rattle.store_rows.specs.Holding.{Keeps, KeepsEither};
+ghost use Rattle.store_rows.specs.Holding.{Keeps, KeepsBeside, KeepsEither};
 ghost use Rattle.store_tables.specs.Transacts.{Takes};
 ghost use Rattle.store_tables.specs.declared.error.TableError.TheVariants.{BadStore, Memory as NoMemory, StoreFault as NoStore};
 ghost use Rattle.store_content.specs.Plan.{IsTellable, LacksPlace, after};
@@ -64,6 +65,8 @@ fn put<S: Alter>(tables: &mut Tables<S>, rows: &Rows) -> Result<(), TableError>
         → result ≡ Err NoMemory → Keeps S.Store (connection_of tables.new) it }
     ensures either { (it : Stored) → Takes rows.now.edit it → Keeps S.Store (connection_of tables.old) it
         → result ≡ Err NoStore → KeepsEither S.Store (connection_of tables.new) it (after rows.now it) }
+    ensures beside { (it : Stored) → (others : Database) → Takes rows.now.edit it → Keeps S.Store (connection_of tables.old) it
+        → KeepsBeside S.Store (connection_of tables.old) others → KeepsBeside S.Store (connection_of tables.new) others }
     ensures honest { HasCleanDisk (state S.Store (connection_of tables.new)) → HasCleanDisk (state S.Store (connection_of tables.old)) }
     ensures fault { result ≡ Err NoStore → IsTrue (has_failed tables.new) }
     ensures sound { result ≢ Err NoStore → has_failed tables.new ≡ false }
@@ -101,6 +104,8 @@ fn commit_rows<S: Alter>(
         → result ≡ Err StoreFault → ChangesEither S.Store layout i change.now it (connection_of tables.new) }
     ensures full { (layout : LayoutState) (i : ℕ) (it : Stored) → Stores S.Store layout i (connection_of tables.old) index.old it
         → LacksPlace change.now.session it → result ≡ Err StoreFault }
+    ensures beside { (layout : LayoutState) (i : ℕ) (it : Stored) (others : Database) → Stores S.Store layout i (connection_of tables.old) index.old it
+        → KeepsBeside S.Store (connection_of tables.old) others → KeepsBeside S.Store (connection_of tables.new) others }
     ensures honest { HasCleanDisk (state S.Store (connection_of tables.new)) → HasCleanDisk (state S.Store (connection_of tables.old)) }
     ensures told { result ≡ Err StoreFault → IsTrue (has_failed tables.new) }
     ensures still { result ≢ Err StoreFault → has_failed tables.new ≡ false }
@@ -153,7 +158,8 @@ impl<S: Alter> SqlKeeper<S> {
     ghost use Rattle.durable_keeper.specs.Keeping.{IsChange, changed, nothing_kept};
     ghost use Rattle.layout_line.specs.Line.{line_of};
     ghost use Rattle.store_rows.specs.Rows.{Stored};
-    ghost use Rattle.store_rows.specs.Holding.{Keeps, KeepsEither, KeepsNothing, KeepsNothingOr};
+    ghost use Rattle.store_rows.specs.Holding.{Keeps, KeepsBeside, KeepsEither, KeepsNothing, KeepsNothingOr};
+    ghost use Rattle.sqlite.specs.Effect.{Database};
     ghost use Rattle.store_tables.specs.Transacts.{made};
     ghost use Rattle.store_content.specs.Plan.{LacksPlace, after_change};
     ghost use Rattle.durable_keeper.specs.declared.error.KeeperError.TheVariants.{Memory, StoreFault};
@@ -164,8 +170,8 @@ impl<S: Alter> SqlKeeper<S> {
     ///
     /// Where the database has none of the tables, they are made in one transaction. A store of the first version gets
     /// the second, and one whose layout is an earlier one of this layout's growth gets this layout's line, in one
-    /// transaction where both are due. Everything is judged before. A refusal hands the connection back. Linear in
-    /// what is stored.
+    /// transaction where both are due. Everything is judged before. A refusal hands the connection back. Tables of other
+    /// names, which were made behind those of a store, keep their rows. Linear in what is stored.
     pub fn open(
         alloc: Global,
         connection: Connection<S>,
@@ -184,6 +190,8 @@ impl<S: Alter> SqlKeeper<S> {
         ensures judged { IfErr result (IsJudgedFirst S.Store connection) }
         ensures current { (it : Stored) → IsCurrent layout.now it → Keeps S.Store connection it → HasCleanDisk (state S.Store (left_by result))
             → CommitsNothing S.Store connection (left_by result) }
+        ensures beside { (a b : Stored) → (others : Database) → KeepsEither S.Store connection a b → KeepsBeside S.Store connection others
+            → KeepsBeside S.Store (left_by result) others }
         ensures honest { IfOk result (λ k. is_honest k → HasCleanDisk (state S.Store connection)) }
     {
         let Ok(copy) = layout.try_copy(alloc) else {
@@ -204,7 +212,7 @@ impl<S: Alter> SqlKeeper<S> {
 
     /// Makes a change of what is kept, as `commit` of [`Keeper`] does, which calls this. The content is known after it: a
     /// session that comes has the place after the greatest, and one that is there keeps its own. Where no place is left,
-    /// the answer is `StoreFault`.
+    /// the answer is `StoreFault`. Tables of other names, which were made behind those of the store, keep their rows.
     pub fn make_change(&mut self, change: &Change) -> Result<(), KeeperError>
         requires { IsChange (layout_of self.old) (site_of self.old) change.now }
         ensures content { (it : Stored) → KeepsContent self.old it → OnOk result (KeepsContent self.new (after_change change.now it)) }
@@ -213,6 +221,7 @@ impl<S: Alter> SqlKeeper<S> {
         ensures ok { (d : DurableState) → KeepsPart self.old d → OnOk result (KeepsPart self.new (changed change.now d)) }
         ensures memory { (d : DurableState) → KeepsPart self.old d → result ≡ Err Memory → KeepsPart self.new d }
         ensures fault { (d : DurableState) → KeepsPart self.old d → result ≡ Err StoreFault → KeepsEitherPart self.new d (changed change.now d) }
+        ensures beside { (d : DurableState) → (others : Database) → KeepsPart self.old d → KeepsBeside S.Store (below self.old) others → KeepsBeside S.Store (below self.new) others }
         ensures honest { is_honest self.new → is_honest self.old }
         ensures told { result ≡ Err StoreFault → faults_of self.new ≡ 1 }
         ensures sound { result ≢ Err StoreFault → faults_of self.new ≡ 0 }

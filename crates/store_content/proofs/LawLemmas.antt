@@ -7,10 +7,10 @@ use Rattle.store_rows.specs.declared.content.StoredNotice.{StoredNotice}
 use Rattle.store_rows.specs.declared.content.SessionEdit.{SessionEdit}
 use Rattle.store_rows.specs.Rows.{Stored}
 use Rattle.store_content.specs.Content.{IsContent, IsNotice}
-use Rattle.store_content.specs.Plan.{IsCell, IsPlan, IsTellable, Makes, RowsState, cells_of, edit_of, notices_of, rows_for}
+use Rattle.store_content.specs.Plan.{IsCell, IsPlan, IsTellable, Makes, RowsState, cells_of, notices_of, rows_for}
 use Rattle.store_content.proofs.DurableLemmas.{part}
 use Rattle.store_content.proofs.PutLemmas.{all_weaker, cells_small, each_by, each_of}
-use Rattle.store_content.proofs.SlotLaws.{cells_law, notices_are, put_notices_are, put_notices_rise, put_table_below, put_table_rises}
+use Rattle.store_content.proofs.SlotLaws.{cells_law, notices_are, put_notices_are, put_notices_rise, put_table_rises}
 use Rattle.store_content.proofs.SessionLaws.{AreSessions, edit_is, edit_storable, place_free, sessions_law}
 
 value_fits : (x : DurableCell) → IsCell x → x.value < 2 ^ 63
@@ -27,7 +27,6 @@ makes_for c it some is tell plan =
       content = record {
         rows = record {
           cells_rise = put_table_rises c.cells it is tell.rising all;
-          slots = put_table_below c.cells it is tell.rising all;
           notices_rise = put_notices_rise c.cells it is tell.rising all;
           notices = put_notices_are c.cells it is tell.rising all;
           sessions_rise = edit.rising;

@@ -11,3 +11,5 @@ pub mod SlotLaws
 pub mod SessionLaws
 pub mod LawLemmas
 pub mod TellableLemmas
+pub mod TableLemmas
+pub mod MisplacedLemmas

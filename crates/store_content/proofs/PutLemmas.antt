@@ -1,5 +1,5 @@
 -- The table of counters after those of a change were put.
-use Rattle.std.proofs.Common.{◌≡◌, inl, inr, ℕ, zero, suc, ◌<◌, ◌≤◌, Bool, true, false, nat_lt, cond, List, [], ◌∷◌, map, filter, None, IsTrue, refl, ap, subst, ◌∙◌, arith}
+use Rattle.std.proofs.Common.{◌≡◌, inl, inr, ℕ, zero, suc, ◌<◌, Bool, true, false, nat_lt, cond, List, [], ◌∷◌, map, filter, None, IsTrue, refl, ap, subst, ◌∙◌, arith}
 use Rattle.std.specs.List.{All, AllByRecursion}
 use Rattle.std.proofs.lemmas.Bool.{cases_Bool}
 use Rattle.std.proofs.lemmas.Bool.Decides.{nat_tests}
@@ -103,7 +103,7 @@ all_low P (c ∷ cs) all = elim (cases_Bool (nat_lt c.slot 300)) [
   | inr e ↦ rw e (all_low P cs all.1)
 ]
 
-low_rises : (cs : List DurableCell) → AreRising cs → AreRising (low cs)
+pub low_rises : (cs : List DurableCell) → AreRising cs → AreRising (low cs)
 low_rises [] up = tt
 low_rises (c ∷ cs) up = elim (cases_Bool (nat_lt c.slot 300)) [
   | inl e ↦ rw e (all_low (λ d. IsTrue (is_before c d)) cs up.0, low_rises cs up.1)
@@ -131,7 +131,7 @@ stored_none P (c ∷ cs) r slot all never = elim (cases_Bool (is_at r slot c)) [
   | inr e ↦ rw e (stored_none P cs r slot all.1 never)
 ]
 
-low_below : (cs : List DurableCell) → AllByRecursion (λ c. c.slot < 300) (low cs)
+pub low_below : (cs : List DurableCell) → AllByRecursion (λ c. c.slot < 300) (low cs)
 low_below [] = tt
 low_below (c ∷ cs) = elim (cases_Bool (nat_lt c.slot 300)) [
   | inl e ↦ let small : c.slot < 300 = grind (arith, nat_tests) in rw (low_push c cs true e) (small, low_below cs)
@@ -152,16 +152,9 @@ cells_small n (c ∷ cs) all = elim (cases_Bool (nat_lt c.slot 300)) [
   | inr e ↦ rw e (cells_small n cs all.1)
 ]
 
-kept_below : (cs : List StoredCell) → AllByRecursion (λ c. c.slot < 300) cs → AllByRecursion (λ c. c.slot < 300) (map durable_cell cs)
-kept_below [] all = tt
-kept_below (c ∷ cs) all = (all.0, kept_below cs all.1)
-
--- the table after the counters of a change were put, at a slot below 300 and at another one
+-- the table after the counters of a change were put, at a slot below 300
 pub table_low : (cs : List DurableCell) (ds : List StoredCell) (r slot : ℕ) → AreRising cs → nat_lt slot 300 ≡ true
     → stored_at (map durable_cell (put_all cell_before (cells_of cs) ds)) r slot ≡ or_else (stored_at cs r slot) (stored_at (map durable_cell ds) r slot)
 table_low cs ds r slot up h =
     ap (λ l. stored_at l r slot) (durable_puts (cells_of cs) ds ∙ ap (λ l. in_turn l (map durable_cell ds)) (low_cells cs))
     ∙ stored_in_turn (low cs) (map durable_cell ds) r slot (low_rises cs up) ∙ ap (λ o. or_else o (stored_at (map durable_cell ds) r slot)) (stored_low cs r slot h)
-
-pub kept_high : (ds : List StoredCell) (r slot : ℕ) → AllByRecursion (λ c. c.slot < 300) ds → 300 ≤ slot → stored_at (map durable_cell ds) r slot ≡ None
-kept_high ds r slot all high = stored_none (λ s. s < 300) (map durable_cell ds) r slot (kept_below ds all) (λ small. absurd (omega arith))

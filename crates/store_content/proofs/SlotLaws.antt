@@ -1,5 +1,5 @@
 -- The counters of a content after the rows of a change were put.
-use Rattle.std.proofs.Common.{◌≡◌, inl, inr, ℕ, ◌+◌, ◌-◌, ◌<◌, ◌≤◌, ◌^◌, Bool, true, false, ◌==◌, ◌&&◌, not, nat_lt, List, [], ◌∷◌, ◌++◌, map, Option, Some, None, unwrap_or, refl, sym, ap, ap₂, subst, ◌∙◌, arith}
+use Rattle.std.proofs.Common.{◌≡◌, inl, inr, ℕ, ◌+◌, ◌-◌, ◌<◌, ◌≤◌, ◌^◌, Bool, true, false, ◌==◌, ◌&&◌, not, nat_lt, List, [], ◌∷◌, ◌++◌, Option, Some, None, unwrap_or, refl, sym, ap, ap₂, subst, ◌∙◌, arith}
 use Rattle.std.specs.List.{AllByRecursion}
 use Rattle.std.proofs.lemmas.Bool.{cases_Bool, cases_lt, and_parts}
 use Rattle.std.proofs.lemmas.Bool.Decides.{nat_tests}
@@ -11,13 +11,14 @@ use Rattle.store_rows.specs.declared.content.StoredNotice.{StoredNotice}
 use Rattle.store_rows.specs.Rows.{Stored, cell_before, notice_before}
 use Rattle.store_rows.specs.Sorted.{IsRising, put_all}
 use Rattle.store_rows.proofs.ContentLemmas.{cells_ordered, notices_ordered}
-use Rattle.store_content.specs.Content.{IsContent, IsNotice, announced_by, announced_cells, durable_cell, durable_cells, finished_by, finished_cells, notice_in}
+use Rattle.store_content.specs.Content.{IsContent, IsNotice, announced_by, announced_cells, durable_cells, finished_by, finished_cells, notice_in, table_cells}
 use Rattle.durable_keeper.specs.Keeping.{most_kept}
 use Rattle.store_content.specs.Plan.{IsCell, IsSlot, begins_row, cells_of, notices_of, site_at}
 use Rattle.durable_keeper.proofs.CellLists.{is_at, one_rising, or_else, or_else_none, puts_rise, stored_append, stored_puts}
-use Rattle.store_content.proofs.PutLemmas.{all_put_all, cells_below, kept_high, put_all_rises, stored_none, table_low}
+use Rattle.store_content.proofs.PutLemmas.{all_put_all, cells_below, put_all_rises, stored_none, table_low}
+use Rattle.store_content.proofs.TableLemmas.{misplaced_puts, or_else_more, stored_misplaced, stored_placed, table_rises}
 use Rattle.store_content.proofs.RowLemmas.{has_row, none_announced, none_finished, row_found, row_of, rows_of}
-use Rattle.store_content.proofs.ToldLemmas.{cells_rise, stored_high, stored_low, stored_told, told, value_in}
+use Rattle.store_content.proofs.ToldLemmas.{stored_high, stored_low, stored_told, told, value_in}
 
 -- ---- values of a change
 
@@ -83,7 +84,7 @@ finished_value : (o : Option StoredNotice) → value_in 400 (λ n. n.finished) o
 finished_value None = refl
 finished_value (Some n) = refl
 
-sites_low : (ns : List StoredNotice) → AllByRecursion IsNotice ns → AllByRecursion (λ n. n.site ≤ 15) ns
+pub sites_low : (ns : List StoredNotice) → AllByRecursion IsNotice ns → AllByRecursion (λ n. n.site ≤ 15) ns
 sites_low [] all = tt
 sites_low (n ∷ ns) all = (all.0.site_there, sites_low ns all.1)
 
@@ -119,9 +120,6 @@ module _ (cells : List DurableCell) (it : Stored) (is : IsContent it) (up : AreR
 
   pub put_table_rises : IsRising cell_before put_table
   put_table_rises = put_all_rises cell_before cells_ordered (cells_of cells) it.cells is.rows.cells_rise
-
-  pub put_table_below : AllByRecursion (λ c. c.slot < 300) put_table
-  put_table_below = all_put_all cell_before (λ c. c.slot < 300) (cells_of cells) it.cells (cells_below cells) is.rows.slots
 
   announced_after : (r j : ℕ) → j ≤ 15 → announced_by (notice_in put_notices r j) ≡ unwrap_or (stored_at cells r (300 + j)) (announced_by (notice_in it.notices r j))
   announced_after r j few = ap announced_by (row_found cells it cells it.notices r j) ∙ elim (cases_Bool (has_row cells it r j cells)) [
@@ -207,34 +205,34 @@ module _ (cells : List DurableCell) (it : Stored) (is : IsContent it) (up : AreR
   ]
 
   abbrev new_cells : List DurableCell
-  new_cells = put_cells (announced_cells put_notices ++ finished_cells put_notices) (map durable_cell put_table)
+  new_cells = put_cells (announced_cells put_notices ++ finished_cells put_notices) (table_cells put_table)
+
+  table_high : (r slot : ℕ) → 300 ≤ slot → stored_at (table_cells put_table) r slot ≡ stored_at (table_cells it.cells) r slot
+  table_high r slot high =
+      stored_misplaced put_table r slot high ∙ ap (λ l. stored_at l r slot) (misplaced_puts (cells_of cells) it.cells (cells_below cells)) ∙ sym (stored_misplaced it.cells r slot high)
 
   found_high : (r slot : ℕ) → 300 ≤ slot → stored_at new_cells r slot ≡ stored_at (put_cells cells (durable_cells it)) r slot
   found_high r slot high =
-      let none = kept_high put_table r slot put_table_below high in
-      let old = kept_high it.cells r slot is.rows.slots high in
-      stored_puts (announced_cells put_notices ++ finished_cells put_notices) (map durable_cell put_table) r slot
-      ∙ ap₂ or_else (law_high r slot high) none ∙ or_else_none (or_else (stored_at cells r slot) (stored_at (announced_cells it.notices ++ finished_cells it.notices) r slot))
-      ∙ ap (or_else (stored_at cells r slot)) (sym (
-      stored_puts (announced_cells it.notices ++ finished_cells it.notices) (map durable_cell it.cells) r slot
-      ∙ ap (or_else (stored_at (announced_cells it.notices ++ finished_cells it.notices) r slot)) old ∙ or_else_none (stored_at (announced_cells it.notices ++ finished_cells it.notices) r slot)
-      ))
+      stored_puts (announced_cells put_notices ++ finished_cells put_notices) (table_cells put_table) r slot
+      ∙ ap₂ or_else (law_high r slot high) (table_high r slot high)
+      ∙ or_else_more (stored_at cells r slot) (stored_at (announced_cells it.notices ++ finished_cells it.notices) r slot) (stored_at (table_cells it.cells) r slot)
+      ∙ ap (or_else (stored_at cells r slot)) (sym (stored_puts (announced_cells it.notices ++ finished_cells it.notices) (table_cells it.cells) r slot))
       ∙ sym (stored_puts cells (durable_cells it) r slot)
 
   found_low : (r slot : ℕ) → slot < 300 → stored_at new_cells r slot ≡ stored_at (put_cells cells (durable_cells it)) r slot
   found_low r slot small =
       let test : nat_lt slot 300 ≡ true = grind (arith, nat_tests) in
-      stored_puts (announced_cells put_notices ++ finished_cells put_notices) (map durable_cell put_table) r slot
-      ∙ ap₂ or_else (told_below put_notices r slot small) (table_low cells it.cells r slot up test)
+      stored_puts (announced_cells put_notices ++ finished_cells put_notices) (table_cells put_table) r slot
+      ∙ ap₂ or_else (told_below put_notices r slot small) (stored_placed put_table r slot small ∙ table_low cells it.cells r slot up test)
       ∙ ap (or_else (stored_at cells r slot)) (sym (
-      stored_puts (announced_cells it.notices ++ finished_cells it.notices) (map durable_cell it.cells) r slot
-      ∙ ap (λ o. or_else o (stored_at (map durable_cell it.cells) r slot)) (told_below it.notices r slot small)
+      stored_puts (announced_cells it.notices ++ finished_cells it.notices) (table_cells it.cells) r slot
+      ∙ ap₂ or_else (told_below it.notices r slot small) (stored_placed it.cells r slot small)
       ))
       ∙ sym (stored_puts cells (durable_cells it) r slot)
 
   -- the counters after the rows were put are those with the change's put
   pub cells_law : new_cells ≡ put_cells cells (durable_cells it)
   cells_law = one_rising new_cells (put_cells cells (durable_cells it))
-      (puts_rise (announced_cells put_notices ++ finished_cells put_notices) (map durable_cell put_table) (cells_rise put_table put_table_rises))
-      (puts_rise cells (durable_cells it) (puts_rise (announced_cells it.notices ++ finished_cells it.notices) (map durable_cell it.cells) (cells_rise it.cells is.rows.cells_rise)))
+      (puts_rise (announced_cells put_notices ++ finished_cells put_notices) (table_cells put_table) (table_rises put_table put_table_rises))
+      (puts_rise cells (durable_cells it) (puts_rise (announced_cells it.notices ++ finished_cells it.notices) (table_cells it.cells) (table_rises it.cells is.rows.cells_rise)))
       (λ r slot. elim (cases_lt slot 300) [ inl a ↦ found_low r slot a | inr a ↦ found_high r slot a ])

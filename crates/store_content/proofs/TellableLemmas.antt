@@ -28,7 +28,7 @@ of_some sites i j cell o e some = elim (cases_lt j sites) [
   | inr high ↦ absurd (true≢false (sym (sym (ap is_some (e ∙ of_other-no sites i j cell high)) ∙ some)))
 ]
 
-slot_is : (sites i slot : ℕ) → sites ≤ 16 → IsSome (named sites i slot) → IsSlot slot
+pub slot_is : (sites i slot : ℕ) → sites ≤ 16 → IsSome (named sites i slot) → IsSlot slot
 slot_is sites i slot few some = elim (cases_lt slot 300) [
   | inl low ↦ inl low
   | inr high ↦ elim (low_or_high slot sites i high) [

@@ -1,6 +1,7 @@
 -- Which content of a store is that of a site, and the durable part that it stands for.
-use Rattle.std.specs.Prelude.{◌≡◌, ℕ, ◌+◌, ◌<◌, ◌≤◌, ◌^◌, ◌==◌, ◌&&◌, not, List, [], ◌∷◌, ◌++◌, Option, Some, None, map, filter, max, if◌then◌else◌}
+use Rattle.std.specs.Prelude.{◌≡◌, ℕ, ◌+◌, ◌<◌, ◌≤◌, ◌^◌, ◌==◌, ◌&&◌, not, nat_lt, Bool, List, [], ◌∷◌, ◌++◌, Option, Some, None, map, filter, max, if◌then◌else◌}
 use Rattle.std.specs.List.{AllByRecursion}
+use Rattle.sqlite_rules.specs.Lists.{Has}
 use Rattle.session_list.specs.declared.session.Phase.{Phase}
 use Rattle.session_list.specs.declared.session.Phase.TheVariants.{Reader, Waiting, Writer}
 use Rattle.session_list.specs.declared.session.Session.{Session}
@@ -48,9 +49,26 @@ announced_cells ns = map (λ n. record { r = n.r; slot = announced_slot n.site; 
 abbrev pub finished_cells : List StoredNotice → List DurableCell
 finished_cells ns = map (λ n. record { r = n.r; slot = finished_slot n.site; value = n.finished }) (filter (λ n. not (n.finished == 0)) ns)
 
--- the counters of a content, by record and slot: its cells, with those of its notices put at their places
+-- a counter stands at its place in the table of counters: its slot is below those of the notices
+abbrev pub is_in_place : StoredCell → Bool
+is_in_place c = nat_lt c.slot 300
+
+-- a slot that names no counter at any site
+abbrev pub nameless_slot : ℕ
+nameless_slot = 65535
+
+-- the first counter of a table that is not at its place, told at the slot that names none
+abbrev pub misplaced_cells : List StoredCell → List DurableCell
+misplaced_cells [] = []
+misplaced_cells (c ∷ cs) = if is_in_place c then misplaced_cells cs else record { r = c.r; slot = nameless_slot; value = c.n } ∷ []
+
+-- the counters that a table tells: those at their places, and the first of the others
+abbrev pub table_cells : List StoredCell → List DurableCell
+table_cells cs = put_cells (misplaced_cells cs) (map durable_cell (filter is_in_place cs))
+
+-- the counters of a content, by record and slot: those of its table, with those of its notices put at their places
 abbrev pub durable_cells : Stored → List DurableCell
-durable_cells it = put_cells (announced_cells it.notices ++ finished_cells it.notices) (map durable_cell it.cells)
+durable_cells it = put_cells (announced_cells it.notices ++ finished_cells it.notices) (table_cells it.cells)
 
 -- the durable part that a content stands for
 abbrev pub durable_in : Stored → DurableState
@@ -100,11 +118,10 @@ pub record IsPlaced (s : StoredSession) : Type 0 where
   pub given : 1 ≤ s.place
   pub small : s.place ≤ most_places
 
--- the rows of each table are such as those of a site's store: its counters rise and none is that of a notice, its
--- notices rise, and its sessions rise by place
+-- the rows of each table are such as those of a site's store: its counters rise, its notices rise, and its sessions rise
+-- by place
 pub record HasRows (it : Stored) : Type 0 where
   pub cells_rise : IsRising cell_before it.cells
-  pub slots : AllByRecursion (λ c. c.slot < 300) it.cells
   pub notices_rise : IsRising notice_before it.notices
   pub notices : AllByRecursion IsNotice it.notices
   pub sessions_rise : IsRising session_before it.sessions
@@ -114,3 +131,7 @@ pub record HasRows (it : Stored) : Type 0 where
 pub record IsContent (it : Stored) : Type 0 where
   pub rows : HasRows it
   pub once : IsOnce it.sessions
+
+-- some counter of the table is not at its place: its slot is one of a notice, or names none
+abbrev pub HasMisplaced : Stored → Type 0
+HasMisplaced it = (c : StoredCell) × Has it.cells c × (300 ≤ c.slot)

@@ -1,5 +1,5 @@
 //! Whether the rows of a content are those of a site.
-ghost use Rattle.std.specs.Prelude.{◌↔◌, ◌<◌, IsTrue};
+ghost use Rattle.std.specs.Prelude.{◌↔◌, IsTrue};
 ghost use Rattle.std.specs.List.{AllByRecursion};
 ghost use Rattle.store_rows.specs.Rows.{cell_before, notice_before, session_before};
 ghost use Rattle.store_rows.specs.Sorted.{IsRising};
@@ -17,13 +17,7 @@ const LAST_SITE: u16 = 15;
 pub fn has_rows(content: &Content) -> bool
     ensures { IsTrue result ↔ HasRows content.now }
 {
-    have_cells(&content.cells) && have_notices(&content.notices) && have_sessions(&content.sessions)
-}
-
-fn have_cells(cells: &[StoredCell]) -> bool
-    ensures { IsTrue result ↔ (IsRising cell_before cells.now × AllByRecursion (λ c. c.slot < 300) cells.now) }
-{
-    cells_rise(cells) && cells.iter().all(|cell| cell.slot < 300)
+    cells_rise(&content.cells) && have_notices(&content.notices) && have_sessions(&content.sessions)
 }
 
 fn have_notices(notices: &[StoredNotice]) -> bool

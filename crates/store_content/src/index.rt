@@ -63,8 +63,8 @@ impl Index {
     }
 
     /// The index of a content, or `None` where it is not that of a site: where counters, notices or sessions do not
-    /// rise, a counter's slot is 300 or more, a notice's site is past 15 or one of its numbers 2^63 or more, a place is
-    /// 0 or past 2^62, or a holder stands twice at a record. Linear in the content.
+    /// rise, a notice's site is past 15 or one of its numbers 2^63 or more, a place is 0 or past 2^62, or a holder
+    /// stands twice at a record. Linear in the content.
     pub fn of(alloc: Global, content: &Content) -> Result<Option<Index>, AllocError>
         ensures content { IfOk result (λ found. IsSome found ↔ IsContent content.now) }
         ensures knows { IfOk result (λ found. IfSome found (λ index. Knows index content.now)) }

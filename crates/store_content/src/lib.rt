@@ -3,7 +3,7 @@
 
 pub use durable::durable_of;
 pub use index::Index;
-pub use laws::change_law;
+pub use laws::{change_law, misplaced_law};
 pub use rows::Rows;
 
 mod cells;

@@ -1,5 +1,5 @@
 -- What the statements make of the content of a store.
-use Rattle.std.proofs.Common.{◌≡◌, ◌≢◌, ◌⊎◌, inl, inr, ℕ, ℤ, pos, ◌<◌, Bool, true, false, not, ◌&&◌, ◌||◌, ◌==◌, nat_lt, cond, List, [], ◌∷◌, drop, filter, bytes_eq, Option, Some, None, codes, IsTrue, refl, sym, ap, subst, ◌∙◌, arith}
+use Rattle.std.proofs.Common.{◌≡◌, inl, inr, ℕ, pos, Bool, true, false, not, ◌&&◌, ◌||◌, ◌==◌, List, [], ◌∷◌, drop, filter, bytes_eq, Some, IsTrue, refl, sym, ap, subst, ◌∙◌, arith}
 use Rattle.std.specs.List.{AllByRecursion}
 use Rattle.std.proofs.lemmas.Bool.{cases_Bool, both_ways, not-true}
 use Rattle.std.proofs.lemmas.Bool.Decides.{nat_tests}
@@ -7,16 +7,16 @@ use Rattle.std.proofs.lemmas.Map.Text.{is_eq-slice_cmp}
 use Rattle.std.proofs.lemmas.Slice.Eq.{bytes_eq-Decides}
 use Rattle.sqlite_value.specs.declared.value.Value.TheVariants.{Int, Text}
 use Rattle.sqlite_value.specs.declared.keys.Collation.TheVariants.{Binary}
-use Rattle.sqlite_value.specs.Order.{Row, column, value_cmp}
-use Rattle.sqlite_value.specs.Keys.{first_key, plain}
+use Rattle.sqlite_value.specs.Order.{Row, column}
+use Rattle.sqlite_value.specs.Keys.{first_key}
 use Rattle.sqlite_value.proofs.OrderLemmas.{value_cmp-Int, value_cmp-Text}
 use Rattle.sqlite_trees.specs.Tree.{IsTable, rowid}
 use Rattle.sqlite_trees.specs.View.{is_int}
 use Rattle.sqlite_sql.specs.Ops.{unary, binary, is_true, from_truth}
 use Rattle.sqlite_schema.specs.Rules.{equal}
 use Rattle.sqlite_rules.specs.Lists.{Has}
-use Rattle.sqlite_rules.specs.Edit.{IsNoIndex}
-use Rattle.store_schema.specs.Tables.{schema_4, schema_of, meta_table, meta_tree, cells_tree, sessions_tree, notices_tree}
+use Rattle.sqlite_schema.specs.declared.schema.Schema.{Schema}
+use Rattle.store_schema.specs.Tables.{AreBehind, IsSchemaOf, behind, others_in, schema_4, meta_table, meta_tree, cells_tree, sessions_tree, notices_tree}
 use Rattle.store_schema.specs.declared.Version.TheVariants.{Second}
 use Rattle.sqlite.specs.Effect.{Database, IsDatabase}
 use Rattle.sqlite_rules.proofs.ListLemmas.{has_filtered, has_kept}
@@ -31,7 +31,8 @@ use Rattle.store_rows.specs.Changes.{is_of, without}
 use Rattle.store_rows.proofs.EditLemmas.{IsKeyed, IsPut, IsTaken}
 use Rattle.store_rows.proofs.SortedLemmas.{IsOrder, ties, put_has, has_put, put_keeps, put_rises, filter_rises}
 use Rattle.store_rows.proofs.PutLemmas.{HasPut, hits, cells_there, notices_there}
-use Rattle.store_rows.proofs.SessionLemmas.{session_hits, HasTaken}
+use Rattle.store_rows.proofs.SessionLemmas.{session_hits, sessions_there, HasTaken}
+use Rattle.store_rows.proofs.BesideLemmas.{IsTableTree}
 
 -- ---- the orders
 
@@ -198,17 +199,18 @@ module _ (m : Mark) (old new : List Row) (step : IsPut (hits meta_table (mark_ro
 
 -- ---- whole contents
 
-pub spares_0 : IsNoIndex schema_4 0
-spares_0 = (λ e. omega arith, (λ e. omega arith, (λ e. omega arith, (λ e. omega arith, (λ e. omega arith, tt)))))
+-- the trees of a store's tables
+pub spares_0 : (more : Schema) → IsTableTree (behind schema_4 more) 0
+spares_0 more = (meta_table, inl refl, refl)
 
-pub spares_2 : IsNoIndex schema_4 2
-spares_2 = (λ e. omega arith, (λ e. omega arith, (λ e. omega arith, (λ e. omega arith, (λ e. omega arith, tt)))))
+pub spares_2 : (more : Schema) → IsTableTree (behind schema_4 more) 2
+spares_2 more = (cells_there, inr (inl refl), refl)
 
-pub spares_4 : IsNoIndex schema_4 4
-spares_4 = (λ e. omega arith, (λ e. omega arith, (λ e. omega arith, (λ e. omega arith, (λ e. omega arith, tt)))))
+pub spares_4 : (more : Schema) → IsTableTree (behind schema_4 more) 4
+spares_4 more = (sessions_there, inr (inr (inl refl)), refl)
 
-pub spares_7 : IsNoIndex schema_4 7
-spares_7 = (λ e. omega arith, (λ e. omega arith, (λ e. omega arith, (λ e. omega arith, (λ e. omega arith, tt)))))
+pub spares_7 : (more : Schema) → IsTableTree (behind schema_4 more) 7
+spares_7 more = (notices_there, inr (inr (inr (inl refl))), refl)
 
 pub notices_of : (p : Parts) (rows : List Row) → p.tables ≡ Second → HoldsNotices p.tables p.notices rows → HoldsRows notice_row p.notices rows
 notices_of p rows two h = subst (λ v. HoldsNotices v p.notices rows) two h
@@ -217,13 +219,24 @@ notices_as : (p : Parts) (notices : List StoredNotice) (rows : List Row) → p.t
 notices_as p notices rows two h = subst (λ v. HoldsNotices v notices rows) (sym two) h
 
 module _ (p : Parts) (a b : Database) (two : p.tables ≡ Second) (h : HoldsParts p a) where
-  now_is : b.schema ≡ schema_4 → b.schema ≡ schema_of p.tables
-  now_is e = e ∙ ap schema_of (sym two)
+  abbrev more : Schema
+  more = others_in a.schema
+
+  -- the schema that a statement finds
+  pub has_own : a.schema ≡ behind schema_4 (others_in a.schema)
+  has_own = subst (λ v. IsSchemaOf v a.schema) two h.schema
+
+  now_is : b.schema ≡ behind schema_4 more → IsSchemaOf p.tables b.schema
+  now_is e = subst (λ v. IsSchemaOf v b.schema) (sym two) (e ∙ ap (behind schema_4) (sym (ap others_in e)))
+
+  still_apart : b.schema ≡ behind schema_4 more → AreBehind (others_in b.schema)
+  still_apart e = subst AreBehind (sym (ap others_in e)) h.apart
 
   -- a database whose tables have the rows that they had
-  pub parts_kept : b.schema ≡ schema_4 → IsDatabase b → b.trees 0 ≡ a.trees 0 → b.trees 2 ≡ a.trees 2 → b.trees 4 ≡ a.trees 4 → b.trees 7 ≡ a.trees 7 → HoldsParts p b
+  pub parts_kept : b.schema ≡ behind schema_4 more → IsDatabase b → b.trees 0 ≡ a.trees 0 → b.trees 2 ≡ a.trees 2 → b.trees 4 ≡ a.trees 4 → b.trees 7 ≡ a.trees 7 → HoldsParts p b
   parts_kept schema sound marks cells sessions notices = record {
     schema = now_is schema;
+    apart = still_apart schema;
     sound = sound;
     rows = subst IsTable (sym marks) h.rows;
     numbered = subst (AllByRecursion (λ r. IsTrue (is_int (rowid r)))) (sym marks) h.numbered;
@@ -236,13 +249,14 @@ module _ (p : Parts) (a b : Database) (two : p.tables ≡ Second) (h : HoldsPart
     notices_rise = h.notices_rise;
   }
 
-  pub parts_cell : (c : StoredCell) → HasPut cells_tree (hits cells_there (cell_row c)) (cell_row c) a b → HoldsParts (record p { cells = put cell_before c p.cells }) b
+  pub parts_cell : (c : StoredCell) → HasPut more cells_tree (hits cells_there (cell_row c)) (cell_row c) a b → HoldsParts (record p { cells = put cell_before c p.cells }) b
   parts_cell c step =
-      let meta = sym (step.others 0 (λ e. omega arith) spares_0) in
-      let sessions = sym (step.others 4 (λ e. omega arith) spares_4) in
-      let notices = sym (step.others 7 (λ e. omega arith) spares_7) in
+      let meta = sym (step.others 0 (λ e. omega arith) (spares_0 more)) in
+      let sessions = sym (step.others 4 (λ e. omega arith) (spares_4 more)) in
+      let notices = sym (step.others 7 (λ e. omega arith) (spares_7 more)) in
       record {
         schema = now_is step.schema;
+        apart = still_apart step.schema;
         sound = step.sound;
         rows = subst IsTable meta h.rows;
         numbered = subst (AllByRecursion (λ r. IsTrue (is_int (rowid r)))) meta h.numbered;
@@ -255,13 +269,14 @@ module _ (p : Parts) (a b : Database) (two : p.tables ≡ Second) (h : HoldsPart
         notices_rise = h.notices_rise;
       }
 
-  pub parts_notice : (c : StoredNotice) → HasPut notices_tree (hits notices_there (notice_row c)) (notice_row c) a b → HoldsParts (record p { notices = put notice_before c p.notices }) b
+  pub parts_notice : (c : StoredNotice) → HasPut more notices_tree (hits notices_there (notice_row c)) (notice_row c) a b → HoldsParts (record p { notices = put notice_before c p.notices }) b
   parts_notice c step =
-      let meta = sym (step.others 0 (λ e. omega arith) spares_0) in
-      let cells = sym (step.others 2 (λ e. omega arith) spares_2) in
-      let sessions = sym (step.others 4 (λ e. omega arith) spares_4) in
+      let meta = sym (step.others 0 (λ e. omega arith) (spares_0 more)) in
+      let cells = sym (step.others 2 (λ e. omega arith) (spares_2 more)) in
+      let sessions = sym (step.others 4 (λ e. omega arith) (spares_4 more)) in
       record {
         schema = now_is step.schema;
+        apart = still_apart step.schema;
         sound = step.sound;
         rows = subst IsTable meta h.rows;
         numbered = subst (AllByRecursion (λ r. IsTrue (is_int (rowid r)))) meta h.numbered;
@@ -275,13 +290,14 @@ module _ (p : Parts) (a b : Database) (two : p.tables ≡ Second) (h : HoldsPart
         notices_rise = put_rises notice_before notices_ordered c p.notices h.notices_rise;
       }
 
-  pub parts_mark : (m : Mark) → HasPut meta_tree (hits meta_table (mark_row m.name m.value)) (mark_row m.name m.value) a b → HoldsParts (with_mark m p) b
+  pub parts_mark : (m : Mark) → HasPut more meta_tree (hits meta_table (mark_row m.name m.value)) (mark_row m.name m.value) a b → HoldsParts (with_mark m p) b
   parts_mark m step =
-      let cells = sym (step.others 2 (λ e. omega arith) spares_2) in
-      let sessions = sym (step.others 4 (λ e. omega arith) spares_4) in
-      let notices = sym (step.others 7 (λ e. omega arith) spares_7) in
+      let cells = sym (step.others 2 (λ e. omega arith) (spares_2 more)) in
+      let sessions = sym (step.others 4 (λ e. omega arith) (spares_4 more)) in
+      let notices = sym (step.others 7 (λ e. omega arith) (spares_7 more)) in
       record {
         schema = now_is step.schema;
+        apart = still_apart step.schema;
         sound = step.sound;
         rows = step.rows.keyed.keyed;
         numbered = step.rows.keyed.numbered;
@@ -294,13 +310,14 @@ module _ (p : Parts) (a b : Database) (two : p.tables ≡ Second) (h : HoldsPart
         notices_rise = h.notices_rise;
       }
 
-  pub parts_dropped : (r k : ℕ) → HasTaken sessions_tree (session_hits (Int (pos r) ∷ Int (pos k) ∷ [])) a b → HoldsParts (record p { sessions = without r k p.sessions }) b
+  pub parts_dropped : (r k : ℕ) → HasTaken more sessions_tree (session_hits (Int (pos r) ∷ Int (pos k) ∷ [])) a b → HoldsParts (record p { sessions = without r k p.sessions }) b
   parts_dropped r k step =
-      let meta = sym (step.others 0 (λ e. omega arith) spares_0) in
-      let cells = sym (step.others 2 (λ e. omega arith) spares_2) in
-      let notices = sym (step.others 7 (λ e. omega arith) spares_7) in
+      let meta = sym (step.others 0 (λ e. omega arith) (spares_0 more)) in
+      let cells = sym (step.others 2 (λ e. omega arith) (spares_2 more)) in
+      let notices = sym (step.others 7 (λ e. omega arith) (spares_7 more)) in
       record {
         schema = now_is step.schema;
+        apart = still_apart step.schema;
         sound = step.sound;
         rows = subst IsTable meta h.rows;
         numbered = subst (AllByRecursion (λ r. IsTrue (is_int (rowid r)))) meta h.numbered;
@@ -313,14 +330,15 @@ module _ (p : Parts) (a b : Database) (two : p.tables ≡ Second) (h : HoldsPart
         notices_rise = h.notices_rise;
       }
 
-  pub parts_added : (s : StoredSession) → ((x : StoredSession) → Has p.sessions x → (x.place == s.place) ≡ false) → HasPut sessions_tree (λ _. false) (session_row s) a b
+  pub parts_added : (s : StoredSession) → ((x : StoredSession) → Has p.sessions x → (x.place == s.place) ≡ false) → HasPut more sessions_tree (λ _. false) (session_row s) a b
       → HoldsParts (record p { sessions = put session_before s p.sessions }) b
   parts_added s free step =
-      let meta = sym (step.others 0 (λ e. omega arith) spares_0) in
-      let cells = sym (step.others 2 (λ e. omega arith) spares_2) in
-      let notices = sym (step.others 7 (λ e. omega arith) spares_7) in
+      let meta = sym (step.others 0 (λ e. omega arith) (spares_0 more)) in
+      let cells = sym (step.others 2 (λ e. omega arith) (spares_2 more)) in
+      let notices = sym (step.others 7 (λ e. omega arith) (spares_7 more)) in
       record {
         schema = now_is step.schema;
+        apart = still_apart step.schema;
         sound = step.sound;
         rows = subst IsTable meta h.rows;
         numbered = subst (AllByRecursion (λ r. IsTrue (is_int (rowid r)))) meta h.numbered;

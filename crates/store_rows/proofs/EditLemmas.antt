@@ -1,10 +1,9 @@
 -- What a row that is put, replaced or taken out leaves of the rows of a table, whatever the table is.
-use Rattle.std.proofs.Common.{◌≡◌, ◌≢◌, ◌⊎◌, inl, inr, ℕ, suc, ℤ, ◌==◌, Bool, true, false, not, List, [], ◌∷◌, length, map, drop, Result, Ok, Err, Option, Some, None, Ordering, Less, Equal, Greater, is_eq, IsTrue, refl, sym, ap, subst, ◌∙◌, arith}
+use Rattle.std.proofs.Common.{◌≡◌, ◌≢◌, ◌⊎◌, inl, inr, ℕ, suc, ℤ, ◌==◌, Bool, true, false, not, List, [], ◌∷◌, length, map, drop, Result, Ok, Err, None, Ordering, Less, Equal, Greater, is_eq, IsTrue, refl, sym, ap, subst, ◌∙◌, arith}
 use Rattle.std.specs.List.{AllByRecursion}
 use Rattle.std.proofs.lemmas.Bool.{cases_Bool, both_ways, false_from_ne_true, not-true, and_parts}
 use Rattle.std.proofs.lemmas.Bool.Decides.{nat_tests}
-use Rattle.std.proofs.lemmas.Cmp.{tied_itself, tied_back}
-use Rattle.sqlite_value.specs.declared.value.Value.{Value}
+use Rattle.std.proofs.lemmas.Cmp.{tied_itself}
 use Rattle.sqlite_value.specs.declared.value.Value.TheVariants.{Int}
 use Rattle.sqlite_value.specs.Order.{Row, value_cmp}
 use Rattle.sqlite_value.proofs.OrderLemmas.{value_cmp_total}
@@ -18,12 +17,13 @@ use Rattle.sqlite_rules.specs.Cast.{cast_row}
 use Rattle.sqlite_rules.specs.Calls.{ids_of}
 use Rattle.sqlite_rules.specs.Keys.{AreConflicts, conflicts}
 use Rattle.sqlite_rules.specs.declared.error.Rowids.TheVariants.{Given}
-use Rattle.sqlite_rules.specs.Edit.{Edit, IsNoIndex, Applies, edit_of, taken_by, edited, without_all, put_all, numbered, have_rowids, is_taken, are_fresh, id_in}
+use Rattle.sqlite_rules.specs.Edit.{Edit, edit_of, taken_by, without_all, put_all, numbered, have_rowids, are_fresh, id_in}
 use Rattle.sqlite_rules.proofs.ListLemmas.{all_has, all_from, has_filtered, has_kept}
 use Rattle.sqlite_rules.proofs.TableLemmas.{has_put, put_has, put_all_has, put_all_keeps, put_all_adds, int_is}
 use Rattle.sqlite_rules.proofs.PlaceLemmas.{tied_same}
 use Rattle.sqlite.specs.Rows.{Written, Task, Puts, Clears, Edited}
 use Rattle.sqlite.proofs.Callers.{one_step}
+use Rattle.store_rows.proofs.BesideLemmas.{IsTableTree, tables_spared}
 
 -- a part that gave a value did not stop on the way
 pub went : {B E R : Type 0} {b : B} {Stops : E → Type 0} → ((stop : E) × Stops stop × (Ok b ≡ Err stop)) ⊎ R → R
@@ -60,9 +60,9 @@ put_as hit same values old new is step = record {
   keyed = step.keyed;
 }
 
--- the trees beside one, and beside indexes, are as they were
+-- the trees of the tables beside one are as they were
 abbrev pub SparesOthers : Task → Trees → Trees → Type 0
-SparesOthers task db next = (t : ℕ) → t ≢ task.table.tree → IsNoIndex task.schema t → next t ≡ db t
+SparesOthers task db next = (t : ℕ) → t ≢ task.table.tree → IsTableTree task.schema t → next t ≡ db t
 
 -- an update changed so many rows: none, and all stay, or some, which have the new values
 abbrev pub IsUpdated : ℕ → (Row → Bool) → Row → List Row → List Row → Type 0
@@ -197,7 +197,7 @@ module _ (task : Task) (idle : (olds news : List Row) → works task.schema task
       let bare : Edit = record { table = table; gone = []; news = (Int id ∷ values) ∷ [] } in
       let same : edit ≡ bare = λ i. record { table = at i; gone = none i; news = new i } in
       let a = one_step task.schema task.keys db next bare (idle (taken_by db bare) bare.news) (subst (λ e. Edited task.schema task.keys db e (Ok next)) same h) in
-      (rw a.rows (put_free id values (db table.tree) was a.fresh), a.others)
+      (rw a.rows (put_free id values (db table.tree) was a.fresh), tables_spared task.schema.tables table.tree db next a.tables)
 
   -- a row whose values no cast changes
   pub put_alone : (id : ℤ) (values : Row) (db : Trees) (one : Written) → cast_row table (Int id ∷ values) ≡ Int id ∷ values → IsKeyed (db table.tree) → Puts task (Int id ∷ values) db (Ok one)
@@ -217,7 +217,7 @@ module _ (task : Task) (idle : (olds news : List Row) → works task.schema task
       let it = went h in
       let edit = edit_of db table (ids_of (x ∷ found)) Given 0 [] in
       let a = one_step task.schema task.keys db it.0 edit (idle (taken_by db edit) edit.news) it.1 in
-      (it.0, a.rows, a.others, it.2)
+      (it.0, a.rows, tables_spared task.schema.tables table.tree db it.0 a.tables, it.2)
 
   pub replaced : (id : ℤ) (values : Row) (hit : Row → Bool) (db : Trees) (found : List Row) (one : Written) → cast_row table (Int id ∷ values) ≡ Int id ∷ values → IsKeyed (db table.tree)
       → ((r : Row) → Has (db table.tree) r → conflicts None task.schema.indexes table (Int id ∷ values) r ≡ hit r)
@@ -249,7 +249,7 @@ module _ (task : Task) (idle : (olds news : List Row) → works task.schema task
       let edit = edit_of db table (ids_of found) Given 0 [] in
       let a = one_step task.schema task.keys db next edit (idle (taken_by db edit) edit.news) h in
       let rows : next table.tree ≡ without_all (db table.tree) (ids_of found) = a.rows in
-      (rw rows (taken (db table.tree) was hit found sound complete), a.others)
+      (rw rows (taken (db table.tree) was hit found sound complete), tables_spared task.schema.tables table.tree db next a.tables)
 
   -- what an update puts in the place of the rows that it found
   abbrev pub written_over : List Row → List Row
@@ -273,14 +273,14 @@ module _ (task : Task) (idle : (olds news : List Row) → works task.schema task
       let rows : next table.tree ≡ put_all left (written_over found) = a.rows ∙ ap (put_all left) same in
       let ints : have_rowids (written_over found) ≡ true = ap have_rowids (sym same) ∙ a.keyed in
       let fresh : are_fresh left (written_over found) ≡ true = ap (are_fresh left) (sym same) ∙ a.fresh in
-      (rw rows (put_over hit values (db table.tree) left (written_over found) (taken (db table.tree) was hit found sound complete) ints fresh are first there), a.others)
+      (rw rows (put_over hit values (db table.tree) left (written_over found) (taken (db table.tree) was hit found sound complete) ints fresh are first there), tables_spared task.schema.tables table.tree db next a.tables)
 
   -- where none was found, all rows stay
   pub spared_all : (db next : Trees) → Edited task.schema task.keys db (overwriting db []) (Ok next) → (next table.tree ≡ db table.tree) × SparesOthers task db next
   spared_all db next h =
       let edit = overwriting db [] in
       let a = one_step task.schema task.keys db next edit (idle (taken_by db edit) edit.news) h in
-      (a.rows, a.others)
+      (a.rows, tables_spared task.schema.tables table.tree db next a.tables)
 
   pub updated : (found : List Row) (values : Row) (hit : Row → Bool) (db next : Trees) (count : ℕ) → count ≡ length (overwriting db found).news → IsKeyed (db table.tree)
       → ((x : Row) → Has found x → (r : Row) × Has (db table.tree) r × (hit r ≡ true) × (id_in (rowid x) ≡ id_in (rowid r)))

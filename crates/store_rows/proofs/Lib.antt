@@ -1,3 +1,4 @@
+pub mod BesideLemmas
 pub mod ContentLemmas
 pub mod CreateLemmas
 pub mod EditLemmas

@@ -1,18 +1,17 @@
 -- What the statements that set a row do: INSERT OR REPLACE into meta, cells and notices.
-use Rattle.std.proofs.Common.{◌≡◌, ◌≢◌, ◌⊎◌, inl, inr, ℕ, ℤ, pos, Bool, true, false, not, ◌&&◌, ◌||◌, cond, List, [], ◌∷◌, map, drop, Result, Ok, Err, Option, Some, None, codes, is_eq, IsTrue, refl, sym, ap, subst, ◌∙◌}
-use Rattle.std.specs.List.{AllByRecursion, list_any}
-use Rattle.std.proofs.lemmas.Bool.{cases_Bool, both_ways, false_from_ne_true, or_parts}
+use Rattle.std.proofs.Common.{◌≡◌, ◌≢◌, inl, inr, ℕ, ℤ, pos, Bool, true, false, ◌&&◌, ◌||◌, cond, List, [], ◌∷◌, Ok, Err, Option, Some, None, is_eq, refl, sym, ap, subst, ◌∙◌, arith}
+use Rattle.std.specs.List.{list_any}
+use Rattle.std.proofs.lemmas.Bool.{both_ways, false_from_ne_true}
 use Rattle.sqlite_value.specs.declared.value.Value.{Value}
-use Rattle.sqlite_value.specs.declared.value.Value.TheVariants.{Null, Int, Text}
+use Rattle.sqlite_value.specs.declared.value.Value.TheVariants.{Null, Int}
 use Rattle.sqlite_value.specs.declared.keys.Collation.TheVariants.{Binary}
-use Rattle.sqlite_value.specs.Order.{Row, column, value_cmp}
-use Rattle.sqlite_value.specs.Keys.{plain, first_key, later}
+use Rattle.sqlite_value.specs.Order.{Row, value_cmp}
+use Rattle.sqlite_value.specs.Keys.{plain, first_key}
 use Rattle.sqlite_trees.specs.Tree.{Trees, rowid}
 use Rattle.sqlite_sql.specs.Ops.{unary, binary, is_null, is_true, from_truth}
 use Rattle.sqlite_sql.specs.Term.{Term, lit, col}
 use Rattle.sqlite_schema.specs.declared.schema.Kind.TheVariants.{Integer}
 use Rattle.sqlite_schema.specs.declared.schema.Table.{Table}
-use Rattle.sqlite_schema.specs.declared.schema.Index.{Index}
 use Rattle.sqlite_schema.specs.declared.command.Command.{Command}
 use Rattle.sqlite_schema.specs.declared.command.Command.TheVariants.{InsertOr}
 use Rattle.sqlite_schema.specs.declared.command.Source.TheVariants.{Values}
@@ -24,23 +23,23 @@ use Rattle.sqlite_rules.specs.Lists.{Has}
 use Rattle.sqlite_rules.specs.Cast.{cast, cast_row}
 use Rattle.sqlite_rules.specs.Keys.{AreConflicts, conflicts, shares}
 use Rattle.sqlite_rules.specs.Action.{works}
-use Rattle.sqlite_rules.specs.Edit.{IsNoIndex, with_rowid, at_least, next_rowid, is_taken}
-use Rattle.sqlite_rules.specs.Steps.{IsJudged}
+use Rattle.sqlite_rules.specs.Edit.{with_rowid, at_least, next_rowid, is_taken}
 use Rattle.sqlite_rules.proofs.ListLemmas.{some_from}
 use Rattle.sqlite_rules.proofs.PlaceLemmas.{next_is_free}
 use Rattle.sqlite_tied.specs.Compute.{everything}
-use Rattle.sqlite.specs.declared.error.Error.{Error}
 use Rattle.sqlite.specs.Effect.{Database, IsDatabase}
 use Rattle.sqlite.specs.Rows.{Written, Task, Tries, Judged, Clears, TriesEach, nothing, count_of, mended, rowids_for}
 use Rattle.sqlite.specs.Does.{Does, Tally}
 use Rattle.sqlite.specs.State.{State, Executes, mode_of}
 use Rattle.sqlite.specs.Listing.{understood}
 use Rattle.sqlite.proofs.Callers.{IsPlain, command_of, statement_of, runs_as}
-use Rattle.store_schema.specs.Tables.{schema_4, meta_table, meta_tree, cells_table, cells_tree, notices_table, notices_tree}
+use Rattle.sqlite_schema.specs.declared.schema.Schema.{Schema}
+use Rattle.store_schema.specs.Tables.{AreBehind, behind, schema_4, meta_table, meta_tree, cells_table, cells_tree, notices_table, notices_tree}
 use Rattle.store_rows.specs.declared.content.StoredCell.{StoredCell}
 use Rattle.store_rows.specs.declared.content.StoredNotice.{StoredNotice}
 use Rattle.store_rows.specs.Texts.{put_mark_text, put_cell_text, put_notice_text}
 use Rattle.store_rows.specs.Rows.{mark_row, cell_row, notice_row}
+use Rattle.store_rows.proofs.BesideLemmas.{IsTableTree, no_works, shared}
 use Rattle.store_rows.proofs.EditLemmas.{went, same_value, IsKeyed, IsPut, replaced, SparesOthers}
 
 -- ---- values
@@ -90,10 +89,10 @@ tried task new db one (inl refused) = absurd (let e = refused.1 in cc)
 tried task new db one (inr h) = judged task new db one h.0 h.2
 
 -- a table of a store after a row was set
-pub record HasPut (tree : ℕ) (hit : Row → Bool) (values : Row) (old new : Database) : Type 0 where
-  pub schema : new.schema ≡ schema_4
+pub record HasPut (more : Schema) (tree : ℕ) (hit : Row → Bool) (values : Row) (old new : Database) : Type 0 where
+  pub schema : new.schema ≡ behind schema_4 more
   pub rows : IsPut hit values (old.trees tree) (new.trees tree)
-  pub others : (t : ℕ) → t ≢ tree → IsNoIndex schema_4 t → new.trees t ≡ old.trees t
+  pub others : (t : ℕ) → t ≢ tree → IsTableTree (behind schema_4 more) t → new.trees t ≡ old.trees t
   pub sound : IsDatabase new
 
 -- a row has a key of these values
@@ -142,13 +141,13 @@ cell_terms = lit Null ∷ col 0 0 ∷ col 0 1 ∷ col 0 2 ∷ []
 abbrev put_cell_command : Command
 put_cell_command = InsertOr 1 Replace (Values cell_terms 4) []
 
-put_cell_is : command_of (understood schema_4 put_cell_text) ≡ put_cell_command
+put_cell_is : (more : Schema) → command_of (understood (behind schema_4 more) put_cell_text) ≡ put_cell_command
 unfolding understood everything
-put_cell_is = refl
+put_cell_is more = refl
 
-put_cell_plain : IsPlain (understood schema_4 put_cell_text)
+put_cell_plain : (more : Schema) → IsPlain (understood (behind schema_4 more) put_cell_text)
 unfolding understood everything
-put_cell_plain = (refl, refl)
+put_cell_plain more = (refl, refl)
 
 cast_three : (v : Value) (a b c : ℤ) → cast_row cells_table (v ∷ Int a ∷ Int b ∷ Int c ∷ []) ≡ cast Integer v ∷ Int a ∷ Int b ∷ Int c ∷ []
 cast_three v a b c = rw (cast_int a, cast_int b, cast_int c)
@@ -156,27 +155,27 @@ cast_three v a b c = rw (cast_int a, cast_int b, cast_int c)
 abbrev pub cells_there : Table
 cells_there = record cells_table { tree = cells_tree }
 
-pub puts_cell : (old new : State) (c : StoredCell) (count : ℕ) → old.now.schema ≡ schema_4 → IsKeyed (old.now.trees cells_tree) → Executes put_cell_text (cell_row c) old new (Ok count)
-    → HasPut cells_tree (hits cells_there (cell_row c)) (cell_row c) old.now new.now
-puts_cell old new c count has keyed h =
+pub puts_cell : (more : Schema) → AreBehind more → (old new : State) (c : StoredCell) (count : ℕ) → old.now.schema ≡ behind schema_4 more → IsKeyed (old.now.trees cells_tree) → Executes put_cell_text (cell_row c) old new (Ok count)
+    → HasPut more cells_tree (hits cells_there (cell_row c)) (cell_row c) old.now new.now
+puts_cell more apart old new c count has keyed h =
     let params = cell_row c in
     let db = old.now.trees in
-    let w = runs_as put_cell_text params old new schema_4 has put_cell_command put_cell_is put_cell_plain count h in
-    let text = statement_of put_cell_text (understood schema_4 put_cell_text) in
+    let w = runs_as put_cell_text params old new (behind schema_4 more) has put_cell_command (put_cell_is more) (put_cell_plain more) count h in
+    let text = statement_of put_cell_text (understood (behind schema_4 more) put_cell_text) in
     let done = went (subst (λ s. Does old.step_limit (mode_of old) params (record old.now { schema = s }) text None put_cell_command (Ok (w.tally, new.now))) has w.changed) in
     let now = ap (λ (p : Tally × Database). p.1) (same_value (went (went done.2).2).2) in
     let given = went done.1 in
     let counted = went given.2 in
     let each = went counted.2 in
     let ends = went each.2 in
-    let task : Task = record { limit = old.step_limit; keys = (mode_of old).keys; schema = schema_4; table = cells_there; params = params } in
-    let out = tried_each task params (hits cells_there params) (record { idle = λ _ _. refl; chosen = λ _. refl; mended = refl; cast = λ v. cast_three v (pos c.r) (pos c.slot) (pos c.n) }) (λ id r. refl)
+    let task : Task = record { limit = old.step_limit; keys = (mode_of old).keys; schema = behind schema_4 more; table = cells_there; params = params } in
+    let out = tried_each task params (hits cells_there params) (record { idle = no_works more apart (mode_of old).keys cells_tree (omega arith); chosen = λ _. refl; mended = refl; cast = λ v. cast_three v (pos c.r) (pos c.slot) (pos c.n) }) (λ id r. ap (λ b. agree plain (0 ∷ []) r (0 ∷ []) (Int id ∷ params) || b) (shared more cells_there (Int id ∷ params) r apart (omega arith)))
     given.0 (count_of counted.0) db each.0 given.1.1 keyed each.1 in
     let trees : each.0.0.trees ≡ new.now.trees = sym (same_value ends.1) ∙ ap (λ (it : Written). it.trees) (sym (same_value ends.2)) ∙ ap (λ (d : Database). d.trees) (sym now) in
     record {
       schema = ap (λ (d : Database). d.schema) now;
       rows = subst (λ (next : Trees). IsPut (hits cells_there params) params (db cells_tree) (next cells_tree)) trees out.0;
-      others = subst (λ (next : Trees). (t : ℕ) → t ≢ cells_tree → IsNoIndex schema_4 t → next t ≡ db t) trees out.1;
+      others = subst (λ (next : Trees). (t : ℕ) → t ≢ cells_tree → IsTableTree (behind schema_4 more) t → next t ≡ db t) trees out.1;
       sound = w.sound;
     }
 
@@ -188,35 +187,35 @@ mark_terms = lit Null ∷ col 0 0 ∷ col 0 1 ∷ []
 abbrev put_mark_command : Command
 put_mark_command = InsertOr 0 Replace (Values mark_terms 3) []
 
-put_mark_is : command_of (understood schema_4 put_mark_text) ≡ put_mark_command
+put_mark_is : (more : Schema) → command_of (understood (behind schema_4 more) put_mark_text) ≡ put_mark_command
 unfolding understood everything
-put_mark_is = refl
+put_mark_is more = refl
 
-put_mark_plain : IsPlain (understood schema_4 put_mark_text)
+put_mark_plain : (more : Schema) → IsPlain (understood (behind schema_4 more) put_mark_text)
 unfolding understood everything
-put_mark_plain = (refl, refl)
+put_mark_plain more = (refl, refl)
 
-pub puts_mark : (old new : State) (name value : List ℕ) (count : ℕ) → old.now.schema ≡ schema_4 → IsKeyed (old.now.trees meta_tree) → Executes put_mark_text (mark_row name value) old new (Ok count)
-    → HasPut meta_tree (hits meta_table (mark_row name value)) (mark_row name value) old.now new.now
-puts_mark old new name value count has keyed h =
+pub puts_mark : (more : Schema) → AreBehind more → (old new : State) (name value : List ℕ) (count : ℕ) → old.now.schema ≡ behind schema_4 more → IsKeyed (old.now.trees meta_tree) → Executes put_mark_text (mark_row name value) old new (Ok count)
+    → HasPut more meta_tree (hits meta_table (mark_row name value)) (mark_row name value) old.now new.now
+puts_mark more apart old new name value count has keyed h =
     let params = mark_row name value in
     let db = old.now.trees in
-    let w = runs_as put_mark_text params old new schema_4 has put_mark_command put_mark_is put_mark_plain count h in
-    let text = statement_of put_mark_text (understood schema_4 put_mark_text) in
+    let w = runs_as put_mark_text params old new (behind schema_4 more) has put_mark_command (put_mark_is more) (put_mark_plain more) count h in
+    let text = statement_of put_mark_text (understood (behind schema_4 more) put_mark_text) in
     let done = went (subst (λ s. Does old.step_limit (mode_of old) params (record old.now { schema = s }) text None put_mark_command (Ok (w.tally, new.now))) has w.changed) in
     let now = ap (λ (p : Tally × Database). p.1) (same_value (went (went done.2).2).2) in
     let given = went done.1 in
     let counted = went given.2 in
     let each = went counted.2 in
     let ends = went each.2 in
-    let task : Task = record { limit = old.step_limit; keys = (mode_of old).keys; schema = schema_4; table = meta_table; params = params } in
-    let out = tried_each task params (hits meta_table params) (record { idle = λ _ _. refl; chosen = λ _. refl; mended = refl; cast = λ v. refl }) (λ id r. refl)
+    let task : Task = record { limit = old.step_limit; keys = (mode_of old).keys; schema = behind schema_4 more; table = meta_table; params = params } in
+    let out = tried_each task params (hits meta_table params) (record { idle = no_works more apart (mode_of old).keys meta_tree (omega arith); chosen = λ _. refl; mended = refl; cast = λ v. refl }) (λ id r. ap (λ b. agree plain (0 ∷ []) r (0 ∷ []) (Int id ∷ params) || b) (shared more meta_table (Int id ∷ params) r apart (omega arith)))
     given.0 (count_of counted.0) db each.0 given.1.1 keyed each.1 in
     let trees : each.0.0.trees ≡ new.now.trees = sym (same_value ends.1) ∙ ap (λ (it : Written). it.trees) (sym (same_value ends.2)) ∙ ap (λ (d : Database). d.trees) (sym now) in
     record {
       schema = ap (λ (d : Database). d.schema) now;
       rows = subst (λ (next : Trees). IsPut (hits meta_table params) params (db meta_tree) (next meta_tree)) trees out.0;
-      others = subst (λ (next : Trees). (t : ℕ) → t ≢ meta_tree → IsNoIndex schema_4 t → next t ≡ db t) trees out.1;
+      others = subst (λ (next : Trees). (t : ℕ) → t ≢ meta_tree → IsTableTree (behind schema_4 more) t → next t ≡ db t) trees out.1;
       sound = w.sound;
     }
 
@@ -228,13 +227,13 @@ notice_terms = lit Null ∷ col 0 0 ∷ col 0 1 ∷ col 0 2 ∷ col 0 3 ∷ []
 abbrev put_notice_command : Command
 put_notice_command = InsertOr 3 Replace (Values notice_terms 5) []
 
-put_notice_is : command_of (understood schema_4 put_notice_text) ≡ put_notice_command
+put_notice_is : (more : Schema) → command_of (understood (behind schema_4 more) put_notice_text) ≡ put_notice_command
 unfolding understood everything
-put_notice_is = refl
+put_notice_is more = refl
 
-put_notice_plain : IsPlain (understood schema_4 put_notice_text)
+put_notice_plain : (more : Schema) → IsPlain (understood (behind schema_4 more) put_notice_text)
 unfolding understood everything
-put_notice_plain = (refl, refl)
+put_notice_plain more = (refl, refl)
 
 cast_four : (v : Value) (a b c d : ℤ) → cast_row notices_table (v ∷ Int a ∷ Int b ∷ Int c ∷ Int d ∷ []) ≡ cast Integer v ∷ Int a ∷ Int b ∷ Int c ∷ Int d ∷ []
 cast_four v a b c d = rw (cast_int a, cast_int b, cast_int c, cast_int d)
@@ -242,26 +241,26 @@ cast_four v a b c d = rw (cast_int a, cast_int b, cast_int c, cast_int d)
 abbrev pub notices_there : Table
 notices_there = record notices_table { tree = notices_tree }
 
-pub puts_notice : (old new : State) (n : StoredNotice) (count : ℕ) → old.now.schema ≡ schema_4 → IsKeyed (old.now.trees notices_tree) → Executes put_notice_text (notice_row n) old new (Ok count)
-    → HasPut notices_tree (hits notices_there (notice_row n)) (notice_row n) old.now new.now
-puts_notice old new n count has keyed h =
+pub puts_notice : (more : Schema) → AreBehind more → (old new : State) (n : StoredNotice) (count : ℕ) → old.now.schema ≡ behind schema_4 more → IsKeyed (old.now.trees notices_tree) → Executes put_notice_text (notice_row n) old new (Ok count)
+    → HasPut more notices_tree (hits notices_there (notice_row n)) (notice_row n) old.now new.now
+puts_notice more apart old new n count has keyed h =
     let params = notice_row n in
     let db = old.now.trees in
-    let w = runs_as put_notice_text params old new schema_4 has put_notice_command put_notice_is put_notice_plain count h in
-    let text = statement_of put_notice_text (understood schema_4 put_notice_text) in
+    let w = runs_as put_notice_text params old new (behind schema_4 more) has put_notice_command (put_notice_is more) (put_notice_plain more) count h in
+    let text = statement_of put_notice_text (understood (behind schema_4 more) put_notice_text) in
     let done = went (subst (λ s. Does old.step_limit (mode_of old) params (record old.now { schema = s }) text None put_notice_command (Ok (w.tally, new.now))) has w.changed) in
     let now = ap (λ (p : Tally × Database). p.1) (same_value (went (went done.2).2).2) in
     let given = went done.1 in
     let counted = went given.2 in
     let each = went counted.2 in
     let ends = went each.2 in
-    let task : Task = record { limit = old.step_limit; keys = (mode_of old).keys; schema = schema_4; table = notices_there; params = params } in
-    let out = tried_each task params (hits notices_there params) (record { idle = λ _ _. refl; chosen = λ _. refl; mended = refl; cast = λ v. cast_four v (pos n.r) (pos n.site) (pos n.announced) (pos n.finished) }) (λ id r. refl)
+    let task : Task = record { limit = old.step_limit; keys = (mode_of old).keys; schema = behind schema_4 more; table = notices_there; params = params } in
+    let out = tried_each task params (hits notices_there params) (record { idle = no_works more apart (mode_of old).keys notices_tree (omega arith); chosen = λ _. refl; mended = refl; cast = λ v. cast_four v (pos n.r) (pos n.site) (pos n.announced) (pos n.finished) }) (λ id r. ap (λ b. agree plain (0 ∷ []) r (0 ∷ []) (Int id ∷ params) || b) (shared more notices_there (Int id ∷ params) r apart (omega arith)))
     given.0 (count_of counted.0) db each.0 given.1.1 keyed each.1 in
     let trees : each.0.0.trees ≡ new.now.trees = sym (same_value ends.1) ∙ ap (λ (it : Written). it.trees) (sym (same_value ends.2)) ∙ ap (λ (d : Database). d.trees) (sym now) in
     record {
       schema = ap (λ (d : Database). d.schema) now;
       rows = subst (λ (next : Trees). IsPut (hits notices_there params) params (db notices_tree) (next notices_tree)) trees out.0;
-      others = subst (λ (next : Trees). (t : ℕ) → t ≢ notices_tree → IsNoIndex schema_4 t → next t ≡ db t) trees out.1;
+      others = subst (λ (next : Trees). (t : ℕ) → t ≢ notices_tree → IsTableTree (behind schema_4 more) t → next t ≡ db t) trees out.1;
       sound = w.sound;
     }

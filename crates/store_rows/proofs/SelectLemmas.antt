@@ -1,5 +1,5 @@
 -- What the statements that read show of the rows of their tables.
-use Rattle.std.proofs.Common.{◌≡◌, ℕ, false, List, [], ◌∷◌, codes, refl}
+use Rattle.std.proofs.Common.{◌≡◌, ℕ, false, List, [], ◌∷◌, codes, refl, sym, subst}
 use Rattle.sqlite_value.specs.declared.keys.Key.{Key}
 use Rattle.sqlite_value.specs.declared.keys.Collation.TheVariants.{Binary}
 use Rattle.sqlite_value.specs.Keys.{ascending}
@@ -11,7 +11,7 @@ use Rattle.sqlite.specs.Listing.{understood, reads_listing}
 use Rattle.sqlite.proofs.Callers.{IsPlain, command_of}
 use Rattle.store_schema.specs.declared.Version.{Version}
 use Rattle.store_schema.specs.declared.Version.TheVariants.{First, Second}
-use Rattle.store_schema.specs.Tables.{schema_of}
+use Rattle.store_schema.specs.Tables.{IsSchemaOf, behind, others_in, schema_3, schema_4}
 use Rattle.store_rows.specs.Texts.{read_marks_text, read_cells_text, read_sessions_text, read_notices_text}
 use Rattle.store_rows.proofs.ReadLemmas.{query_on}
 
@@ -48,21 +48,45 @@ abbrev pub reads : ℕ → List Term → List (Term × Key) → List (List ℕ) 
 reads tree project order names schema text =
     (command_of (understood schema text) ≡ Select (record { lets = []; body = query_on tree [] project order }) names) × IsPlain (understood schema text) × (reads_listing schema text ≡ false)
 
-pub marks_read : (v : Version) → reads 0 two [] mark_names (schema_of v) read_marks_text
+marks_first : reads 0 two [] mark_names schema_3 read_marks_text
 unfolding understood everything
-marks_read First = (refl, (refl, refl), refl)
-marks_read Second = (refl, (refl, refl), refl)
+marks_first = (refl, (refl, refl), refl)
 
-pub cells_read : (v : Version) → reads 2 three by_two cell_names (schema_of v) read_cells_text
+marks_second : (more : Schema) → reads 0 two [] mark_names (behind schema_4 more) read_marks_text
 unfolding understood everything
-cells_read First = (refl, (refl, refl), refl)
-cells_read Second = (refl, (refl, refl), refl)
+marks_second more = (refl, (refl, refl), refl)
 
-pub sessions_read : (v : Version) → reads 4 four by_place session_names (schema_of v) read_sessions_text
-unfolding understood everything
-sessions_read First = (refl, (refl, refl), refl)
-sessions_read Second = (refl, (refl, refl), refl)
+pub marks_read : (v : Version) (schema : Schema) → IsSchemaOf v schema → reads 0 two [] mark_names schema read_marks_text
+marks_read First schema is = subst (λ s. reads 0 two [] mark_names s read_marks_text) (sym is) marks_first
+marks_read Second schema is = subst (λ s. reads 0 two [] mark_names s read_marks_text) (sym is) (marks_second (others_in schema))
 
-pub notices_read : reads 7 four by_two notice_names (schema_of Second) read_notices_text
+cells_first : reads 2 three by_two cell_names schema_3 read_cells_text
 unfolding understood everything
-notices_read = (refl, (refl, refl), refl)
+cells_first = (refl, (refl, refl), refl)
+
+cells_second : (more : Schema) → reads 2 three by_two cell_names (behind schema_4 more) read_cells_text
+unfolding understood everything
+cells_second more = (refl, (refl, refl), refl)
+
+pub cells_read : (v : Version) (schema : Schema) → IsSchemaOf v schema → reads 2 three by_two cell_names schema read_cells_text
+cells_read First schema is = subst (λ s. reads 2 three by_two cell_names s read_cells_text) (sym is) cells_first
+cells_read Second schema is = subst (λ s. reads 2 three by_two cell_names s read_cells_text) (sym is) (cells_second (others_in schema))
+
+sessions_first : reads 4 four by_place session_names schema_3 read_sessions_text
+unfolding understood everything
+sessions_first = (refl, (refl, refl), refl)
+
+sessions_second : (more : Schema) → reads 4 four by_place session_names (behind schema_4 more) read_sessions_text
+unfolding understood everything
+sessions_second more = (refl, (refl, refl), refl)
+
+pub sessions_read : (v : Version) (schema : Schema) → IsSchemaOf v schema → reads 4 four by_place session_names schema read_sessions_text
+sessions_read First schema is = subst (λ s. reads 4 four by_place session_names s read_sessions_text) (sym is) sessions_first
+sessions_read Second schema is = subst (λ s. reads 4 four by_place session_names s read_sessions_text) (sym is) (sessions_second (others_in schema))
+
+notices_second : (more : Schema) → reads 7 four by_two notice_names (behind schema_4 more) read_notices_text
+unfolding understood everything
+notices_second more = (refl, (refl, refl), refl)
+
+pub notices_read : (schema : Schema) → IsSchemaOf Second schema → reads 7 four by_two notice_names schema read_notices_text
+notices_read schema is = subst (λ s. reads 7 four by_two notice_names s read_notices_text) (sym is) (notices_second (others_in schema))

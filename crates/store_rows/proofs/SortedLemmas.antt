@@ -1,10 +1,10 @@
 -- What a list in rising order has after an element is put, and that its elements decide it.
-use Rattle.std.proofs.Common.{◌≡◌, ◌⊎◌, ℕ, ◌<◌, Bool, true, false, cond, not, List, [], ◌∷◌, IsTrue, refl, sym, ◌∙◌, ap, ap₂, subst, inl, inr, arith, filter}
+use Rattle.std.proofs.Common.{◌≡◌, ◌⊎◌, Bool, true, false, cond, not, List, [], ◌∷◌, IsTrue, refl, sym, ◌∙◌, ap₂, inl, inr, filter}
 use Rattle.std.specs.List.{AllByRecursion}
 use Rattle.std.proofs.lemmas.Bool.{cases_Bool, both_ways}
 use Rattle.sqlite_rules.specs.Lists.{Has}
-use Rattle.sqlite_rules.proofs.ListLemmas.{all_has, all_from, has_filtered, has_kept}
-use Rattle.store_rows.specs.Sorted.{IsRising, put, put_all}
+use Rattle.sqlite_rules.proofs.ListLemmas.{all_has, all_from, has_filtered}
+use Rattle.store_rows.specs.Sorted.{IsRising, put}
 
 -- an order by places: it is strict, and two elements of one place are before the same
 pub record IsOrder {X : Type 0} (before : X → X → Bool) : Type 0 where

@@ -6,13 +6,15 @@ use Rattle.sqlite_value.specs.Order.{Row, column}
 use Rattle.sqlite_trees.specs.Tree.{Trees, IsTable, rowid}
 use Rattle.sqlite_trees.specs.View.{is_int}
 use Rattle.sqlite_trees.specs.declared.store.Store.{Ghosts}
+use Rattle.sqlite_schema.specs.declared.schema.Schema.{Schema}
+use Rattle.sqlite_catalog.specs.Change.{KeepsRows}
 use Rattle.sqlite_rules.specs.Lists.{Has}
 use Rattle.sqlite.specs.Effect.{Database, IsDatabase}
-use Rattle.sqlite.specs.State.{State, HasCleanDisk}
+use Rattle.sqlite.specs.State.{HasCleanDisk}
 use Rattle.sqlite.specs.Held.{Held, state}
 use Rattle.store_schema.specs.declared.Version.{Version}
 use Rattle.store_schema.specs.declared.Version.TheVariants.{First, Second}
-use Rattle.store_schema.specs.Tables.{no_schema, schema_of, meta_tree, cells_tree, sessions_tree, notices_tree}
+use Rattle.store_schema.specs.Tables.{AreBehind, IsSchemaOf, others_in, no_schema, meta_tree, cells_tree, sessions_tree, notices_tree}
 use Rattle.store_rows.specs.declared.content.StoredCell.{StoredCell}
 use Rattle.store_rows.specs.declared.content.StoredSession.{StoredSession}
 use Rattle.store_rows.specs.declared.content.StoredNotice.{StoredNotice}
@@ -49,8 +51,11 @@ abbrev pub HoldsNotices : Version → List StoredNotice → List Row → Type 0
 HoldsNotices First notices rows = notices ≡ []
 HoldsNotices Second notices rows = HoldsRows notice_row notices rows
 
+-- A database has the tables of a version with such rows; behind those of the second version there may be other tables,
+-- indexes and views, which leave them alone.
 pub record HoldsParts (p : Parts) (d : Database) : Type 0 where
-  pub schema : d.schema ≡ schema_of p.tables
+  pub schema : IsSchemaOf p.tables d.schema
+  pub apart : AreBehind (others_in d.schema)
   pub sound : IsDatabase d
   pub rows : IsTable (d.trees meta_tree)
   pub numbered : AllByRecursion (λ r. IsTrue (is_int (rowid r))) (d.trees meta_tree)
@@ -81,13 +86,22 @@ parts_of it = record { tables = it.version; marks = marks_of it; cells = it.cell
 abbrev pub IsStoreOf : Database → Stored → Type 0
 IsStoreOf d it = HoldsParts (parts_of it) d
 
--- trees, with the schema of its version, are a store with this content
+-- trees, with the schema that they list, are a store with this content
 abbrev pub Holds : Stored → Trees → Type 0
-Holds it trees = IsStoreOf (record { schema = schema_of it.version; trees = trees }) it
+Holds it trees = (schema : Schema) × IsStoreOf (record { schema = schema; trees = trees }) it
 
 -- trees without a table are a database
 abbrev pub HoldsNothing : Trees → Type 0
 HoldsNothing trees = IsDatabase (record { schema = no_schema; trees = trees })
+
+-- a database has these other tables, indexes and views behind those of a store, and the tables have these rows
+pub record HasBeside (o d : Database) : Type 0 where
+  pub schema : others_in d.schema ≡ o.schema
+  pub rows : KeepsRows o.schema.tables o.trees d.trees
+
+-- the same of trees, with the schema that they list
+abbrev pub HoldsBeside : Database → Trees → Type 0
+HoldsBeside o trees = (schema : Schema) × (IsDatabase (record { schema = schema; trees = trees }) × HasBeside o (record { schema = schema; trees = trees }))
 
 module _ {S : Type 0} (g : Ghosts S) (c : Held S) where
   -- whatever a crash at this moment leaves is like this
@@ -109,3 +123,7 @@ module _ {S : Type 0} (g : Ghosts S) (c : Held S) where
   -- whatever a crash at this moment leaves is a database without tables, or a store with this content
   abbrev pub KeepsNothingOr : Stored → Type 0
   KeepsNothingOr it = Leaves (λ db. HoldsNothing db ⊎ Holds it db)
+
+  -- whatever a crash at this moment leaves has these other tables beside a store's own, with these rows
+  abbrev pub KeepsBeside : Database → Type 0
+  KeepsBeside o = Leaves (HoldsBeside o)

@@ -5,6 +5,7 @@ use Rattle.sqlite_catalog.specs.Change.{next_tree, KeepsRows}
 use Rattle.sqlite_rules.specs.Lists.{Has}
 use Rattle.sqlite.specs.Effect.{Database, IsDatabase}
 use Rattle.sqlite.specs.State.{State}
+use Rattle.store_schema.specs.Tables.{others_in}
 use Rattle.store_schema.specs.declared.Version.TheVariants.{Second}
 use Rattle.store_rows.specs.declared.content.StoredCell.{StoredCell}
 use Rattle.store_rows.specs.declared.content.StoredNotice.{StoredNotice}
@@ -14,7 +15,7 @@ use Rattle.store_rows.specs.declared.content.SessionEdit.TheVariants.{Put, Dropp
 use Rattle.store_rows.specs.Rows.{cell_before, notice_before, session_before}
 use Rattle.store_rows.specs.Sorted.{put, put_all}
 use Rattle.store_rows.specs.Changes.{without, edited}
-use Rattle.store_rows.specs.Holding.{Mark, Parts, HoldsParts, set_mark}
+use Rattle.store_rows.specs.Holding.{Mark, Parts, HoldsParts, HasBeside, set_mark}
 
 -- statements inside a transaction change what it sees, in this way, and commit nothing
 pub record Goes (old new : State) (Effect : Database → Database → Type 0) : Type 0 where
@@ -33,9 +34,17 @@ pub record HasMade (before after : Schema) (old new : Database) : Type 0 where
 abbrev pub Makes : Schema → Schema → Database → Database → Type 0
 Makes before after a b = a.schema ≡ before → HasMade before after a b
 
--- a store of the second version whose parts fit has other parts then
+-- what a database has behind the tables of a store
+abbrev pub beside : Database → Database
+beside d = record { schema = others_in d.schema; trees = d.trees }
+
+-- what stands behind the store's own tables stays as it was: the same tables, indexes and views, and the rows of the tables
+abbrev pub SparesBeside : Database → Database → Type 0
+SparesBeside a b = HasBeside (beside a) b
+
+-- a store of the second version whose parts fit has other parts then, and what stands behind its tables stays as it was
 abbrev pub Brings : (Parts → Type 0) → (Parts → Parts) → Database → Database → Type 0
-Brings Fits f a b = (p : Parts) → p.tables ≡ Second → Fits p → HoldsParts p a → HoldsParts (f p) b
+Brings Fits f a b = (p : Parts) → p.tables ≡ Second → Fits p → HoldsParts p a → HoldsParts (f p) b × SparesBeside a b
 
 -- all parts fit
 abbrev pub Any : Parts → Type 0

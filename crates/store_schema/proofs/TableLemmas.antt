@@ -1,15 +1,16 @@
 -- The texts define the tables, and the schemas come of making them in turn.
-use Rattle.std.proofs.Common.{◌≡◌, ℕ, Ok, refl, arith, [], ◌∷◌}
+use Rattle.std.proofs.Common.{◌≡◌, Ok, refl, arith, [], ◌∷◌}
 use Rattle.std.specs.Fmt.{decimal}
 use Rattle.std.proofs.lemmas.Fmt.{decimal_digit}
 use Rattle.sqlite_resolve.specs.Compile.{table_defined_by}
 use Rattle.sqlite_catalog.specs.Change.{created}
 use Rattle.sqlite_tied.specs.Compute.{everything}
 use Rattle.sqlite_schema.specs.Names.{same_name}
+use Rattle.sqlite_schema.specs.declared.schema.Schema.{Schema}
 use Rattle.store_schema.specs.declared.Version.TheVariants.{First, Second}
 use Rattle.store_schema.specs.declared.Found.TheVariants.{Blank, Store}
 use Rattle.store_schema.specs.Texts.{create_meta, create_cells, create_sessions, create_notices}
-use Rattle.store_schema.specs.Tables.{meta_table, cells_table, sessions_table, notices_table, no_schema, schema_1, schema_2, schema_3, schema_4, schema_of}
+use Rattle.store_schema.specs.Tables.{meta_table, cells_table, sessions_table, notices_table, no_schema, schema_1, schema_2, schema_3, schema_4, schema_of, behind}
 use Rattle.store_schema.specs.Found.{found_in}
 
 pub meta_defined : table_defined_by create_meta ≡ Ok meta_table
@@ -50,9 +51,9 @@ pub found_first : found_in (schema_of First) ≡ Store First
 unfolding same_name
 found_first = refl
 
-pub found_second : found_in (schema_of Second) ≡ Store Second
+pub found_second : (more : Schema) → found_in (behind schema_4 more) ≡ Store Second
 unfolding same_name
-found_second = refl
+found_second more = refl
 
 pub found_blank : found_in no_schema ≡ Blank
 unfolding same_name

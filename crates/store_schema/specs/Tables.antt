@@ -1,5 +1,6 @@
 -- The tables of a store, as their texts define them, and the schema of each version.
-use Rattle.std.specs.Prelude.{ℕ, Bool, true, false, List, [], ◌∷◌, ◌++◌, None, Option, codes, pos}
+use Rattle.std.specs.Prelude.{◌≡◌, ℕ, ◌≤◌, Bool, true, false, ◌||◌, List, [], ◌∷◌, ◌++◌, drop, None, codes, pos}
+use Rattle.std.specs.List.{AllByRecursion}
 use Rattle.sqlite_value.specs.declared.value.Value.TheVariants.{Null, Int}
 use Rattle.sqlite_value.specs.declared.keys.Collation.TheVariants.{Binary}
 use Rattle.sqlite_value.specs.Keys.{plain}
@@ -12,6 +13,7 @@ use Rattle.sqlite_schema.specs.declared.schema.Column.{Column}
 use Rattle.sqlite_schema.specs.declared.schema.Table.{Table}
 use Rattle.sqlite_schema.specs.declared.schema.Index.{Index}
 use Rattle.sqlite_schema.specs.declared.schema.Schema.{Schema}
+use Rattle.sqlite_schema.specs.Names.{same_name}
 use Rattle.store_schema.specs.declared.Version.{Version}
 use Rattle.store_schema.specs.declared.Version.TheVariants.{First, Second}
 
@@ -120,3 +122,43 @@ schema_4 = record {
 abbrev pub schema_of : Version → Schema
 schema_of First = schema_3
 schema_of Second = schema_4
+
+-- ---- other tables beside a store's own
+
+-- a schema with another one behind it
+abbrev pub behind : Schema → Schema → Schema
+behind own more = record { tables = own.tables ++ more.tables; indexes = own.indexes ++ more.indexes; views = own.views ++ more.views }
+
+-- what a schema has behind the four tables of a store and their indexes
+abbrev pub others_in : Schema → Schema
+others_in schema = record { tables = drop 4 schema.tables; indexes = drop 5 schema.indexes; views = schema.views }
+
+-- A schema is that of a version. One of the second may have other tables, indexes and views behind its own, as
+-- those are that were made later.
+abbrev pub IsSchemaOf : Version → Schema → Type 0
+IsSchemaOf First schema = schema ≡ schema_3
+IsSchemaOf Second schema = schema ≡ behind schema_4 (others_in schema)
+
+-- a name of a store's table, whatever the case of its letters
+abbrev pub is_own_name : List ℕ → Bool
+is_own_name name = same_name (codes "meta") name || (same_name (codes "cells") name || (same_name (codes "sessions") name || same_name (codes "notices") name))
+
+-- the first tree that is none of a store's
+abbrev pub first_other_tree : ℕ
+first_other_tree = 9
+
+-- the foreign keys of a table refer to no table of a store
+abbrev pub ReferElsewhere : Table → Type 0
+ReferElsewhere table = AllByRecursion (λ ref. is_own_name ref.parent ≡ false) table.references
+
+-- Other tables and indexes leave those of a store alone: they have trees of their own, no index is on a table of the
+-- store, and no foreign key refers to one.
+pub record AreBehind (more : Schema) : Type 0 where
+  pub trees : AllByRecursion (λ t. first_other_tree ≤ t.tree) more.tables
+  pub indexes : AllByRecursion (λ i. first_other_tree ≤ i.table) more.indexes
+  pub references : AllByRecursion ReferElsewhere more.tables
+
+-- a store of the second version, with other tables that leave its own alone
+pub record HasOthers (schema : Schema) : Type 0 where
+  pub own : IsSchemaOf Second schema
+  pub apart : AreBehind (others_in schema)

@@ -4,6 +4,10 @@
 ghost use Rattle.std.specs.Prelude.{◌≡◌, codes};
 ghost use Rattle.store_schema.specs.Found.{has_columns, presence_of, found_by, found_in};
 
+pub use laws::behind_law;
+
+mod laws;
+
 use sqlite_schema::schema::{Schema, Table};
 
 /// The versions of a store: the first has the tables `meta`, `cells` and `sessions`, the second `notices` besides.

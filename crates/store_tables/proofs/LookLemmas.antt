@@ -21,14 +21,13 @@ use Rattle.store_rows.specs.Rows.{cell_before, session_before, notice_before}
 use Rattle.store_rows.specs.Texts.{read_marks_text, read_cells_text, read_sessions_text, read_notices_text}
 use Rattle.sqlite_sql.specs.Term.{eval_all}
 use Rattle.sqlite.specs.State.{State, Shown}
-use Rattle.sqlite.specs.Listing.{understood}
-use Rattle.sqlite.proofs.Callers.{IsPlain}
 use Rattle.store_schema.specs.declared.Version.{Version}
 use Rattle.store_schema.specs.declared.Version.TheVariants.{First, Second}
 use Rattle.store_schema.specs.declared.Found.TheVariants.{Store}
 use Rattle.store_schema.specs.Found.{found_in}
 use Rattle.store_schema.proofs.TableLemmas.{found_first, found_second}
-use Rattle.store_schema.specs.Tables.{schema_of}
+use Rattle.sqlite_schema.specs.declared.schema.Schema.{Schema}
+use Rattle.store_schema.specs.Tables.{IsSchemaOf, others_in}
 use Rattle.store_rows.proofs.SelectLemmas.{two, mark_names, marks_read, three, four, by_two, by_place, cell_names, session_names, notice_names, cells_read, sessions_read, notices_read}
 use Rattle.store_rows.proofs.ContentLemmas.{cells_ordered, sessions_ordered, notices_ordered, notices_of}
 use Rattle.store_rows.specs.Sorted.{IsRising}
@@ -116,35 +115,31 @@ notice_shown [] x h = absurd (cc)
 notice_shown (v ∷ r) x h = rw h
 
 module _ (old new : State) (p : Parts) (h : HoldsParts p old.now) (rows : List Row) where
-  plain_here : (text : List ℕ) → IsPlain (understood (schema_of p.tables) text) → IsPlain (understood old.now.schema text)
-  plain_here text = subst (λ s. IsPlain (understood s text)) (sym h.schema)
-
   pub cells_shown : (found : List StoredCell) → Shown read_cells_text [] old new rows → map cell_row found ≡ rows → is_chain cell_before found ≡ true → (found ≡ p.cells) × (new.now ≡ old.now)
   cells_shown found shown same chain =
-      let r = cells_read p.tables in (
+      let r = cells_read p.tables old.now.schema h.schema in (
         items_are cell_before cells_ordered cell_row one_cell p.cells found (old.now.trees 2) rows h.cells h.cells_rise
-            (λ y k. let it = shown_has read_cells_text old new (schema_of p.tables) h.schema 2 three by_two cell_names r.0 r.1 r.2 rows shown y k in (it.0, it.1, λ x e. it.2 ∙ cell_shown it.0 x e))
-            (λ s x k e. subst (Has rows) (cell_shown s x e) (has_shown read_cells_text old new (schema_of p.tables) h.schema 2 three by_two cell_names r.0 r.1 r.2 rows shown s k)) same chain,
-        (shown_same read_cells_text [] old new rows (plain_here read_cells_text r.1) shown).0.now_is,
+            (λ y k. let it = shown_has read_cells_text old new old.now.schema refl 2 three by_two cell_names r.0 r.1 r.2 rows shown y k in (it.0, it.1, λ x e. it.2 ∙ cell_shown it.0 x e))
+            (λ s x k e. subst (Has rows) (cell_shown s x e) (has_shown read_cells_text old new old.now.schema refl 2 three by_two cell_names r.0 r.1 r.2 rows shown s k)) same chain,
+        (shown_same read_cells_text [] old new rows r.1 shown).0.now_is,
       )
 
   pub sessions_shown : (found : List StoredSession) → Shown read_sessions_text [] old new rows → map session_row found ≡ rows → is_chain session_before found ≡ true → (found ≡ p.sessions) × (new.now ≡ old.now)
   sessions_shown found shown same chain =
-      let r = sessions_read p.tables in (
+      let r = sessions_read p.tables old.now.schema h.schema in (
         items_are session_before sessions_ordered session_row one_session p.sessions found (old.now.trees 4) rows h.sessions h.sessions_rise
-            (λ y k. let it = shown_has read_sessions_text old new (schema_of p.tables) h.schema 4 four by_place session_names r.0 r.1 r.2 rows shown y k in (it.0, it.1, λ x e. it.2 ∙ session_shown it.0 x e))
-            (λ s x k e. subst (Has rows) (session_shown s x e) (has_shown read_sessions_text old new (schema_of p.tables) h.schema 4 four by_place session_names r.0 r.1 r.2 rows shown s k)) same chain,
-        (shown_same read_sessions_text [] old new rows (plain_here read_sessions_text r.1) shown).0.now_is,
+            (λ y k. let it = shown_has read_sessions_text old new old.now.schema refl 4 four by_place session_names r.0 r.1 r.2 rows shown y k in (it.0, it.1, λ x e. it.2 ∙ session_shown it.0 x e))
+            (λ s x k e. subst (Has rows) (session_shown s x e) (has_shown read_sessions_text old new old.now.schema refl 4 four by_place session_names r.0 r.1 r.2 rows shown s k)) same chain,
+        (shown_same read_sessions_text [] old new rows r.1 shown).0.now_is,
       )
 
   pub notices_shown : p.tables ≡ Second → (found : List StoredNotice) → Shown read_notices_text [] old new rows → map notice_row found ≡ rows → is_chain notice_before found ≡ true → (found ≡ p.notices) × (new.now ≡ old.now)
   notices_shown second found shown same chain =
-      let r = notices_read in
-      let has = h.schema ∙ ap schema_of second in (
+      let r = notices_read old.now.schema (subst (λ v. IsSchemaOf v old.now.schema) second h.schema) in (
         items_are notice_before notices_ordered notice_row one_notice p.notices found (old.now.trees 7) rows (notices_of p (old.now.trees 7) second h.notices) h.notices_rise
-            (λ y k. let it = shown_has read_notices_text old new (schema_of Second) has 7 four by_two notice_names r.0 r.1 r.2 rows shown y k in (it.0, it.1, λ x e. it.2 ∙ notice_shown it.0 x e))
-            (λ s x k e. subst (Has rows) (notice_shown s x e) (has_shown read_notices_text old new (schema_of Second) has 7 four by_two notice_names r.0 r.1 r.2 rows shown s k)) same chain,
-        (shown_same read_notices_text [] old new rows (subst (λ s. IsPlain (understood s read_notices_text)) (sym has) r.1) shown).0.now_is,
+            (λ y k. let it = shown_has read_notices_text old new old.now.schema refl 7 four by_two notice_names r.0 r.1 r.2 rows shown y k in (it.0, it.1, λ x e. it.2 ∙ notice_shown it.0 x e))
+            (λ s x k e. subst (Has rows) (notice_shown s x e) (has_shown read_notices_text old new old.now.schema refl 7 four by_two notice_names r.0 r.1 r.2 rows shown s k)) same chain,
+        (shown_same read_notices_text [] old new rows r.1 shown).0.now_is,
       )
 
 -- ---- marks
@@ -172,10 +167,10 @@ module _ (rows shown : List Row) (from : (y : Row) → Has shown y → (r : Row)
 
 pub marks_shown : (old new : State) (p : Parts) (h : HoldsParts p old.now) (rows : List Row) → Shown read_marks_text [] old new rows → AllByRecursion (TellsMark rows) p.marks × (new.now ≡ old.now)
 marks_shown old new p h rows shown =
-    let r = marks_read p.tables in (
-      marks_told (old.now.trees 0) rows (shown_has read_marks_text old new (schema_of p.tables) h.schema 0 two [] mark_names r.0 r.1 r.2 rows shown)
-          (has_shown read_marks_text old new (schema_of p.tables) h.schema 0 two [] mark_names r.0 r.1 r.2 rows shown) p.marks h.marks,
-      (shown_same read_marks_text [] old new rows (subst (λ s. IsPlain (understood s read_marks_text)) (sym h.schema) r.1) shown).0.now_is,
+    let r = marks_read p.tables old.now.schema h.schema in (
+      marks_told (old.now.trees 0) rows (shown_has read_marks_text old new old.now.schema refl 0 two [] mark_names r.0 r.1 r.2 rows shown)
+          (has_shown read_marks_text old new old.now.schema refl 0 two [] mark_names r.0 r.1 r.2 rows shown) p.marks h.marks,
+      (shown_same read_marks_text [] old new rows r.1 shown).0.now_is,
     )
 
 -- two facts of an answer together
@@ -235,6 +230,6 @@ if_ok_given P (Ok x) f h = f h
 if_ok_given P (Err e) f h = tt
 
 -- the schema of a version is found to be that of a store of the version
-pub found_store : (v : Version) → found_in (schema_of v) ≡ Store v
-found_store First = found_first
-found_store Second = found_second
+pub found_store : (v : Version) (schema : Schema) → IsSchemaOf v schema → found_in schema ≡ Store v
+found_store First schema is = ap found_in is ∙ found_first
+found_store Second schema is = ap found_in is ∙ found_second (others_in schema)

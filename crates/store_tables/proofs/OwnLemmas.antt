@@ -1,5 +1,5 @@
 -- A look at a store of its own finds what it looks for: each row is that of an item, and the items rise.
-use Rattle.std.proofs.Common.{◌≡◌, ℕ, pos, negsuc, Bool, true, false, not, ◌&&◌, ◌||◌, ◌==◌, nat_lt, cond, if◌then◌else◌, List, [], ◌∷◌, map, drop, All, refl, sym, ap, ap₂, subst, ◌∙◌, arith, is_lt}
+use Rattle.std.proofs.Common.{◌≡◌, ℕ, pos, negsuc, Bool, true, false, not, ◌&&◌, ◌||◌, ◌==◌, nat_lt, cond, if◌then◌else◌, List, [], ◌∷◌, map, drop, All, refl, sym, ap₂, subst, ◌∙◌, arith, is_lt}
 use Rattle.std.proofs.lemmas.Bool.{both_ways}
 use Rattle.std.proofs.lemmas.Bool.Decides.{nat_tests}
 use Rattle.std.proofs.lemmas.List.Elements.{recursion_from_All}
@@ -19,7 +19,8 @@ use Rattle.sqlite.specs.Effect.{IsDatabase}
 use Rattle.sqlite.specs.State.{State, Shown}
 use Rattle.store_schema.specs.declared.Version.{Version}
 use Rattle.store_schema.specs.declared.Version.TheVariants.{First, Second}
-use Rattle.store_schema.specs.Tables.{schema_of}
+use Rattle.sqlite_schema.specs.declared.schema.Schema.{Schema}
+use Rattle.store_schema.specs.Tables.{IsSchemaOf, behind, others_in, schema_3, schema_4}
 use Rattle.store_rows.specs.declared.content.Stage.{Stage}
 use Rattle.store_rows.specs.declared.content.Stage.TheVariants.{Reader, Waiting, Writer}
 use Rattle.store_rows.specs.declared.content.StoredCell.{StoredCell}
@@ -155,42 +156,49 @@ quiet : (b more : Bool) → (not b && more) ≡ true → b ≡ false
 quiet true more h = absurd (both_ways _ refl h)
 quiet false more h = refl
 
-cells_clear : (v : Version) (db : Trees) → IsDatabase (record { schema = schema_of v; trees = db }) → (r : Row) → Has (db 2) r → clashes plain (1 ∷ 2 ∷ []) (db 2) r ≡ false
-cells_clear First db sound r h = quiet _ _ (all_has _ (db 2) r (sound.obeys.rules Unique).1.0 h)
-cells_clear Second db sound r h = quiet _ _ (all_has _ (db 2) r (sound.obeys.rules Unique).1.0 h)
+-- a schema of a version and a database of it, by the schema that is written out
+of_version : (schema : Schema) (db : Trees) (P : Type 0) → (v : Version) → IsSchemaOf v schema → IsDatabase (record { schema = schema; trees = db }) → (IsDatabase (record { schema = schema_3; trees = db }) → P)
+    → ((more : Schema) → IsDatabase (record { schema = behind schema_4 more; trees = db }) → P) → P
+of_version schema db P First is sound first second = first (subst (λ s. IsDatabase (record { schema = s; trees = db })) is sound)
+of_version schema db P Second is sound first second = second (others_in schema) (subst (λ s. IsDatabase (record { schema = s; trees = db })) is sound)
 
-sessions_clear : (v : Version) (db : Trees) → IsDatabase (record { schema = schema_of v; trees = db }) → (r : Row) → Has (db 4) r → clashes plain (4 ∷ []) (db 4) r ≡ false
-sessions_clear First db sound r h = quiet _ _ (all_has _ (db 4) r (sound.obeys.rules Unique).1.1.0 h)
-sessions_clear Second db sound r h = quiet _ _ (all_has _ (db 4) r (sound.obeys.rules Unique).1.1.0 h)
+cells_clear : (v : Version) (schema : Schema) (db : Trees) → IsSchemaOf v schema → IsDatabase (record { schema = schema; trees = db }) → (r : Row) → Has (db 2) r → clashes plain (1 ∷ 2 ∷ []) (db 2) r ≡ false
+cells_clear v schema db is sound r h =
+    of_version schema db (clashes plain (1 ∷ 2 ∷ []) (db 2) r ≡ false) v is sound
+    (λ found. quiet _ _ (all_has _ (db 2) r (found.obeys.rules Unique).1.0 h)) (λ more found. quiet _ _ (all_has _ (db 2) r (found.obeys.rules Unique).1.0 h))
 
-notices_clear : (db : Trees) → IsDatabase (record { schema = schema_of Second; trees = db }) → (r : Row) → Has (db 7) r → clashes plain (1 ∷ 2 ∷ []) (db 7) r ≡ false
-notices_clear db sound r h = quiet _ _ (all_has _ (db 7) r (sound.obeys.rules Unique).1.1.1.0 h)
+sessions_clear : (v : Version) (schema : Schema) (db : Trees) → IsSchemaOf v schema → IsDatabase (record { schema = schema; trees = db }) → (r : Row) → Has (db 4) r → clashes plain (4 ∷ []) (db 4) r ≡ false
+sessions_clear v schema db is sound r h =
+    of_version schema db (clashes plain (4 ∷ []) (db 4) r ≡ false) v is sound
+    (λ found. quiet _ _ (all_has _ (db 4) r (found.obeys.rules Unique).1.1.0 h)) (λ more found. quiet _ _ (all_has _ (db 4) r (found.obeys.rules Unique).1.1.0 h))
+
+notices_clear : (schema : Schema) (db : Trees) → IsSchemaOf Second schema → IsDatabase (record { schema = schema; trees = db }) → (r : Row) → Has (db 7) r → clashes plain (1 ∷ 2 ∷ []) (db 7) r ≡ false
+notices_clear schema db is sound r h =
+    let found = subst (λ s. IsDatabase (record { schema = s; trees = db })) is sound in
+    quiet _ _ (all_has _ (db 7) r (found.obeys.rules Unique).1.1.1.0 h)
 
 -- ---- the statements
 
 module _ (old new : State) (p : Parts) (h : HoldsParts p old.now) (rows : List Row) where
-  sound_as : IsDatabase (record { schema = schema_of p.tables; trees = old.now.trees })
-  sound_as = subst (λ s. IsDatabase (record { schema = s; trees = old.now.trees })) h.schema h.sound
-
   pub cells_own : Shown read_cells_text [] old new rows → All IsCellInRange p.cells → IsOwn cell_row one_cell cell_before IsCellInRange rows
   cells_own shown fit =
-      let r = cells_read p.tables in
+      let r = cells_read p.tables old.now.schema h.schema in
       own_of cell_row one_cell cell_before IsCellInRange p.cells fit rows
       (items_shown cell_row cell_before cells_ordered cell_of cell_back (1 ∷ 2 ∷ []) three by_two cell_shown cells_agree cells_sort 2 (overlay old.now.trees []) rows
-      (answer read_cells_text old new (schema_of p.tables) h.schema 2 three by_two cell_names r.0 r.1 r.2 rows shown) p.cells h.cells (cells_clear p.tables old.now.trees sound_as))
+      (answer read_cells_text old new old.now.schema refl 2 three by_two cell_names r.0 r.1 r.2 rows shown) p.cells h.cells (cells_clear p.tables old.now.schema old.now.trees h.schema h.sound))
 
   pub sessions_own : Shown read_sessions_text [] old new rows → All IsSessionInRange p.sessions → IsOwn session_row one_session session_before IsSessionInRange rows
   sessions_own shown fit =
-      let r = sessions_read p.tables in
+      let r = sessions_read p.tables old.now.schema h.schema in
       own_of session_row one_session session_before IsSessionInRange p.sessions fit rows
       (items_shown session_row session_before sessions_ordered session_of session_back (4 ∷ []) four by_place session_shown sessions_agree sessions_sort 4 (overlay old.now.trees []) rows
-      (answer read_sessions_text old new (schema_of p.tables) h.schema 4 four by_place session_names r.0 r.1 r.2 rows shown) p.sessions h.sessions (sessions_clear p.tables old.now.trees sound_as))
+      (answer read_sessions_text old new old.now.schema refl 4 four by_place session_names r.0 r.1 r.2 rows shown) p.sessions h.sessions (sessions_clear p.tables old.now.schema old.now.trees h.schema h.sound))
 
   pub notices_own : p.tables ≡ Second → Shown read_notices_text [] old new rows → All IsNoticeInRange p.notices → IsOwn notice_row one_notice notice_before IsNoticeInRange rows
   notices_own second shown fit =
-      let r = notices_read in
-      let has = h.schema ∙ ap schema_of second in
+      let has = subst (λ v. IsSchemaOf v old.now.schema) second h.schema in
+      let r = notices_read old.now.schema has in
       own_of notice_row one_notice notice_before IsNoticeInRange p.notices fit rows
       (items_shown notice_row notice_before notices_ordered notice_of notice_back (1 ∷ 2 ∷ []) four by_two notice_shown notices_agree notices_sort 7 (overlay old.now.trees []) rows
-      (answer read_notices_text old new (schema_of Second) has 7 four by_two notice_names r.0 r.1 r.2 rows shown) p.notices (notices_of p (old.now.trees 7) second h.notices)
-      (notices_clear old.now.trees (subst (λ v. IsDatabase (record { schema = schema_of v; trees = old.now.trees })) second sound_as)))
+      (answer read_notices_text old new old.now.schema refl 7 four by_two notice_names r.0 r.1 r.2 rows shown) p.notices (notices_of p (old.now.trees 7) second h.notices)
+      (notices_clear old.now.schema old.now.trees has h.sound))

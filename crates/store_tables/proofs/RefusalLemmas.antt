@@ -1,8 +1,7 @@
 -- Why a call that only reads is refused, other than for want of memory.
-use Rattle.std.proofs.Common.{◌≡◌, ◌≢◌, ◌⊎◌, ◌≤◌, inl, inr, ℕ, Bool, true, false, List, [], length, append-nil, Option, Some, None, IsSome, Result, Ok, Err, OnOk, IsTrue, ◌↔◌, refl, sym, ap, subst, subst₂, ◌∙◌, arith}
+use Rattle.std.proofs.Common.{◌≡◌, ◌≢◌, ◌⊎◌, ◌≤◌, inl, inr, ℕ, Bool, true, false, List, [], length, Option, IsSome, Result, Ok, Err, OnOk, ◌↔◌, refl, sym, ap, subst, subst₂, ◌∙◌, arith}
 use Rattle.std.proofs.lemmas.Bool.{cases_Bool, both_ways}
 use Rattle.sqlite_rules.proofs.ListLemmas.{any_has}
-use Rattle.sqlite_disk.specs.Disk.{MoreFaults}
 use Rattle.sqlite_value.specs.Order.{Row}
 use Rattle.sqlite_value.specs.declared.keys.Key.{Key}
 use Rattle.sqlite_trees.specs.declared.error.StoreError.{StoreError}
@@ -13,6 +12,8 @@ use Rattle.std.specs.Coded.{Coded-set}
 use Rattle.sqlite_schema.specs.declared.schema.Schema.{Schema}
 use Rattle.sqlite_schema.specs.contracts.schema.Schema.{the_row}
 use Rattle.store_schema.specs.declared.Version.{Version}
+use Rattle.store_schema.specs.declared.Version.TheVariants.{First, Second}
+use Rattle.store_schema.specs.Tables.{IsSchemaOf, behind, others_in, schema_3, schema_4}
 use Rattle.store_schema.specs.declared.Found.TheVariants.{Blank, Store, Other}
 use Rattle.sqlite_schema.specs.declared.command.Command.{Command}
 use Rattle.sqlite_schema.specs.declared.command.Command.TheVariants.{Select}
@@ -21,16 +22,16 @@ use Rattle.sqlite_resolve.specs.declared.compiled.Compiled.{Compiled}
 use Rattle.sqlite_resolve.specs.declared.error.CompileError.{CompileError}
 use Rattle.sqlite_typing.specs.Types.{accepts_program}
 use Rattle.sqlite.specs.declared.error.Error.{Error}
-use Rattle.sqlite.specs.declared.error.Error.TheVariants.{SqliteFailure}
+use Rattle.sqlite.specs.declared.error.Error.TheVariants.{MultipleStatement, SqliteFailure}
 use Rattle.sqlite.specs.declared.error.ErrorCode.TheVariants.{OutOfMemory}
 use Rattle.sqlite.specs.Effect.{Database, RefusesToRead}
-use Rattle.sqlite.specs.State.{State, HasCleanDisk, Survives, IsNotRun, IsNoStatement, Fails, FailsToQuery, FailsToShow, IsTooLate, IsStatement, Shown}
+use Rattle.sqlite.specs.State.{State, HasCleanDisk, IsUnchanged, Survives, IsNotRun, IsNoStatement, Fails, FailsToQuery, FailsToShow, IsTooLate, IsStatement, Shown}
 use Rattle.sqlite.specs.Listing.{understood, reads_listing, IsSourceOf}
 use Rattle.sqlite.specs.Clock.{timed}
 use Rattle.sqlite.proofs.Callers.{IsPlain, command_of}
 use Rattle.store_rows.proofs.ReadLemmas.{query_on, shown_same}
 use Rattle.store_rows.proofs.SelectLemmas.{reads}
-use Rattle.store_rows.proofs.RefusalLemmas.{IsWhole}
+use Rattle.store_rows.proofs.RefusalLemmas.{IsBare, IsWhole}
 use Rattle.store_tables.specs.declared.reads.Unread.{Unread}
 use Rattle.store_tables.specs.declared.reads.Unread.TheVariants.{Memory, Failed}
 use Rattle.store_tables.specs.Refusals.{HasRefused}
@@ -80,6 +81,30 @@ module _ (sql : List ℕ) (old new : State) (whole : IsWhole sql (understood old
   pub on_time : (e : Error) → IsTooLate sql [] old new e → ⊥
   on_time e h = absurd (let some = subst (λ (r : Option Returning). IsSome r) (subst IsPlain h.1.is plain).0 h.2 in cc)
 
+-- a text of two statements that is not run for that leaves all as it was
+not_failed : (cause : StoreError) → MultipleStatement ≡ Rattle.sqlite.specs.State.store_error cause → ⊥
+not_failed store.OutOfMemory is = absurd (cc)
+not_failed store.Io is = absurd (cc)
+not_failed store.Corrupt is = absurd (cc)
+not_failed store.Full is = absurd (cc)
+not_failed store.Broken is = absurd (cc)
+not_failed store.Unstorable is = absurd (cc)
+
+pub two_same : (sql : List ℕ) (old new : State) (params : Row) → IsNotRun old new sql params MultipleStatement → IsUnchanged old new
+unfolding IsNotRun
+two_same sql old new params (inl h) = h.1
+two_same sql old new params (inr h) = absurd (not_failed h.0 h.1)
+
+-- and for another reason only where the device refused it
+pub two_refused : (sql : List ℕ) (old new : State) → IsBare (understood old.now.schema sql) → IsPlain (understood old.now.schema sql) → (e : Error) → e ≢ SqliteFailure OutOfMemory → e ≢ MultipleStatement
+    → IsNotRun old new sql [] e → HasRefused old new
+unfolding IsNotRun
+two_refused sql old new bare plain e other alone (inr h) = fails old new e other h
+two_refused sql old new bare plain e other alone (inl (inl (fault, is, same), h)) = absurd (subst IsBare is bare)
+two_refused sql old new bare plain e other alone (inl (inr (c, is, inl (some, same)), h)) = absurd (alone same)
+two_refused sql old new bare plain e other alone (inl (inr (c, is, inr (inl (given, same))), h)) = absurd (given (ap length (sym (subst IsBare is bare))))
+two_refused sql old new bare plain e other alone (inl (inr (c, is, inr (inr (timely, same))), h)) = absurd (timely (subst IsPlain is plain).1)
+
 -- a query on one table, all of whose rows are shown
 module _ (sql : List ℕ) (old new : State) (schema : Schema) (has : old.now.schema ≡ schema) (tree : ℕ) (project : List Term) (order : List (Term × Key)) (names : List (List ℕ))
     (it : reads tree project order names schema sql) (fits : IsWhole sql (understood schema sql) × (accepts_program schema [] (query_on tree [] project order) [] ≡ true)) where
@@ -119,6 +144,9 @@ not_memory u e both is oom = absurd (let m : u ≡ Memory = both.1 oom in let cl
 pub one_error : {A E : Type 0} (r : Result A E) (x y : E) → r ≡ Err x → r ≡ Err y → x ≡ y
 one_error {A} {E} r x y first second = let both = subst (λ (q : Result A E). q ≡ Err y) first second in cc
 
+pub same_error : {A E : Type 0} {x y : E} → ◌≡◌ {A = Result A E} (Err x) (Err y) → x ≡ y
+same_error e = cc
+
 pub all_on_ok : {A E Q : Type 0} (r : Result A E) → Q → OnOk r Q
 all_on_ok (Ok x) h = h
 all_on_ok (Err e) h = tt
@@ -136,3 +164,8 @@ not_blank v is = absurd (cc)
 
 pub not_other : (v : Version) → Store v ≡ Other → ⊥
 not_other v is = absurd (cc)
+
+-- a schema is that of a version in one way
+pub version_once : (v : Version) (schema : Schema) → IsProp (IsSchemaOf v schema)
+version_once First schema = schema_once schema schema_3
+version_once Second schema = schema_once schema (behind schema_4 (others_in schema))

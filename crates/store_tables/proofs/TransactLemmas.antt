@@ -1,5 +1,6 @@
 -- From the statements of a transaction to what it commits.
-use Rattle.std.proofs.Common.{◌≡◌, inl, inr, ℕ, true, false, List, Option, IsTrue, sym, subst, ◌∙◌, arith}
+use Rattle.std.proofs.Common.{◌≡◌, inl, inr, ℕ, true, false, ◌==◌, List, [], ◌∷◌, length, Option, None, IsTrue, refl, sym, ap, subst, ◌∙◌, arith}
+use Rattle.std.proofs.lemmas.Bool.Decides.{nat_tests}
 use Rattle.sqlite_value.specs.Order.{Row}
 use Rattle.sqlite.specs.declared.error.Error.{Error}
 use Rattle.sqlite_trees.specs.declared.store.Store.{Ghosts}
@@ -12,18 +13,36 @@ use Rattle.store_rows.specs.declared.content.StoredCell.{StoredCell}
 use Rattle.store_rows.specs.declared.content.StoredNotice.{StoredNotice}
 use Rattle.store_rows.specs.declared.content.SessionEdit.{SessionEdit}
 use Rattle.store_rows.specs.Changes.{changed}
+use Rattle.store_rows.specs.Rows.{Stored}
 use Rattle.store_rows.specs.Holding.{parts_of}
 use Rattle.store_rows.specs.Steps.{Goes, Brings, Any, HasFreePlace, with_cells, with_notices, with_edit}
+use Rattle.store_rows.proofs.BesideLemmas.{spares_then}
 use Rattle.store_tables.specs.Transacts.{HasCommitted, MayCommit, Turns, Takes}
 
 pub changes_then : (a b c d : Database) (cells : List StoredCell) (notices : List StoredNotice) (edit : Option SessionEdit) → Brings Any (with_cells cells) a b → Brings Any (with_notices notices) b c
     → Brings (λ p. HasFreePlace edit p.sessions) (with_edit edit) c d → Brings (λ p. HasFreePlace edit p.sessions) (λ p. with_edit edit (with_notices notices (with_cells cells p))) a d
 changes_then a b c d cells notices edit one next last p two fits h =
-    last (with_notices notices (with_cells cells p)) two fits (next (with_cells cells p) two tt (one p two tt h))
+    let first = one p two tt h in
+    let second = next (with_cells cells p) two tt first.0 in
+    let third = last (with_notices notices (with_cells cells p)) two fits second.0 in
+    (third.0, spares_then a c d (spares_then a b c first.1 second.1) third.1)
 
 pub changes_turn : (a b : Database) (cells : List StoredCell) (notices : List StoredNotice) (edit : Option SessionEdit)
     → Brings (λ p. HasFreePlace edit p.sessions) (λ p. with_edit edit (with_notices notices (with_cells cells p))) a b → Turns (Takes edit) (changed cells notices edit) a b
 changes_turn a b cells notices edit brings it fits h = brings (parts_of it) fits.second fits.free h
+
+pub none_of : {X : Type 0} (xs : List X) → (length xs == 0) ≡ true → xs ≡ []
+none_of [] h = refl
+none_of (x ∷ xs) h = absurd (let e : length (x ∷ xs) ≡ 0 = grind (arith, nat_tests) in omega (arith, e))
+
+-- a commit of nothing
+changed_by : List StoredCell → List StoredNotice → Option SessionEdit → Stored → Stored
+changed_by = changed
+
+pub nothing_changed : (cells : List StoredCell) (notices : List StoredNotice) (edit : Option SessionEdit) (it : Stored) → cells ≡ [] → notices ≡ [] → edit ≡ None → changed cells notices edit it ≡ it
+unfolding changed_by
+nothing_changed cells notices edit it none few still =
+    ap (λ (x : List StoredCell). changed_by x notices edit it) none ∙ ap (λ (x : List StoredNotice). changed_by [] x edit it) few ∙ ap (λ (x : Option SessionEdit). changed_by [] [] x it) still
 
 module _ {S : Type 0} (g : Ghosts S) (old mid new : Held S) (E F : Database → Database → Type 0) (means : (a b : Database) → E a b → F a b) where
   abbrev begun : State

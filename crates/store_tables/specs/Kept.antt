@@ -1,12 +1,13 @@
 -- What a store over a connection keeps.
 use Rattle.std.specs.Prelude.{◌≡◌, Bool, Option, None, Some}
 use Rattle.sqlite_trees.specs.declared.store.Store.{Ghosts}
+use Rattle.sqlite.specs.Effect.{Database}
 use Rattle.sqlite.specs.State.{HasCleanDisk, Survives}
 use Rattle.sqlite.specs.Held.{Held, state}
 use Rattle.sqlite_schema.specs.declared.schema.Schema.{Schema}
 use Rattle.store_schema.specs.Tables.{no_schema}
 use Rattle.store_rows.specs.Rows.{Stored}
-use Rattle.store_rows.specs.Holding.{Keeps, KeepsEither, KeepsNothing, KeepsNothingOr}
+use Rattle.store_rows.specs.Holding.{Keeps, KeepsBeside, KeepsEither, KeepsNothing, KeepsNothingOr}
 use Rattle.store_tables.specs.Reads.{KeepsAny}
 use Rattle.store_tables.specs.Refusals.{HasRefused}
 use Rattle.store_tables.specs.declared.tables.Tables.{Tables}
@@ -47,6 +48,10 @@ module _ {S : Type 0} {g : Ghosts S} where
   -- whatever a crash at this moment leaves is a database without tables, or a store whose content is such
   abbrev pub KeepsSome : Tables S g → (Stored → Type 0) → Type 0
   KeepsSome t Fits = KeepsAny g t.conn Fits
+
+  -- whatever a crash at this moment leaves has these other tables, indexes and views, and the rows of the tables
+  abbrev pub KeepsOthers : Tables S g → Database → Type 0
+  KeepsOthers t others = KeepsBeside g t.conn others
 
   -- nothing was committed: what a crash leaves now, it could leave before
   abbrev pub CommitsNothing : Tables S g → Tables S g → Type 0

@@ -10,7 +10,7 @@ use Rattle.store_rows.specs.declared.content.SessionEdit.{SessionEdit}
 use Rattle.std.specs.Prelude.{Option}
 use Rattle.store_rows.specs.Rows.{Stored}
 use Rattle.store_rows.specs.Holding.{Parts, HoldsParts, IsStoreOf}
-use Rattle.store_rows.specs.Steps.{HasFreePlace}
+use Rattle.store_rows.specs.Steps.{HasFreePlace, SparesBeside}
 
 -- what a transaction did is committed
 pub record HasCommitted (old new : State) (Effect : Database → Database → Type 0) : Type 0 where
@@ -22,9 +22,9 @@ pub record HasCommitted (old new : State) (Effect : Database → Database → Ty
 abbrev pub MayCommit : State → (Database → Database → Type 0) → Trees → Type 0
 MayCommit old Effect trees = IsTrue old.is_open × (d : Database) × Effect old.now d × (d.trees ≡ trees)
 
--- a store with one content becomes one with another
+-- a store with one content becomes one with another, and what stands behind its tables stays as it was
 abbrev pub Turns : (Stored → Type 0) → (Stored → Stored) → Database → Database → Type 0
-Turns Fits f a b = (it : Stored) → Fits it → IsStoreOf a it → IsStoreOf b (f it)
+Turns Fits f a b = (it : Stored) → Fits it → IsStoreOf a it → IsStoreOf b (f it) × SparesBeside a b
 
 -- a commit asks of the content that it is of the second version and that a session's place is free
 pub record Takes (edit : Option SessionEdit) (it : Stored) : Type 0 where

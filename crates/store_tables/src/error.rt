@@ -1,7 +1,7 @@
-ghost use Rattle.std.specs.Prelude.{◌≡◌, ◌↔◌, IsTrue};
+ghost use Rattle.std.specs.Prelude.{◌≡◌, ◌≢◌, ◌↔◌, IsTrue};
 ghost use Rattle.sqlite.specs.declared.error.Error.TheVariants.{SqliteFailure};
 ghost use Rattle.sqlite.specs.declared.error.ErrorCode.TheVariants.{OutOfMemory};
-ghost use Rattle.store_tables.specs.declared.error.TableError.TheVariants.{Memory};
+ghost use Rattle.store_tables.specs.declared.error.TableError.TheVariants.{BadStore, Memory};
 
 use sqlite::{Error as SqlError, ErrorCode};
 use std::alloc::AllocError;
@@ -34,5 +34,17 @@ impl From<AllocError> for TableError {
 
     fn from(_e: AllocError) -> TableError {
         TableError::Memory
+    }
+}
+
+impl From<SqlError> for TableError {
+    ghost from_gives = { λ e u. (u ≡ Memory ↔ (e ≡ SqliteFailure OutOfMemory)) × (u ≢ BadStore) };
+
+    fn from(error: SqlError) -> TableError {
+        if is_memory(error) {
+            TableError::Memory
+        } else {
+            TableError::StoreFault
+        }
     }
 }

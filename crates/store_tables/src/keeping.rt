@@ -1,55 +1,27 @@
 //! What a connection keeps, over each transaction.
-ghost use Rattle.std.specs.Prelude.{◌≡◌, ◌≢◌, ◌⊎◌, ◌<◌, ◌^◌, ⊤, false, All, None, Some, Ok, Err, IsTrue, IfOk, OnOk, OnErr};
+ghost use Rattle.std.specs.Prelude.{◌≡◌, ◌≢◌, ◌⊎◌, ◌<◌, ◌^◌, ⊤, false, All, None, Some, Ok, Err, IsTrue, IfOk, OnOk};
 ghost use Rattle.sqlite.specs.State.{HasCleanDisk, Survives};
 ghost use Rattle.sqlite.specs.Held.{state};
-ghost use Rattle.sqlite.specs.declared.error.Error.TheVariants.{SqliteFailure};
-ghost use Rattle.sqlite.specs.declared.error.ErrorCode.TheVariants.{OutOfMemory};
-ghost use Rattle.store_schema.specs.Tables.{no_schema, schema_of};
+ghost use Rattle.store_schema.specs.Tables.{no_schema, IsSchemaOf};
 ghost use Rattle.store_schema.specs.Found.{found_in};
 ghost use Rattle.store_schema.specs.declared.Found.TheVariants.{Blank, Store, Other};
 ghost use Rattle.store_rows.specs.Changes.{changed, renewed};
-ghost use Rattle.store_rows.specs.Holding.{Keeps, KeepsEither, KeepsNothing, KeepsNothingOr, Holds, HoldsNothing, IsStoreOf};
+ghost use Rattle.store_rows.specs.Holding.{Keeps, KeepsBeside, KeepsEither, KeepsNothing, KeepsNothingOr, IsStoreOf};
 ghost use Rattle.store_rows.specs.Steps.{IsStorable};
 ghost use Rattle.store_tables.specs.Transacts.{Takes, made};
 ghost use Rattle.store_tables.specs.Reads.{IsInRange, KeepsAny};
 ghost use Rattle.store_tables.specs.Refusals.{HasRefused};
+ghost use Rattle.store_tables.specs.declared.error.TableError.TheVariants.{BadStore, Memory};
 ghost use Rattle.store_tables.specs.declared.reads.Unread.TheVariants.{Bad, Failed};
 
 use crate::commits::{check_open, write};
-use crate::error::is_memory;
+use crate::error::TableError;
 use crate::making::{make, renew};
 use crate::reads::{Unread, read_all};
-use sqlite::{Alter, Connection, Error, Transaction};
+use sqlite::{Alter, Connection, Transaction};
 use std::alloc::Global;
 use store_rows::{Content, SessionEdit, StoredCell, StoredNotice, Version};
 use store_schema::{Found, found_in};
-
-/// Whether the connection is open still, with the last commit as it was. Commits nothing.
-fn is_open<S: Alter>(conn: &mut Connection<S>) -> bool
-    requires { conn.old.in_transaction ≡ false }
-    ensures idle { conn.new.in_transaction ≡ false }
-    ensures settled { HasCleanDisk (state S.Store conn.new) → IsTrue result → (db : _) → (state S.Store conn.new).may_leave db → db ≡ (state S.Store conn.old).committed.trees }
-    ensures was_open { HasCleanDisk (state S.Store conn.new) → IsTrue result → IsTrue (state S.Store conn.old).is_open }
-    ensures survives { Survives (state S.Store conn.old) (state S.Store conn.new) (λ _. ⊥) }
-{
-    conn.prepare("SELECT 1").is_ok()
-}
-
-/// Whether a refused statement met want of memory alone, and the connection is open still with the last commit as it
-/// was. Commits nothing.
-pub(crate) fn is_unchanged<S: Alter>(conn: &mut Connection<S>, error: Error) -> bool
-    requires { conn.old.in_transaction ≡ false }
-    ensures memory_alone { IsTrue result → error ≡ SqliteFailure OutOfMemory }
-    ensures idle { conn.new.in_transaction ≡ false }
-    ensures settled { HasCleanDisk (state S.Store conn.new) → IsTrue result → (db : _) → (state S.Store conn.new).may_leave db → db ≡ (state S.Store conn.old).committed.trees }
-    ensures was_open { HasCleanDisk (state S.Store conn.new) → IsTrue result → IsTrue (state S.Store conn.old).is_open }
-    ensures survives { Survives (state S.Store conn.old) (state S.Store conn.new) (λ _. ⊥) }
-{
-    if !is_memory(error) {
-        return false;
-    }
-    is_open(conn)
-}
 
 /// A change of a store, by what the connection keeps.
 pub(crate) fn write_kept<S: Alter>(
@@ -57,7 +29,7 @@ pub(crate) fn write_kept<S: Alter>(
     cells: &[StoredCell],
     notices: &[StoredNotice],
     edit: Option<SessionEdit>,
-) -> Result<(), Error>
+) -> Result<(), TableError>
     requires idle { conn.old.in_transaction ≡ false }
     requires cells { All (λ c. c.n < 2 ^ 63) cells.now }
     requires notices { All (λ n. (n.announced < 2 ^ 63) × (n.finished < 2 ^ 63)) notices.now }
@@ -66,8 +38,9 @@ pub(crate) fn write_kept<S: Alter>(
     ensures honest { HasCleanDisk (state S.Store conn.new) → HasCleanDisk (state S.Store conn.old) }
     ensures done { (it : _) → Takes edit it → Keeps S.Store conn.old it → OnOk result (Keeps S.Store conn.new (changed cells.now notices.now edit it)) }
     ensures either { (it : _) → Takes edit it → Keeps S.Store conn.old it → KeepsEither S.Store conn.new it (changed cells.now notices.now edit it) }
-    ensures undone { (it : _) → Keeps S.Store conn.old it → HasCleanDisk (state S.Store conn.new)
-        → OnErr result (IsTrue (state S.Store conn.new).is_open → ∥ Holds it (state S.Store conn.new).committed.trees ∥₁) }
+    ensures memory { (it : _) → Keeps S.Store conn.old it → result ≡ Err Memory → Keeps S.Store conn.new it }
+    ensures kind { result ≢ Err BadStore }
+    ensures beside { (it : _) → (others : _) → Takes edit it → Keeps S.Store conn.old it → KeepsBeside S.Store conn.old others → KeepsBeside S.Store conn.new others }
 {
     // what these two ensure of a connection, the transaction is proved with
     let _is_idle = conn.is_autocommit();
@@ -80,14 +53,14 @@ pub(crate) fn make_kept<S: Alter>(
     conn: &mut Connection<S>,
     site: &str,
     layout: &str,
-) -> Result<(), Error>
+) -> Result<(), TableError>
     requires { conn.old.in_transaction ≡ false }
     ensures idle { conn.new.in_transaction ≡ false }
     ensures honest { HasCleanDisk (state S.Store conn.new) → HasCleanDisk (state S.Store conn.old) }
     ensures done { KeepsNothing S.Store conn.old → OnOk result (Keeps S.Store conn.new (made site.now layout.now)) }
     ensures either { KeepsNothing S.Store conn.old → KeepsNothingOr S.Store conn.new (made site.now layout.now) }
-    ensures undone { KeepsNothing S.Store conn.old → HasCleanDisk (state S.Store conn.new)
-        → OnErr result (IsTrue (state S.Store conn.new).is_open → ∥ HoldsNothing (state S.Store conn.new).committed.trees ∥₁) }
+    ensures memory { KeepsNothing S.Store conn.old → result ≡ Err Memory → KeepsNothing S.Store conn.new }
+    ensures kind { result ≢ Err BadStore }
 {
     // what these two ensure of a connection, the transaction is proved with
     let _is_idle = conn.is_autocommit();
@@ -100,14 +73,15 @@ pub(crate) fn renew_kept<S: Alter>(
     conn: &mut Connection<S>,
     version: Version,
     layout: &str,
-) -> Result<(), Error>
+) -> Result<(), TableError>
     requires { conn.old.in_transaction ≡ false }
     ensures idle { conn.new.in_transaction ≡ false }
     ensures honest { HasCleanDisk (state S.Store conn.new) → HasCleanDisk (state S.Store conn.old) }
     ensures done { (it : _) → it.version ≡ version → Keeps S.Store conn.old it → OnOk result (Keeps S.Store conn.new (renewed layout.now it)) }
     ensures either { (it : _) → it.version ≡ version → Keeps S.Store conn.old it → KeepsEither S.Store conn.new it (renewed layout.now it) }
-    ensures undone { (it : _) → Keeps S.Store conn.old it → HasCleanDisk (state S.Store conn.new)
-        → OnErr result (IsTrue (state S.Store conn.new).is_open → ∥ Holds it (state S.Store conn.new).committed.trees ∥₁) }
+    ensures memory { (it : _) → Keeps S.Store conn.old it → result ≡ Err Memory → Keeps S.Store conn.new it }
+    ensures kind { result ≢ Err BadStore }
+    ensures beside { (it : _) → (others : _) → it.version ≡ version → Keeps S.Store conn.old it → KeepsBeside S.Store conn.old others → KeepsBeside S.Store conn.new others }
 {
     // what these two ensure of a connection, the transaction is proved with
     let _is_idle = conn.is_autocommit();
@@ -129,7 +103,7 @@ fn read_found<S: Alter>(
     ensures own { HasCleanDisk (state S.Store tx.new.conn.now) → (it : _) → found ≡ Store it.version → IsStoreOf (state S.Store tx.old.conn.now).now it → IsInRange it → result ≢ Err Bad }
     ensures blank { found ≡ Blank → IfOk result (λ content. content ≡ None) × (result ≢ Err Bad) }
     ensures cause { result ≡ Ok None → found ≡ Blank }
-    ensures refused { HasCleanDisk (state S.Store tx.new.conn.now) → ((v : Version) → found ≡ Store v → (state S.Store tx.old.conn.now).now.schema ≡ schema_of v)
+    ensures refused { HasCleanDisk (state S.Store tx.new.conn.now) → ((v : Version) → found ≡ Store v → IsSchemaOf v (state S.Store tx.old.conn.now).now.schema)
         → result ≡ Err Failed → HasRefused (state S.Store tx.old.conn.now) (state S.Store tx.new.conn.now) }
     ensures survives { Survives (state S.Store tx.old.conn.now) (state S.Store tx.new.conn.now) (λ _. ⊥) }
 {
@@ -159,7 +133,7 @@ fn read_whole<S: Alter>(
     ensures own { HasCleanDisk (state S.Store conn.new) → (it : _) → found ≡ Store it.version → IsStoreOf (state S.Store conn.old).now it → IsInRange it → result ≢ Err Bad }
     ensures blank { found ≡ Blank → IfOk result (λ content. content ≡ None) × (result ≢ Err Bad) }
     ensures cause { result ≡ Ok None → found ≡ Blank }
-    ensures refused { HasCleanDisk (state S.Store conn.new) → ((v : Version) → found ≡ Store v → (state S.Store conn.old).now.schema ≡ schema_of v)
+    ensures refused { HasCleanDisk (state S.Store conn.new) → ((v : Version) → found ≡ Store v → IsSchemaOf v (state S.Store conn.old).now.schema)
         → result ≡ Err Failed → HasRefused (state S.Store conn.old) (state S.Store conn.new) }
     ensures survives { Survives (state S.Store conn.old) (state S.Store conn.new) (λ _. ⊥) }
 {

@@ -1,5 +1,5 @@
 //! The tables are made, and a store of the first version becomes one of the second.
-ghost use Rattle.std.specs.Prelude.{◌≡◌, false, IsTrue, OnOk, OnErr, codes};
+ghost use Rattle.std.specs.Prelude.{◌≡◌, ◌≢◌, false, Err, IsTrue, OnOk, codes};
 ghost use Rattle.sqlite.specs.State.{HasCleanDisk, KeepsCommit, Survives};
 ghost use Rattle.sqlite.specs.Held.{state};
 ghost use Rattle.store_schema.specs.declared.Version.TheVariants.{Second};
@@ -7,9 +7,11 @@ ghost use Rattle.store_rows.specs.Rows.{version_text};
 ghost use Rattle.store_rows.specs.Changes.{renewed};
 ghost use Rattle.store_rows.specs.Holding.{mark};
 ghost use Rattle.store_rows.specs.Steps.{Goes, Brings, Any, with_mark};
+ghost use Rattle.store_tables.specs.declared.error.TableError.TheVariants.{BadStore, Memory};
 ghost use Rattle.store_tables.specs.Transacts.{HasCommitted, MayCommit, Turns, Upgrades, BecomesEmpty, BecomesStore};
 
-use crate::commits::check_open;
+use crate::commits::{check_open, refusal_of};
+use crate::error::TableError;
 use sqlite::{Alter, Connection, Error, Transaction};
 use store_rows::Version;
 use store_rows::writes::{create_cells, create_meta, create_notices, create_sessions, put_mark};
@@ -74,17 +76,21 @@ pub(crate) fn make<S: Alter>(
     conn: &mut Connection<S>,
     site: &str,
     layout: &str,
-) -> Result<(), Error>
+) -> Result<(), TableError>
     requires { conn.old.in_transaction ≡ false }
     ensures idle { conn.new.in_transaction ≡ false }
     ensures done { HasCleanDisk (state S.Store conn.new)
         → OnOk result (HasCommitted (state S.Store conn.old) (state S.Store conn.new) (BecomesStore site.now layout.now)) }
-    ensures kept { HasCleanDisk (state S.Store conn.new) → OnErr result (KeepsCommit (state S.Store conn.old) (state S.Store conn.new)) }
+    ensures kind { result ≢ Err BadStore }
+    ensures undone { result ≡ Err Memory → Survives (state S.Store conn.old) (state S.Store conn.new) (λ _. ⊥) }
     ensures survives { Survives (state S.Store conn.old) (state S.Store conn.new) (MayCommit (state S.Store conn.old) (BecomesStore site.now layout.now)) }
 {
     let mut tx = conn.transaction();
     make_all(&mut tx, site, layout)?;
-    tx.commit()
+    match tx.commit() {
+        Ok(()) => Ok(()),
+        Err(error) => Err(refusal_of(conn, error)),
+    }
 }
 
 /// Makes the table of notices and sets the version, where the store is of the first version.
@@ -129,15 +135,19 @@ pub(crate) fn renew<S: Alter>(
     conn: &mut Connection<S>,
     version: Version,
     layout: &str,
-) -> Result<(), Error>
+) -> Result<(), TableError>
     requires { conn.old.in_transaction ≡ false }
     ensures idle { conn.new.in_transaction ≡ false }
     ensures done { HasCleanDisk (state S.Store conn.new)
         → OnOk result (HasCommitted (state S.Store conn.old) (state S.Store conn.new) (Turns (λ it. it.version ≡ version) (renewed layout.now))) }
-    ensures kept { HasCleanDisk (state S.Store conn.new) → OnErr result (KeepsCommit (state S.Store conn.old) (state S.Store conn.new)) }
+    ensures kind { result ≢ Err BadStore }
+    ensures undone { result ≡ Err Memory → Survives (state S.Store conn.old) (state S.Store conn.new) (λ _. ⊥) }
     ensures survives { Survives (state S.Store conn.old) (state S.Store conn.new) (MayCommit (state S.Store conn.old) (Turns (λ it. it.version ≡ version) (renewed layout.now))) }
 {
     let mut tx = conn.transaction();
     renew_all(&mut tx, version, layout)?;
-    tx.commit()
+    match tx.commit() {
+        Ok(()) => Ok(()),
+        Err(error) => Err(refusal_of(conn, error)),
+    }
 }

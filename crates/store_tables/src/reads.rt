@@ -7,7 +7,7 @@ ghost use Rattle.sqlite.specs.State.{HasCleanDisk, Survives};
 ghost use Rattle.sqlite.specs.Held.{state};
 ghost use Rattle.sqlite.specs.declared.error.Error.TheVariants.{SqliteFailure};
 ghost use Rattle.sqlite.specs.declared.error.ErrorCode.TheVariants.{OutOfMemory};
-ghost use Rattle.store_schema.specs.Tables.{schema_of};
+ghost use Rattle.store_schema.specs.Tables.{IsSchemaOf};
 ghost use Rattle.store_rows.specs.Rows.{cell_row, session_row, notice_row, cell_before, session_before, notice_before};
 ghost use Rattle.store_rows.specs.Holding.{HoldsParts, IsStoreOf, mark};
 ghost use Rattle.std.specs.List.{AllByRecursion};
@@ -227,9 +227,9 @@ fn read_cells<S: Alter>(
     ensures read { HasCleanDisk (state S.Store tx.new.conn.now) → (p : _) → HoldsParts p (state S.Store tx.old.conn.now).now
         → IfOk result (λ all. (all.items ≡ p.cells) × ((state S.Store tx.new.conn.now).now ≡ (state S.Store tx.old.conn.now).now)) }
     ensures own { HasCleanDisk (state S.Store tx.new.conn.now) → (p : _) → HoldsParts p (state S.Store tx.old.conn.now).now → All IsCellInRange p.cells → result ≢ Err Bad }
-    ensures same { HasCleanDisk (state S.Store tx.new.conn.now) → (v : Version) → (state S.Store tx.old.conn.now).now.schema ≡ schema_of v
+    ensures same { HasCleanDisk (state S.Store tx.new.conn.now) → (v : Version) → IsSchemaOf v (state S.Store tx.old.conn.now).now.schema
         → OnOk result ((state S.Store tx.new.conn.now).now ≡ (state S.Store tx.old.conn.now).now) }
-    ensures refused { HasCleanDisk (state S.Store tx.new.conn.now) → (v : Version) → (state S.Store tx.old.conn.now).now.schema ≡ schema_of v
+    ensures refused { HasCleanDisk (state S.Store tx.new.conn.now) → (v : Version) → IsSchemaOf v (state S.Store tx.old.conn.now).now.schema
         → result ≡ Err Failed → HasRefused (state S.Store tx.old.conn.now) (state S.Store tx.new.conn.now) }
     ensures survives { Survives (state S.Store tx.old.conn.now) (state S.Store tx.new.conn.now) (λ _. ⊥) }
 {
@@ -249,9 +249,9 @@ fn read_sessions<S: Alter>(
     ensures read { HasCleanDisk (state S.Store tx.new.conn.now) → (p : _) → HoldsParts p (state S.Store tx.old.conn.now).now
         → IfOk result (λ all. (all.items ≡ p.sessions) × ((state S.Store tx.new.conn.now).now ≡ (state S.Store tx.old.conn.now).now)) }
     ensures own { HasCleanDisk (state S.Store tx.new.conn.now) → (p : _) → HoldsParts p (state S.Store tx.old.conn.now).now → All IsSessionInRange p.sessions → result ≢ Err Bad }
-    ensures same { HasCleanDisk (state S.Store tx.new.conn.now) → (v : Version) → (state S.Store tx.old.conn.now).now.schema ≡ schema_of v
+    ensures same { HasCleanDisk (state S.Store tx.new.conn.now) → (v : Version) → IsSchemaOf v (state S.Store tx.old.conn.now).now.schema
         → OnOk result ((state S.Store tx.new.conn.now).now ≡ (state S.Store tx.old.conn.now).now) }
-    ensures refused { HasCleanDisk (state S.Store tx.new.conn.now) → (v : Version) → (state S.Store tx.old.conn.now).now.schema ≡ schema_of v
+    ensures refused { HasCleanDisk (state S.Store tx.new.conn.now) → (v : Version) → IsSchemaOf v (state S.Store tx.old.conn.now).now.schema
         → result ≡ Err Failed → HasRefused (state S.Store tx.old.conn.now) (state S.Store tx.new.conn.now) }
     ensures survives { Survives (state S.Store tx.old.conn.now) (state S.Store tx.new.conn.now) (λ _. ⊥) }
 {
@@ -272,7 +272,7 @@ fn read_notices<S: Alter>(
         → IfOk result (λ all. (all.items ≡ p.notices) × ((state S.Store tx.new.conn.now).now ≡ (state S.Store tx.old.conn.now).now)) }
     ensures own { HasCleanDisk (state S.Store tx.new.conn.now) → (p : _) → p.tables ≡ Version.Second
         → HoldsParts p (state S.Store tx.old.conn.now).now → All IsNoticeInRange p.notices → result ≢ Err Bad }
-    ensures refused { HasCleanDisk (state S.Store tx.new.conn.now) → (state S.Store tx.old.conn.now).now.schema ≡ schema_of Version.Second
+    ensures refused { HasCleanDisk (state S.Store tx.new.conn.now) → IsSchemaOf Version.Second (state S.Store tx.old.conn.now).now.schema
         → result ≡ Err Failed → HasRefused (state S.Store tx.old.conn.now) (state S.Store tx.new.conn.now) }
     ensures survives { Survives (state S.Store tx.old.conn.now) (state S.Store tx.new.conn.now) (λ _. ⊥) }
 {
@@ -336,9 +336,9 @@ fn read_marks<S: Alter>(tx: &mut Transaction<'_, S>) -> Result<Vec<Row>, Unread>
     ensures read { HasCleanDisk (state S.Store tx.new.conn.now) → (p : _) → HoldsParts p (state S.Store tx.old.conn.now).now
         → IfOk result (λ rows. AllByRecursion (TellsMark rows.items) p.marks × ((state S.Store tx.new.conn.now).now ≡ (state S.Store tx.old.conn.now).now)) }
     ensures own { result ≢ Err Bad }
-    ensures same { HasCleanDisk (state S.Store tx.new.conn.now) → (v : Version) → (state S.Store tx.old.conn.now).now.schema ≡ schema_of v
+    ensures same { HasCleanDisk (state S.Store tx.new.conn.now) → (v : Version) → IsSchemaOf v (state S.Store tx.old.conn.now).now.schema
         → OnOk result ((state S.Store tx.new.conn.now).now ≡ (state S.Store tx.old.conn.now).now) }
-    ensures refused { HasCleanDisk (state S.Store tx.new.conn.now) → (v : Version) → (state S.Store tx.old.conn.now).now.schema ≡ schema_of v
+    ensures refused { HasCleanDisk (state S.Store tx.new.conn.now) → (v : Version) → IsSchemaOf v (state S.Store tx.old.conn.now).now.schema
         → result ≡ Err Failed → HasRefused (state S.Store tx.old.conn.now) (state S.Store tx.new.conn.now) }
     ensures survives { Survives (state S.Store tx.old.conn.now) (state S.Store tx.new.conn.now) (λ _. ⊥) }
 {
@@ -356,7 +356,7 @@ fn read_notices_of<S: Alter>(
     ensures read { HasCleanDisk (state S.Store tx.new.conn.now) → (p : _) → p.tables ≡ version → HoldsParts p (state S.Store tx.old.conn.now).now
         → IfOk result (λ all. all.items ≡ p.notices) }
     ensures own { HasCleanDisk (state S.Store tx.new.conn.now) → (p : _) → p.tables ≡ version → HoldsParts p (state S.Store tx.old.conn.now).now → All IsNoticeInRange p.notices → result ≢ Err Bad }
-    ensures refused { HasCleanDisk (state S.Store tx.new.conn.now) → (state S.Store tx.old.conn.now).now.schema ≡ schema_of version
+    ensures refused { HasCleanDisk (state S.Store tx.new.conn.now) → IsSchemaOf version (state S.Store tx.old.conn.now).now.schema
         → result ≡ Err Failed → HasRefused (state S.Store tx.old.conn.now) (state S.Store tx.new.conn.now) }
     ensures survives { Survives (state S.Store tx.old.conn.now) (state S.Store tx.new.conn.now) (λ _. ⊥) }
 {
@@ -376,7 +376,7 @@ pub(crate) fn read_all<S: Alter>(
     ensures read { HasCleanDisk (state S.Store tx.new.conn.now) → (it : _) → it.version ≡ version → IsStoreOf (state S.Store tx.old.conn.now).now it
         → IfOk result (λ found. found ≡ it) }
     ensures own { HasCleanDisk (state S.Store tx.new.conn.now) → (it : _) → it.version ≡ version → IsStoreOf (state S.Store tx.old.conn.now).now it → IsInRange it → result ≢ Err Bad }
-    ensures refused { HasCleanDisk (state S.Store tx.new.conn.now) → (state S.Store tx.old.conn.now).now.schema ≡ schema_of version
+    ensures refused { HasCleanDisk (state S.Store tx.new.conn.now) → IsSchemaOf version (state S.Store tx.old.conn.now).now.schema
         → result ≡ Err Failed → HasRefused (state S.Store tx.old.conn.now) (state S.Store tx.new.conn.now) }
     ensures survives { Survives (state S.Store tx.old.conn.now) (state S.Store tx.new.conn.now) (λ _. ⊥) }
 {

@@ -2,7 +2,7 @@
 ghost use Rattle.std.specs.Prelude.{◌≡◌, false};
 
 use crate::error::TableError;
-use crate::keeping::{is_unchanged, look_kept, make_kept, renew_kept, write_kept};
+use crate::keeping::{look_kept, make_kept, renew_kept, write_kept};
 use crate::reads::Unread;
 use sqlite::{Alter, Connection};
 use std::alloc::Global;
@@ -30,7 +30,7 @@ impl<S: Alter> Tables<S> {
     ghost use Rattle.store_schema.specs.declared.Found.TheVariants.{Blank, Other};
     ghost use Rattle.store_tables.specs.Transacts.{Takes, made};
     ghost use Rattle.store_tables.specs.Reads.{IsInRange};
-    ghost use Rattle.store_tables.specs.Kept.{has_failed, connection_of, schema_of, IsBlank, IsHonest, KeepsStore, KeepsOneOf, KeepsBlank, KeepsBlankOr, KeepsSome, CommitsNothing, IsRefusal, Settles, SettlesBlank};
+    ghost use Rattle.store_tables.specs.Kept.{has_failed, connection_of, schema_of, IsBlank, IsHonest, KeepsStore, KeepsOneOf, KeepsBlank, KeepsBlankOr, KeepsOthers, KeepsSome, CommitsNothing, IsRefusal, Settles, SettlesBlank};
     ghost use Rattle.store_tables.specs.declared.error.TableError.TheVariants.{BadStore, Memory, StoreFault};
 
     /// The tables of a database, of which the caller shows that no transaction is open. Calls no store.
@@ -82,22 +82,18 @@ impl<S: Alter> Tables<S> {
         if self.failed {
             return Err(TableError::StoreFault);
         }
-        let Err(error) = make_kept(&mut self.conn, site, layout) else {
-            return Ok(());
-        };
-        if is_unchanged(&mut self.conn, error) {
-            return Err(TableError::Memory);
-        }
-        self.failed = true;
-        Err(TableError::StoreFault)
+        let done = make_kept(&mut self.conn, site, layout);
+        self.failed = done == Err(TableError::StoreFault);
+        done
     }
 
     /// Brings a store, whose version the caller knows from a look at it, to the second version and to this layout
-    /// line, in one transaction.
+    /// line, in one transaction. Tables of other names, which were made behind its own, keep their rows.
     pub fn renew(&mut self, version: Version, layout: &str) -> Result<(), TableError>
         ensures ok { (it : _) → it.version ≡ version → KeepsStore self.old it → OnOk result (KeepsStore self.new (renewed layout.now it)) }
         ensures memory { (it : _) → it.version ≡ version → KeepsStore self.old it → result ≡ Err Memory → KeepsStore self.new it }
         ensures either { (it : _) → it.version ≡ version → KeepsStore self.old it → result ≡ Err StoreFault → KeepsOneOf self.new it (renewed layout.now it) }
+        ensures beside { (it : _) → (others : _) → it.version ≡ version → KeepsStore self.old it → KeepsOthers self.old others → KeepsOthers self.new others }
         ensures honest { IsHonest self.new → IsHonest self.old }
         ensures fault { result ≡ Err StoreFault → IsTrue (has_failed self.new) }
         ensures sound { result ≢ Err StoreFault → has_failed self.new ≡ false }
@@ -107,18 +103,13 @@ impl<S: Alter> Tables<S> {
         if self.failed {
             return Err(TableError::StoreFault);
         }
-        let Err(error) = renew_kept(&mut self.conn, version, layout) else {
-            return Ok(());
-        };
-        if is_unchanged(&mut self.conn, error) {
-            return Err(TableError::Memory);
-        }
-        self.failed = true;
-        Err(TableError::StoreFault)
+        let done = renew_kept(&mut self.conn, version, layout);
+        self.failed = done == Err(TableError::StoreFault);
+        done
     }
 
     /// Sets counters and notices and puts or drops a session, in one transaction. Where there is nothing to do, it
-    /// calls no store.
+    /// calls no store. Tables of other names, which were made behind its own, keep their rows.
     pub fn commit(
         &mut self,
         cells: &[StoredCell],
@@ -131,6 +122,7 @@ impl<S: Alter> Tables<S> {
         ensures ok { (it : _) → Takes edit it → KeepsStore self.old it → OnOk result (KeepsStore self.new (changed cells.now notices.now edit it)) }
         ensures memory { (it : _) → Takes edit it → KeepsStore self.old it → result ≡ Err Memory → KeepsStore self.new it }
         ensures either { (it : _) → Takes edit it → KeepsStore self.old it → result ≡ Err StoreFault → KeepsOneOf self.new it (changed cells.now notices.now edit it) }
+        ensures beside { (it : _) → (others : _) → Takes edit it → KeepsStore self.old it → KeepsOthers self.old others → KeepsOthers self.new others }
         ensures honest { IsHonest self.new → IsHonest self.old }
         ensures fault { result ≡ Err StoreFault → IsTrue (has_failed self.new) }
         ensures sound { result ≢ Err StoreFault → has_failed self.new ≡ false }
@@ -144,14 +136,9 @@ impl<S: Alter> Tables<S> {
         if cells.is_empty() && notices.is_empty() && edit.is_none() {
             return Ok(());
         }
-        let Err(error) = write_kept(&mut self.conn, cells, notices, edit) else {
-            return Ok(());
-        };
-        if is_unchanged(&mut self.conn, error) {
-            return Err(TableError::Memory);
-        }
-        self.failed = true;
-        Err(TableError::StoreFault)
+        let done = write_kept(&mut self.conn, cells, notices, edit);
+        self.failed = done == Err(TableError::StoreFault);
+        done
     }
 
     /// What the store holds, or `None` where the database has none of its tables. Refused with `BadStore` where the
@@ -169,6 +156,7 @@ impl<S: Alter> Tables<S> {
         ensures either { (a : _) → (b : _) → KeepsOneOf self.old a b → KeepsOneOf self.new a b }
         ensures bare { KeepsBlank self.old → KeepsBlank self.new }
         ensures bare_or { (it : _) → KeepsBlankOr self.old it → KeepsBlankOr self.new it }
+        ensures beside { (others : _) → KeepsOthers self.old others → KeepsOthers self.new others }
         ensures honest { IsHonest self.new → IsHonest self.old }
         ensures fault { result ≡ Err StoreFault → IsTrue (has_failed self.new) }
         ensures sound { result ≢ Err StoreFault → has_failed self.new ≡ false }
@@ -198,6 +186,7 @@ impl<S: Alter> Tables<S> {
         ensures own { (it : _) → IsInRange it → KeepsStore self.old it → IsHonest self.new → result ≢ Err BadStore }
         ensures kept { (it : _) → KeepsStore self.old it → KeepsStore self.new it }
         ensures either { (a : _) → (b : _) → KeepsOneOf self.old a b → KeepsOneOf self.new a b }
+        ensures beside { (others : _) → KeepsOthers self.old others → KeepsOthers self.new others }
         ensures honest { IsHonest self.new → IsHonest self.old }
         ensures fault { result ≡ Err StoreFault → IsTrue (has_failed self.new) }
         ensures bad { result ≡ Err BadStore → IsTrue (has_failed self.new) }

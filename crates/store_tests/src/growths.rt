@@ -1,5 +1,5 @@
 //! Want of memory at each call of a keeper and a desk. These tests pass with ample memory and with any one allocation
-//! refused: what then finds no memory has changed nothing.
+//! refused, or any two in a row: what then finds no memory has changed nothing, and goes on after that.
 use crate::databases::in_memory;
 use crate::desks::{ENTERS, NOTHING, ONE_READER, READ_7, Told, ask, is_part, over, over_memory};
 use crate::stores::{At, HERE, Opened, opened_at, serves_over};
@@ -9,13 +9,19 @@ use site_store::{Keeper, KeeperError, OpenError};
 use sqlite::{Alter, Connection};
 use std::alloc::Global;
 
-/// What a keeper keeps, asked once more where it finds no memory; nothing where its store has failed.
+/// How often what finds no memory is tried: once more than allocations are refused.
+const TRIES: u8 = 3;
+
+/// What a keeper keeps, asked again where it finds no memory; nothing where its store has failed.
 fn kept<K: Keeper>(alloc: Global, keeper: &mut K) -> Option<Durable> {
-    match keeper.load(alloc) {
-        Ok(durable) => Some(durable),
-        Err(KeeperError::Memory) => keeper.load(alloc).ok(),
-        Err(KeeperError::StoreFault) => None,
+    for _ in 0..TRIES {
+        match keeper.load(alloc) {
+            Ok(durable) => return Some(durable),
+            Err(KeeperError::Memory) => {}
+            Err(KeeperError::StoreFault) => return None,
+        }
     }
+    None
 }
 
 /// Whether a keeper keeps what a desk answered to a reader, or nothing where that found no memory.
@@ -41,10 +47,15 @@ fn opens_now_or_then<S: Alter + Drop>(
     connection: Connection<S>,
     at: At,
 ) -> Option<bool> {
-    match opened_at(alloc, connection, at) {
-        (Opened::Refused(OpenError::Memory), back) => is_open(opened_at(alloc, back, at).0),
-        (first, _) => is_open(first),
+    let mut held = connection;
+    for _ in 0..TRIES {
+        let (found, back) = opened_at(alloc, held, at);
+        if found != Opened::Refused(OpenError::Memory) {
+            return is_open(found);
+        }
+        held = back;
     }
+    Some(false)
 }
 
 /// Whether an opening came to a store; nothing where it was not tried.
@@ -93,38 +104,42 @@ fn admits(alloc: Global) -> Option<bool> {
     admits_over(alloc, in_memory(alloc)?)
 }
 
-// Of all that these try one allocation may be refused: what could not be tried for that is tried again.
+// What could not be tried, since one of the refused allocations came before, is tried again.
 
 fn is_made(alloc: Global) -> bool {
-    let made = match makes(alloc) {
-        None => makes(alloc),
-        made => made,
-    };
-    made == Some(true)
+    for _ in 0..TRIES {
+        if let Some(made) = makes(alloc) {
+            return made;
+        }
+    }
+    false
 }
 
 fn is_found(alloc: Global, sites: u16) -> bool {
-    let found = match finds(alloc, sites) {
-        None => finds(alloc, sites),
-        found => found,
-    };
-    found == Some(true)
+    for _ in 0..TRIES {
+        if let Some(found) = finds(alloc, sites) {
+            return found;
+        }
+    }
+    false
 }
 
 fn is_admitted_in_memory(alloc: Global) -> bool {
-    let admitted = match admits_in_memory(alloc) {
-        None => admits_in_memory(alloc),
-        admitted => admitted,
-    };
-    admitted == Some(true)
+    for _ in 0..TRIES {
+        if let Some(admitted) = admits_in_memory(alloc) {
+            return admitted;
+        }
+    }
+    false
 }
 
 fn is_admitted(alloc: Global) -> bool {
-    let admitted = match admits(alloc) {
-        None => admits(alloc),
-        admitted => admitted,
-    };
-    admitted == Some(true)
+    for _ in 0..TRIES {
+        if let Some(admitted) = admits(alloc) {
+            return admitted;
+        }
+    }
+    false
 }
 
 #[test]

@@ -69,7 +69,10 @@ static CHANGED: [(&str, Opened); 15] = [
     ),
     ("DELETE FROM meta WHERE name = 'site'", BAD_STORE),
     ("DELETE FROM meta WHERE name = 'layout'", BAD_STORE),
-    ("INSERT INTO cells VALUES (0, 300, 1)", BAD_STORE),
+    (
+        "INSERT INTO cells VALUES (0, 300, 1)",
+        Opened::Holds(1, 0, false),
+    ),
     ("INSERT INTO cells VALUES (65536, 200, 1)", BAD_STORE),
     ("INSERT INTO cells VALUES (0, 200, 'x')", BAD_STORE),
     ("INSERT INTO sessions VALUES (0, 7, 4, 1)", BAD_STORE),
@@ -77,7 +80,7 @@ static CHANGED: [(&str, Opened); 15] = [
     ("INSERT INTO sessions VALUES (0, -1, 1, 1)", BAD_STORE),
     ("CREATE TABLE notices (x INTEGER)", BAD_STORE),
     (
-        "UPDATE meta SET value = '1' WHERE name = 'site'; INSERT INTO cells VALUES (0, 300, 1)",
+        "UPDATE meta SET value = '1' WHERE name = 'site'; INSERT INTO cells VALUES (65536, 0, 1)",
         BAD_STORE,
     ),
     (

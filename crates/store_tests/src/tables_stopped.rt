@@ -4,7 +4,7 @@ use crate::databases::{
     COUNTER, FIRST, LAYOUT, NEXT, SECOND, after_texts, crashed, empty_files, files_of, fused,
     opened,
 };
-use crate::tables::{CELL, MADE, NOTICE, READER, Step, idle, steps_done};
+use crate::tables::{CELL, MADE, NOTICE, READER, Step, idle, sizes, steps_done};
 use sqlite::{Alter, Connection, FileStore, Files, Options};
 use sqlite_disk::Crash;
 use std::alloc::Global;
@@ -263,4 +263,106 @@ fn a_migration_survives_each_stop(rt: HostRuntime) {
     for story in 1..4usize {
         assert!(rt; survives(rt.alloc(), story), "{story}");
     }
+}
+
+// ---- what other programs make later
+
+/// A table with a key, an index and a view, and a table that counts its rows.
+const LATER: &str = "CREATE TABLE other (x INTEGER PRIMARY KEY, y TEXT UNIQUE);
+CREATE INDEX by_name ON other (y, x);
+CREATE VIEW fives AS SELECT y FROM other WHERE x = 5;
+CREATE TABLE counted (n INTEGER PRIMARY KEY AUTOINCREMENT, y TEXT);
+INSERT INTO other VALUES (5, 'five'), (6, 'six');
+INSERT INTO counted (y) VALUES ('one'), ('two'), ('three');";
+
+/// What is done to the store then: rows are put, its line is changed, and its session is dropped.
+const AFTERWARDS: [Step; 3] = [Step::Put, Step::Renew(Version::Second, NEXT), Step::Leave];
+
+/// The same of a store of the first version, which becomes one of the second.
+const MIGRATED: [Step; 3] = [Step::Renew(Version::First, NEXT), Step::Put, Step::Leave];
+
+/// How many rows each of these has.
+static OTHERS: [&str; 3] = [
+    "SELECT x FROM other",
+    "SELECT y FROM fives",
+    "SELECT n FROM counted WHERE n < 4",
+];
+
+fn rows_of<S: Alter>(connection: &mut Connection<S>, text: &str) -> Option<usize> {
+    let rows = connection.query_all(text, &[]).ok()?;
+    Some(rows.len())
+}
+
+fn other_rows<S: Alter + Drop>(connection: Connection<S>) -> Option<[usize; 3]> {
+    let mut connection = connection;
+    let mut found = [0usize; 3];
+    for i in 0..3usize {
+        found[i] = rows_of(&mut connection, OTHERS[i])?;
+    }
+    Some(found)
+}
+
+/// How many counters, sessions and notices a store holds, and how many rows the others have.
+fn beside_now<S: Alter + Drop>(
+    alloc: Global,
+    tables: Tables<S>,
+) -> Option<([usize; 3], [usize; 3])> {
+    let mut tables = tables;
+    let held = sizes(alloc, &mut tables)?;
+    Some((held, other_rows(tables.into_connection())?))
+}
+
+/// The tables of a store that serves on after other programs used its database.
+fn served_on<S: Alter + Drop>(steps: &[Step], connection: Connection<S>) -> Option<Tables<S>> {
+    let mut tables = idle(connection)?;
+    if steps_done(&mut tables, steps) == steps.len() {
+        Some(tables)
+    } else {
+        None
+    }
+}
+
+fn beside_again<D: Crash + Drop>(
+    alloc: Global,
+    steps: &[Step],
+    connection: Connection<FileStore<D>>,
+) -> Option<([usize; 3], [usize; 3])> {
+    match restart(alloc, served_on(steps, connection)?, Options::new(1)) {
+        Ok(again) => beside_now(alloc, again),
+        Err(_) => None,
+    }
+}
+
+fn beside_over<D: Crash + Drop>(
+    alloc: Global,
+    steps: &[Step],
+    files: Files<D>,
+) -> Option<([usize; 3], [usize; 3])> {
+    match opened(alloc, files) {
+        Ok(connection) => beside_again(alloc, steps, connection),
+        Err(_) => None,
+    }
+}
+
+/// What a store and the others hold after both have served on and the files have crashed.
+fn beside_after_a_crash(
+    alloc: Global,
+    first: &[&str],
+    steps: &[Step],
+) -> Option<([usize; 3], [usize; 3])> {
+    let files = files_after(alloc, empty_files(alloc), first)?;
+    beside_over(alloc, steps, files)
+}
+
+#[test]
+fn what_other_programs_make_later_stays(rt: HostRuntime) {
+    let wanted = Some(([1, 0, 1], [2, 1, 3]));
+    assert_eq!(rt;
+        beside_after_a_crash(rt.alloc(), &[FIRST, SECOND, LATER], &AFTERWARDS),
+        wanted
+    );
+    assert_eq!(rt;
+        beside_after_a_crash(rt.alloc(), &[FIRST, LATER], &MIGRATED),
+        wanted
+    );
 }

@@ -1,16 +1,17 @@
 -- What is done with a site over a database.
 use Rattle.std.specs.Prelude.{◌≡◌, ℕ, ◌⊎◌, Result, Ok, Err}
 use Rattle.sqlite_trees.specs.declared.store.Store.{Ghosts as Device}
+use Rattle.sqlite.specs.Effect.{Database}
 use Rattle.sqlite.specs.Held.{Held}
 use Rattle.merge_core.specs.Layout.{LayoutState}
 use Rattle.store_rows.specs.Rows.{Stored}
-use Rattle.store_rows.specs.Holding.{Keeps, KeepsNothing}
+use Rattle.store_rows.specs.Holding.{Keeps, KeepsBeside, KeepsEither, KeepsNothing}
 use Rattle.durable_keeper.specs.declared.keeper.Keeper.{Ghosts}
 use Rattle.site_store.specs.declared.error.OpenError.{OpenError}
 use Rattle.site_store.specs.declared.error.OpenError.TheVariants as opening
 use Rattle.site_store.specs.declared.sql.SqlKeeper.{SqlKeeper}
 use Rattle.site_store.specs.Sql.{below}
-use Rattle.site_store.specs.Opened.{Opens, OpensBlank}
+use Rattle.site_store.specs.Opened.{Opens, OpensBlank, left_by}
 use Rattle.text_input.specs.Source.{SourceState}
 use Rattle.text_input.specs.Sink.{SinkState}
 use Rattle.exit_status.specs.declared.store_refusal.StoreRefusal.TheVariants.{BadStore, WrongSite, WrongLayout, StoreFault}
@@ -27,10 +28,12 @@ refusal_status opening.StoreFault = NoStore StoreFault
 refusal_status opening.Memory = Memory
 
 module _ {S : Type 0} (g : Device S) where
-  -- what an opening of the store in a database came to: a keeper, or a refusal with the database
+  -- What an opening of the store in a database came to: a keeper, or a refusal with the database; either way other tables,
+  -- which were made behind those of the store, keep their rows.
   pub record OpensStore (layout : LayoutState) (i : ℕ) (c : Held S) (opened : Result (SqlKeeper S g) (OpenError × Held S)) : Type 0 where
     pub stored : (it : Stored) → Keeps g c it → Opens {g = g} layout i it opened
     pub blank : KeepsNothing g c → OpensBlank {g = g} layout i opened
+    pub beside : (a b : Stored) → (others : Database) → KeepsEither g c a b → KeepsBeside g c others → KeepsBeside g (left_by opened) others
 
   -- the store was opened, the engine ended over it, and the database below is handed back
   pub record RunsOver (k : Ghosts (SqlKeeper S g)) (layout : LayoutState) (i : ℕ) (c after : Held S)

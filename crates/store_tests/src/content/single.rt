@@ -101,6 +101,41 @@ fn a_large_content_is_taken(rt: HostRuntime) {
     assert_eq!(rt; of_large(rt.alloc()), Ok(wanted));
 }
 
+// ---- counters out of their place
+
+/// Two counters at their places, two at slots from 300 on, one of them a notice's, and that notice.
+const MISPLACED: First = First {
+    cells: &[
+        stored!(0, 1, 5),
+        stored!(0, 300, 7),
+        stored!(1, 420, 2),
+        stored!(2, 0, 3),
+    ],
+    notices: &[notice!(0, 0, 4, 1)],
+    sessions: &[],
+};
+
+/// What they tell: the first of the two stands at the last slot, which names nothing.
+static TOLD: [DurableCell; 5] = [
+    cell!(0, 1, 5),
+    cell!(0, 300, 4),
+    cell!(0, 400, 1),
+    cell!(0, 65535, 7),
+    cell!(2, 0, 3),
+];
+
+/// Whether a content is that of some site and stands for these counters.
+fn tells(alloc: Global, first: First, cells: &[DurableCell]) -> Result<bool, AllocError> {
+    let content = content(alloc, first)?;
+    let durable = durable_of(alloc, &content)?;
+    Ok(Index::of(alloc, &content)?.is_some() && durable.cells() == cells)
+}
+
+#[test]
+fn counters_out_of_their_place_name_nothing(rt: HostRuntime) {
+    assert_eq!(rt; tells(rt.alloc(), MISPLACED, &TOLD), Ok(true));
+}
+
 // ---- rows of no site
 
 macro_rules! of_cells {
@@ -134,9 +169,8 @@ macro_rules! of_sessions {
 }
 
 // Each kind of content that is none of a site.
-static NONE_OF_A_SITE: [First; 10] = [
+static NONE_OF_A_SITE: [First; 9] = [
     of_cells!(stored!(0, 1, 1), stored!(0, 1, 1)),
-    of_cells!(stored!(0, 300, 1)),
     of_notices!(notice!(1, 0, 1, 1), notice!(0, 1, 1, 1)),
     of_notices!(notice!(0, 16, 1, 1)),
     of_notices!(notice!(0, 1, 1 << 63, 1)),

@@ -119,3 +119,34 @@ static OF_NO_SITE: [Story; 3] = [
 fn a_store_with_what_no_site_has_is_refused(rt: HostRuntime) {
     assert_eq!(rt; wrong_story(rt.alloc(), &OF_NO_SITE), None);
 }
+
+// Counters that no site has: at slots of notices, past them, and at the last slot.
+static OUT_OF_PLACE: [Story; 4] = [
+    (
+        &[FIRST_VERSION, "INSERT INTO cells VALUES (0, 300, 1);"],
+        &[COUNTERS, COUNTERS],
+    ),
+    (
+        &[
+            FIRST_VERSION,
+            "INSERT INTO cells VALUES (0, 301, 1), (0, 401, 1);",
+        ],
+        &[COUNTERS, COUNTERS],
+    ),
+    (
+        &[FIRST_VERSION, "INSERT INTO cells VALUES (0, 316, 1);"],
+        &[COUNTERS, COUNTERS],
+    ),
+    (
+        &[
+            FIRST_VERSION,
+            "INSERT INTO cells VALUES (0, 65535, 9223372036854775807);",
+        ],
+        &[COUNTERS, COUNTERS],
+    ),
+];
+
+#[test]
+fn counters_of_no_site_are_wrong_counters(rt: HostRuntime) {
+    assert_eq!(rt; wrong_story(rt.alloc(), &OUT_OF_PLACE), None);
+}

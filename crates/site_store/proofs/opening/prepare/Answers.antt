@@ -1,4 +1,4 @@
-use Rattle.std.proofs.Common.{◌≡◌, ◌≢◌, inl, inr, decimal, Option, Result, Ok, Err, sym, ap, subst, ◌∙◌}
+use Rattle.std.proofs.Common.{◌≡◌, ◌≢◌, inl, inr, decimal, Option, Result, Err, sym, ap, subst, ◌∙◌}
 use Rattle.std.proofs.lemmas.Option.{none-some, same_Some}
 use Rattle.std.proofs.lemmas.Result.{IfErr-at_err, IfErr-weaker, err_from_is_err_and}
 use Rattle.store_rows.proofs.StepLemmas.{survives_same}
@@ -15,7 +15,7 @@ use Rattle.store_tables.specs.declared.error.TableError.{TableError}
 use Rattle.store_tables.specs.Kept.{connection_of}
 use Rattle.site_store.specs.declared.error.OpenError.{OpenError}
 use Rattle.site_store.specs.Opened.{IsCurrent, IsDeviceCause, IsDue, IsOwn, IsReady, IsRefused, IsRefusedBlank, Readies, ReadiesBlank}
-use Rattle.site_store.proofs.OpenLemmas.{refused, refused_blank, readies_any, settled_none, settled}
+use Rattle.site_store.proofs.OpenLemmas.{beside_none, beside_some, refused, refused_blank, readies_any, settled_none, settled}
 use Rattle.site_store.proofs.OwnLemmas.{any_of, any_of_either, any_of_nothing_or, device_two, either_own, fault_of, if_err_from, made_own, memory_cause, memory_is_none, none_kept, some_found, some_kept, table_cause}
 use Rattle.site_store.proofs.opening.prepare.Goals as goal
 
@@ -175,3 +175,15 @@ returns-in_err-line-clause-judged g c =
 
 pub returns-in_err-line-clause-current : goal.returns-in_err-line-clause-current
 returns-in_err-line-clause-current g c it current keeps clean = survives_same _
+
+-- ---- the other tables
+
+pub returns-in-Ok-Some-clause-beside : goal.returns-in-Ok-Some-clause-beside
+returns-in-Ok-Some-clause-beside g c a b others keeps beside =
+    let still = c.in-Ok-Some.ensures.beside others beside in
+    beside_some g.S.Store (connection_of c.open_found.new.tables) a b _ _ _ others c.open_found.ensures.honest c.in-Ok-Some.field-0 c.in-Ok-Some.content c.in-Ok-Some.field-0-is
+    (λ kept same. c.open_found.ensures.beside a others kept same still) (λ kept same. c.open_found.ensures.beside b others kept same still) (c.in-Ok-Some.ensures.settles a b keeps)
+
+pub returns-in-Ok-None-clause-beside : goal.returns-in-Ok-None-clause-beside
+returns-in-Ok-None-clause-beside g c a b others keeps beside =
+    beside_none g.S.Store (connection_of c.make_new.new.tables) a b _ _ _ others c.make_new.ensures.honest c.in-Ok-None.field-0 c.in-Ok-None.field-0-is (c.in-Ok-None.ensures.settles a b keeps)

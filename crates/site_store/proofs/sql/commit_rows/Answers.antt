@@ -1,6 +1,6 @@
 use Rattle.std.proofs.Common.{◌≡◌, Option, IfSome, Result, Err, ap, sym, subst, arith}
 use Rattle.sqlite.specs.Held.{Held}
-use Rattle.store_rows.specs.Holding.{Keeps}
+use Rattle.store_rows.specs.Holding.{Keeps, KeepsBeside}
 use Rattle.store_tables.specs.declared.error.TableError.{TableError}
 use Rattle.store_tables.specs.Kept.{connection_of}
 use Rattle.store_content.specs.Plan.{IsPlan, IsPlanned, RowsState, Makes}
@@ -45,3 +45,25 @@ returns-in-Ok-clause-ok g c layout i it stores =
     made_change g.S.Store conn layout i c.args.change.now it stores.own rows plan makes c.advance.new.self
     (c.in-Ok.ensures.ok it (takes_rows layout i it c.args.change.now rows stores.own makes) stores.kept)
     (c.advance.ensures c.args.change.now it (c.in_ok-reserve.ensures.knows it stores.known) stores.own.content plan)
+
+-- ---- the other tables
+
+pub returns-in_default-clause-beside : goal.returns-in_default-clause-beside
+returns-in_default-clause-beside g c layout i it others stores beside =
+    subst (λ (h : Held g.row.S.Denot). KeepsBeside g.S.Store h others) (sym c.stop.ensures.connection) beside
+
+pub returns-then-not-are_rows-clause-beside : goal.returns-then-not-are_rows-clause-beside
+returns-then-not-are_rows-clause-beside g c layout i it others stores beside =
+    subst (λ (h : Held g.row.S.Denot). KeepsBeside g.S.Store h others) (sym c.stop-then-not-are_rows.ensures.connection) beside
+
+pub returns-in-Ok-clause-beside : goal.returns-in-Ok-clause-beside
+returns-in-Ok-clause-beside g c layout i it others stores beside =
+    let makes : Makes c.args.change.now it c.in-Some.rows =
+    subst (λ (o : Option RowsState). IfSome o (Makes c.args.change.now it)) c.in-Some.is (c.in_ok-rows.ensures.law it stores.known stores.own.content c.requires.tellable) in
+    c.put.ensures.beside it others (takes_rows layout i it c.args.change.now c.in-Some.rows stores.own makes) stores.kept beside
+
+pub returns-clause-beside : goal.returns-clause-beside
+returns-clause-beside g c layout i it others stores beside =
+    let makes : Makes c.args.change.now it c.in-Some.rows =
+    subst (λ (o : Option RowsState). IfSome o (Makes c.args.change.now it)) c.in-Some.is (c.in_ok-rows.ensures.law it stores.known stores.own.content c.requires.tellable) in
+    c.put.ensures.beside it others (takes_rows layout i it c.args.change.now c.in-Some.rows stores.own makes) stores.kept beside

@@ -1,8 +1,9 @@
 -- The notices' counters are merged into the cells, those announced after those finished.
 use Rattle.std.proofs.Common.{map, sym, ap, subst, ◌∙◌}
 use Rattle.std.specs.List.{AllByRecursion}
-use Rattle.store_rows.specs.Rows.{Stored}
-use Rattle.store_content.specs.Content.{IsNotice, announced_cells, durable_cell, finished_cells, session_of}
+use Rattle.store_rows.specs.Rows.{Stored, cell_before}
+use Rattle.store_rows.specs.Sorted.{IsRising}
+use Rattle.store_content.specs.Content.{IsNotice, announced_cells, finished_cells, session_of, table_cells}
 use Rattle.store_content.proofs.DurableLemmas.{assembled, merged_along, together}
 use Rattle.store_content.proofs.durable.durable_of.Goals as goal
 
@@ -16,7 +17,7 @@ returns c =
     let sessions = c.deref-8.ensures.value ∙ ap (λ (v : Stored). v.sessions) c.content.view_is in
     together it _ _ _ c.new.ensures
     (assembled it is _ _ _ _ _
-    (c.in_ok-own.ensures ∙ ap (map durable_cell) cells)
+    (c.in_ok-own.ensures (subst (IsRising cell_before) (sym cells) is.rows.cells_rise) ∙ ap table_cells cells)
     (c.in_ok-finished.ensures (subst (AllByRecursion IsNotice) (sym finished) is.rows.notices) ∙ ap finished_cells finished)
     (c.in_ok-announced.ensures (subst (AllByRecursion IsNotice) (sym announced) is.rows.notices) ∙ ap announced_cells announced)
     (merged_along _ _ _ _ _ c.deref-4.ensures.value c.deref-5.ensures.value c.in_ok-cells.ensures)

@@ -1,21 +1,31 @@
-use Rattle.std.proofs.Common.{[], rules}
-use Rattle.std.proofs.lemmas.Result.{IfErr-at_err}
-use Rattle.sqlite_value.specs.Order.{Row}
+use Rattle.std.proofs.Common.{◌≡◌, [], sym, subst, ◌∙◌}
+use Rattle.std.proofs.lemmas.Bool.{both_ways}
 use Rattle.sqlite.specs.State.{IsNotRun}
-use Rattle.store_rows.proofs.RefusalLemmas.{one_text, one_whole}
-use Rattle.store_tables.proofs.RefusalLemmas.{not_run_refused}
 use Rattle.sqlite.specs.Held.{state}
+use Rattle.store_rows.proofs.RefusalLemmas.{two_bare, two_text}
+use Rattle.store_tables.proofs.RefusalLemmas.{same_error, two_refused, two_same}
 use Rattle.store_tables.proofs.TransactLemmas.{not_run_keeps}
 use Rattle.store_tables.proofs.commits.check_open.Goals as goal
 
-pub returns-in_err-_statement-clause-kept : goal.returns-in_err-_statement-clause-kept
-returns-in_err-_statement-clause-kept g c clean =
-    not_run_keeps (state g.S.Store c.args.tx.now.conn.now) (state g.S.Store c.prepare.new.self.conn.now) _ [] _ (c.in_err-_statement.ensures.err clean [])
-
-pub returns-in_err-_statement-clause-refused : goal.returns-in_err-_statement-clause-refused
-returns-in_err-_statement-clause-refused g c clean e is other =
+pub returns-then-is_understood-clause-open : goal.returns-then-is_understood-clause-open
+returns-then-is_understood-clause-open g c clean =
     let old = state g.S.Store c.args.tx.now.conn.now in
     let new = state g.S.Store c.prepare.new.self.conn.now in
-    let whole = one_whole old.now.schema in
-    let why = IfErr-at_err (λ x. (params : Row) → IsNotRun old new one_text params x) {r = c.prepare.result} {y = e} (search rules) (c.prepare.ensures.err clean) in
-    not_run_refused one_text old new whole.0 whole.1 e other (why [])
+    two_same two_text old new [] (subst (IsNotRun old new two_text []) (c.is_understood.ensures.0 c.if-is_understood.true) (c.in-Err.ensures.err clean []))
+
+pub returns-then-is_understood-clause-kept : goal.returns-then-is_understood-clause-kept
+returns-then-is_understood-clause-kept g c clean =
+    not_run_keeps (state g.S.Store c.args.tx.now.conn.now) (state g.S.Store c.prepare.new.self.conn.now) two_text [] c.in-Err.error (c.in-Err.ensures.err clean [])
+
+pub returns-clause-kept : goal.returns-clause-kept
+returns-clause-kept g c clean =
+    not_run_keeps (state g.S.Store c.args.tx.now.conn.now) (state g.S.Store c.prepare.new.self.conn.now) two_text [] c.in-Err.error (c.in-Err.ensures.err clean [])
+
+pub returns-clause-refused : goal.returns-clause-refused
+returns-clause-refused g c clean e is other =
+    let old = state g.S.Store c.args.tx.now.conn.now in
+    let new = state g.S.Store c.prepare.new.self.conn.now in
+    let same : c.in-Err.error ≡ e = same_error is in
+    let bare = two_bare old.now.schema in
+    two_refused two_text old new bare.0 bare.1 c.in-Err.error (λ oom. other (sym same ∙ oom)) (λ two. both_ways _ c.if-is_understood.false (c.is_understood.ensures.1 two))
+    (c.in-Err.ensures.err clean [])

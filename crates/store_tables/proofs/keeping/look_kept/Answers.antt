@@ -12,10 +12,9 @@ use Rattle.store_rows.specs.Rows.{Stored}
 use Rattle.store_rows.specs.Holding.{IsStoreOf, Holds, HoldsNothing}
 use Rattle.store_tables.proofs.KeepLemmas.{seen_is, store_of, bare, nothing_seen, settles}
 use Rattle.store_tables.proofs.LookLemmas.{if_ok_given, found_store, found_once, on_ok_given, if_ok_from}
-use Rattle.store_schema.specs.declared.Version.{Version}
-use Rattle.store_schema.specs.Tables.{schema_of}
+use Rattle.store_schema.specs.Tables.{IsSchemaOf}
 use Rattle.store_tables.specs.Reads.{IsInRange}
-use Rattle.store_tables.proofs.RefusalLemmas.{schema_once, version_of, not_blank, not_other}
+use Rattle.store_tables.proofs.RefusalLemmas.{version_once, version_of, not_blank, not_other}
 use Rattle.store_tables.proofs.keeping.look_kept.Goals as goal
 
 pub returns-clause-read : goal.returns-clause-read
@@ -28,7 +27,7 @@ returns-clause-read g c clean it keeps =
     let seen = seen_is g.S.Store g.met.S.Store.settled g.met.S.Store.stays old (Holds it) keeps c.schema.ensures.live idle early up in
     ∥∥₁_elim seen.1 (found_once c.read_whole.result (Some it)) (λ holds.
     let store : IsStoreOf (state g.S.Store old).now it = store_of (state g.S.Store old).now it seen.0 holds in
-    let found : c.found_in-found.result ≡ Store it.version = c.found_in-found.ensures ∙ ap found_in (c.schema.ensures.value ∙ store.schema) ∙ found_store it.version in
+    let found : c.found_in-found.result ≡ Store it.version = c.found_in-found.ensures ∙ ap found_in c.schema.ensures.value ∙ found_store it.version _ store.schema in
     c.read_whole.ensures.read clean it found store))
     (c.read_whole.ensures.opened clean)
 
@@ -41,7 +40,7 @@ returns-clause-own g c clean it fits keeps bad =
     let seen = seen_is g.S.Store g.met.S.Store.settled g.met.S.Store.stays old (Holds it) keeps c.schema.ensures.live idle early up in
     ∥∥₁_elim seen.1 (λ a b. absurd a) (λ holds.
     let store : IsStoreOf (state g.S.Store old).now it = store_of (state g.S.Store old).now it seen.0 holds in
-    let found : c.found_in-found.result ≡ Store it.version = c.found_in-found.ensures ∙ ap found_in (c.schema.ensures.value ∙ store.schema) ∙ found_store it.version in
+    let found : c.found_in-found.result ≡ Store it.version = c.found_in-found.ensures ∙ ap found_in c.schema.ensures.value ∙ found_store it.version _ store.schema in
     c.read_whole.ensures.own clean it found store fits bad)
 
 pub returns-clause-blank : goal.returns-clause-blank
@@ -76,7 +75,7 @@ returns-clause-settles g c a b keeps =
     let idle = c.is_autocommit-is_idle.ensures.settled (rw (c.is_autocommit-is_idle.ensures.value, c.requires)) in
     let holds_as : (it : Stored) (found : Option Stored) → c.read_whole.result ≡ Ok found → HasCleanDisk (state g.S.Store c.read_whole.new.conn) → IsDatabase (state g.S.Store old).now → Holds it (state g.S.Store old).now.trees → found ≡ Some it = λ it found is clean sound holds.
     let store : IsStoreOf (state g.S.Store old).now it = store_of (state g.S.Store old).now it sound holds in
-    let has : c.found_in-found.result ≡ Store it.version = c.found_in-found.ensures ∙ ap found_in (c.schema.ensures.value ∙ store.schema) ∙ found_store it.version in
+    let has : c.found_in-found.result ≡ Store it.version = c.found_in-found.ensures ∙ ap found_in c.schema.ensures.value ∙ found_store it.version _ store.schema in
     subst (λ r. IfOk r (λ x. x ≡ Some it)) is (c.read_whole.ensures.read clean it has store) in
     if_ok_from c.read_whole.result (λ found is.
     settles g.S.Store g.met.S.Store.settled g.met.S.Store.stays old c.read_whole.new.conn (Holds a) (Holds b) (found ≡ Some a) (found ≡ Some b) keeps c.schema.ensures.live idle c.read_whole.ensures.survives
@@ -88,7 +87,7 @@ returns-clause-settles_or g c it keeps =
     let idle = c.is_autocommit-is_idle.ensures.settled (rw (c.is_autocommit-is_idle.ensures.value, c.requires)) in
     let holds_as : (it : Stored) (found : Option Stored) → c.read_whole.result ≡ Ok found → HasCleanDisk (state g.S.Store c.read_whole.new.conn) → IsDatabase (state g.S.Store old).now → Holds it (state g.S.Store old).now.trees → found ≡ Some it = λ it found is clean sound holds.
     let store : IsStoreOf (state g.S.Store old).now it = store_of (state g.S.Store old).now it sound holds in
-    let has : c.found_in-found.result ≡ Store it.version = c.found_in-found.ensures ∙ ap found_in (c.schema.ensures.value ∙ store.schema) ∙ found_store it.version in
+    let has : c.found_in-found.result ≡ Store it.version = c.found_in-found.ensures ∙ ap found_in c.schema.ensures.value ∙ found_store it.version _ store.schema in
     subst (λ r. IfOk r (λ x. x ≡ Some it)) is (c.read_whole.ensures.read clean it has store) in
     if_ok_from c.read_whole.result (λ found is.
     settles g.S.Store g.met.S.Store.settled g.met.S.Store.stays old c.read_whole.new.conn HoldsNothing (Holds it) (found ≡ None) (found ≡ Some it) keeps c.schema.ensures.live idle c.read_whole.ensures.survives
@@ -113,7 +112,7 @@ returns-clause-sound g c clean keeps bad =
       | inl nothing ↦ (c.read_whole.ensures.blank (c.found_in-found.ensures ∙ ap found_in (c.schema.ensures.value ∙ bare now seen.0 nothing) ∙ found_blank)).1 bad
       | inr x ↦
           let store : IsStoreOf now x.0 = store_of now x.0 seen.0 x.1.1 in
-          let found : c.found_in-found.result ≡ Store x.0.version = c.found_in-found.ensures ∙ ap found_in (c.schema.ensures.value ∙ store.schema) ∙ found_store x.0.version in
+          let found : c.found_in-found.result ≡ Store x.0.version = c.found_in-found.ensures ∙ ap found_in c.schema.ensures.value ∙ found_store x.0.version _ store.schema in
           c.read_whole.ensures.own clean x.0 found store x.1.0 bad
     ])
 
@@ -126,12 +125,12 @@ returns-clause-refused g c clean keeps failed =
     elim (cases_Bool (state g.S.Store old).is_open) [
       | inl up ↦
           let seen = seen_is g.S.Store g.met.S.Store.settled g.met.S.Store.stays old (Some_kept (λ _. Unit {0})) keeps c.schema.ensures.live idle early up in
-          c.read_whole.ensures.refused clean (λ v is. ∥∥₁_elim seen.1 (schema_once now.schema (schema_of v)) (λ holds. elim holds [
+          c.read_whole.ensures.refused clean (λ v is. ∥∥₁_elim seen.1 (version_once v now.schema) (λ holds. elim holds [
             | inl nothing ↦ absurd (not_blank v (sym is ∙ c.found_in-found.ensures ∙ ap found_in (c.schema.ensures.value ∙ bare now seen.0 nothing) ∙ found_blank))
             | inr x ↦
                 let store : IsStoreOf now x.0 = store_of now x.0 seen.0 x.1.1 in
-                let found : c.found_in-found.result ≡ Store x.0.version = c.found_in-found.ensures ∙ ap found_in (c.schema.ensures.value ∙ store.schema) ∙ found_store x.0.version in
-                store.schema ∙ ap schema_of (version_of x.0.version v (sym found ∙ is))
+                let found : c.found_in-found.result ≡ Store x.0.version = c.found_in-found.ensures ∙ ap found_in c.schema.ensures.value ∙ found_store x.0.version _ store.schema in
+                subst (λ w. IsSchemaOf w now.schema) (version_of x.0.version v (sym found ∙ is)) store.schema
           ])) failed
       | inr down ↦ inr (inl down)
     ]

@@ -1,4 +1,4 @@
-use Rattle.std.proofs.Common.{◌≡◌, List, codes, sym, ap, subst, ◌∙◌, arith, rules}
+use Rattle.std.proofs.Common.{◌≡◌, List, codes, sym, ap, subst, arith, rules}
 use Rattle.sqlite.specs.Effect.{Database}
 use Rattle.sqlite_value.specs.Order.{Row}
 use Rattle.sqlite.specs.State.{HasCleanDisk}
@@ -6,7 +6,7 @@ use Rattle.sqlite.specs.Held.{state}
 use Rattle.store_rows.specs.Rows.{version_text}
 use Rattle.store_rows.specs.Holding.{HoldsParts, parts_of, mark}
 use Rattle.store_tables.specs.Reads.{TellsMark}
-use Rattle.store_schema.specs.Tables.{schema_of}
+use Rattle.store_schema.specs.Tables.{IsSchemaOf}
 use Rattle.store_rows.proofs.StepLemmas.{survives_more}
 use Rattle.store_tables.proofs.RefusalLemmas.{refused_since}
 use Rattle.store_tables.proofs.reads.read_all.Goals as goal
@@ -120,7 +120,7 @@ returns-in_err-cells-clause-refused g c clean has failed =
     let s1 = state g.S.Store c.read_marks.new.tx.conn.now in
     let s2 = state g.S.Store c.read_cells.new.tx.conn.now in
     let clean1 : HasCleanDisk s1 = omega (arith, c.read_cells.ensures.survives.clean) in
-    let has1 : s1.now.schema ≡ schema_of c.args.version = ap (λ (d : Database). d.schema) (c.in_ok-rows.ensures.same clean1 c.args.version has) ∙ has in
+    let has1 : IsSchemaOf c.args.version s1.now.schema = subst (λ (d : Database). IsSchemaOf c.args.version d.schema) (sym (c.in_ok-rows.ensures.same clean1 c.args.version has)) has in
     let why = c.in_err-cells.ensures.refused clean c.args.version has1 in
     refused_since s0 s1 s2 c.read_marks.ensures.survives clean1 c.read_cells.ensures.survives.counts (why (search rules))
 
@@ -132,8 +132,8 @@ returns-in_err-sessions-clause-refused g c clean has failed =
     let s3 = state g.S.Store c.read_sessions.new.tx.conn.now in
     let clean2 : HasCleanDisk s2 = omega (arith, c.read_sessions.ensures.survives.clean) in
     let clean1 : HasCleanDisk s1 = omega (arith, c.read_cells.ensures.survives.clean) in
-    let has1 : s1.now.schema ≡ schema_of c.args.version = ap (λ (d : Database). d.schema) (c.in_ok-rows.ensures.same clean1 c.args.version has) ∙ has in
-    let has2 : s2.now.schema ≡ schema_of c.args.version = ap (λ (d : Database). d.schema) (c.in_ok-cells.ensures.same clean2 c.args.version has1) ∙ has1 in
+    let has1 : IsSchemaOf c.args.version s1.now.schema = subst (λ (d : Database). IsSchemaOf c.args.version d.schema) (sym (c.in_ok-rows.ensures.same clean1 c.args.version has)) has in
+    let has2 : IsSchemaOf c.args.version s2.now.schema = subst (λ (d : Database). IsSchemaOf c.args.version d.schema) (sym (c.in_ok-cells.ensures.same clean2 c.args.version has1)) has1 in
     let why = c.in_err-sessions.ensures.refused clean c.args.version has2 in
     refused_since s0 s2 s3 (survives_more s0 s1 s2 c.read_marks.ensures.survives c.read_cells.ensures.survives) clean2 c.read_sessions.ensures.survives.counts (why (search rules))
 
@@ -147,9 +147,9 @@ returns-in_err-notices-clause-refused g c clean has failed =
     let clean3 : HasCleanDisk s3 = omega (arith, c.read_notices_of.ensures.survives.clean) in
     let clean2 : HasCleanDisk s2 = omega (arith, c.read_sessions.ensures.survives.clean) in
     let clean1 : HasCleanDisk s1 = omega (arith, c.read_cells.ensures.survives.clean) in
-    let has1 : s1.now.schema ≡ schema_of c.args.version = ap (λ (d : Database). d.schema) (c.in_ok-rows.ensures.same clean1 c.args.version has) ∙ has in
-    let has2 : s2.now.schema ≡ schema_of c.args.version = ap (λ (d : Database). d.schema) (c.in_ok-cells.ensures.same clean2 c.args.version has1) ∙ has1 in
-    let has3 : s3.now.schema ≡ schema_of c.args.version = ap (λ (d : Database). d.schema) (c.in_ok-sessions.ensures.same clean3 c.args.version has2) ∙ has2 in
+    let has1 : IsSchemaOf c.args.version s1.now.schema = subst (λ (d : Database). IsSchemaOf c.args.version d.schema) (sym (c.in_ok-rows.ensures.same clean1 c.args.version has)) has in
+    let has2 : IsSchemaOf c.args.version s2.now.schema = subst (λ (d : Database). IsSchemaOf c.args.version d.schema) (sym (c.in_ok-cells.ensures.same clean2 c.args.version has1)) has1 in
+    let has3 : IsSchemaOf c.args.version s3.now.schema = subst (λ (d : Database). IsSchemaOf c.args.version d.schema) (sym (c.in_ok-sessions.ensures.same clean3 c.args.version has2)) has2 in
     let why = c.in_err-notices.ensures.refused clean has3 in
     let early = survives_more s0 s2 s3 (survives_more s0 s1 s2 c.read_marks.ensures.survives c.read_cells.ensures.survives) c.read_sessions.ensures.survives in
     refused_since s0 s3 s4 early clean3 c.read_notices_of.ensures.survives.counts (why (search rules))

@@ -1,9 +1,8 @@
-use Rattle.std.proofs.Common.{sym, ◌∙◌}
+use Rattle.std.proofs.Common.{refl, ◌∙◌}
 use Rattle.sqlite.specs.Held.{state}
 use Rattle.store_tables.proofs.OwnLemmas.{cells_own}
 use Rattle.store_tables.proofs.LookLemmas.{cells_shown, if_ok_both}
 use Rattle.std.proofs.lemmas.Result.{err_from_is_err_and}
-use Rattle.store_schema.specs.Tables.{schema_of}
 use Rattle.store_rows.specs.Texts.{read_cells_text}
 use Rattle.store_rows.proofs.RefusalLemmas.{cells_whole}
 use Rattle.store_rows.proofs.SelectLemmas.{three, by_two, cell_names, cells_read}
@@ -25,13 +24,13 @@ returns-clause-own g c clean p h fit =
 pub returns-in_err-rows-clause-refused : goal.returns-in_err-rows-clause-refused
 returns-in_err-rows-clause-refused g c clean v has failed =
     let p = err_from_is_err_and c.from_residual.result c.from_residual.ensures.1 in
-    query_refused read_cells_text (state g.S.Store c.args.tx.now.conn.now) (state g.S.Store c.query_all.new.self.conn.now) (schema_of v) has 2 three by_two cell_names (cells_read v) (cells_whole v) _
+    query_refused read_cells_text (state g.S.Store c.args.tx.now.conn.now) (state g.S.Store c.query_all.new.self.conn.now) _ refl 2 three by_two cell_names (cells_read v _ has) (cells_whole v _ has) _
     (not_memory p.0 _ p.2.0 (one_error _ p.0 _ p.1 failed)) (c.in_err-rows.ensures.err clean)
 
 pub returns-clause-same : goal.returns-clause-same
 returns-clause-same g c clean v has =
     all_on_ok c.rising_in.result
-    (query_same read_cells_text (state g.S.Store c.args.tx.now.conn.now) (state g.S.Store c.query_all.new.self.conn.now) (schema_of v) has 2 three by_two cell_names (cells_read v) (cells_whole v)
+    (query_same read_cells_text (state g.S.Store c.args.tx.now.conn.now) (state g.S.Store c.query_all.new.self.conn.now) _ refl 2 three by_two cell_names (cells_read v _ has) (cells_whole v _ has)
     c.in_ok-rows.rows.items (c.in_ok-rows.ensures.ok clean))
 
 pub returns-in_err-rows-clause-own : goal.returns-in_err-rows-clause-own

@@ -1,14 +1,12 @@
-use Rattle.std.proofs.Common.{sym, ◌∙◌}
+use Rattle.std.proofs.Common.{refl, ◌∙◌}
 use Rattle.sqlite.specs.Held.{state}
 use Rattle.store_tables.proofs.OwnLemmas.{notices_own}
 use Rattle.store_tables.proofs.LookLemmas.{notices_shown, if_ok_both}
 use Rattle.std.proofs.lemmas.Result.{err_from_is_err_and}
-use Rattle.store_schema.specs.Tables.{schema_of}
 use Rattle.store_rows.specs.Texts.{read_notices_text}
 use Rattle.store_rows.proofs.RefusalLemmas.{notices_whole}
-use Rattle.store_schema.specs.declared.Version.TheVariants.{Second}
 use Rattle.store_rows.proofs.SelectLemmas.{four, by_two, notice_names, notices_read}
-use Rattle.store_tables.proofs.RefusalLemmas.{all_on_ok, not_memory, one_error, query_refused, query_same}
+use Rattle.store_tables.proofs.RefusalLemmas.{not_memory, one_error, query_refused}
 use Rattle.store_tables.proofs.reads.read_notices.Goals as goal
 
 pub returns-clause-read : goal.returns-clause-read
@@ -26,7 +24,7 @@ returns-clause-own g c clean p second h fit =
 pub returns-in_err-rows-clause-refused : goal.returns-in_err-rows-clause-refused
 returns-in_err-rows-clause-refused g c clean has failed =
     let p = err_from_is_err_and c.from_residual.result c.from_residual.ensures.1 in
-    query_refused read_notices_text (state g.S.Store c.args.tx.now.conn.now) (state g.S.Store c.query_all.new.self.conn.now) (schema_of Second) has 7 four by_two notice_names notices_read notices_whole _
+    query_refused read_notices_text (state g.S.Store c.args.tx.now.conn.now) (state g.S.Store c.query_all.new.self.conn.now) _ refl 7 four by_two notice_names (notices_read _ has) (notices_whole _ has) _
     (not_memory p.0 _ p.2.0 (one_error _ p.0 _ p.1 failed)) (c.in_err-rows.ensures.err clean)
 
 pub returns-in_err-rows-clause-own : goal.returns-in_err-rows-clause-own

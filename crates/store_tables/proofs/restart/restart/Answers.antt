@@ -2,7 +2,7 @@ use Rattle.std.proofs.Common.{◌⊎◌, sym, subst}
 use Rattle.sqlite.specs.State.{HasCleanDisk}
 use Rattle.sqlite.specs.Held.{state}
 use Rattle.sqlite.specs.Files.{over_files}
-use Rattle.store_rows.specs.Holding.{Holds, HoldsNothing, Leaves}
+use Rattle.store_rows.specs.Holding.{Holds, HoldsBeside, HoldsNothing, Leaves}
 use Rattle.store_tables.proofs.RestartLemmas.{leaves_again, was_honest}
 use Rattle.store_tables.proofs.restart.restart.Goals as goal
 
@@ -26,6 +26,13 @@ returns-in-Ok-clause-bare g c keeps =
     subst (λ h. Leaves over_files h HoldsNothing) (sym c.over.ensures.connection)
     (leaves_again g.met.D.Disk.seen_may_stay c.into_connection.result c.into_store.result c.close-left.result (record { log = c.crash.new.self; db = c.crash-2.new.self }) c.in-Ok.conn c.into_store.ensures.numbered c.into_store.ensures.sound c.into_store.ensures.quiet
     c.close-left.ensures c.crash.ensures.left c.crash-2.ensures.left c.crash.ensures.clean c.crash-2.ensures.clean c.in-Ok.ensures.opened c.in-Ok.ensures.found HoldsNothing was)
+
+pub returns-in-Ok-clause-beside : goal.returns-in-Ok-clause-beside
+returns-in-Ok-clause-beside g c others keeps =
+    let was = subst (λ h. Leaves over_files h (HoldsBeside others)) (sym c.into_connection.ensures) keeps in
+    subst (λ h. Leaves over_files h (HoldsBeside others)) (sym c.over.ensures.connection)
+    (leaves_again g.met.D.Disk.seen_may_stay c.into_connection.result c.into_store.result c.close-left.result (record { log = c.crash.new.self; db = c.crash-2.new.self }) c.in-Ok.conn c.into_store.ensures.numbered c.into_store.ensures.sound c.into_store.ensures.quiet
+    c.close-left.ensures c.crash.ensures.left c.crash-2.ensures.left c.crash.ensures.clean c.crash-2.ensures.clean c.in-Ok.ensures.opened c.in-Ok.ensures.found (HoldsBeside others) was)
 
 pub returns-in-Ok-clause-bare_or : goal.returns-in-Ok-clause-bare_or
 returns-in-Ok-clause-bare_or g c it keeps =

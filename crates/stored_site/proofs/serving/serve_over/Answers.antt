@@ -4,7 +4,7 @@ use Rattle.stored_site.proofs.serving.serve_over.Goals as goal
 pub returns-in-Err : goal.returns-in-Err
 returns-in-Err g c = inr (record {
   error = c.in-Err.error;
-  opened = record { stored = c.in-Err.ensures.store; blank = c.in-Err.ensures.blank };
+  opened = record { stored = c.in-Err.ensures.store; blank = c.in-Err.ensures.blank; beside = c.in-Err.ensures.beside };
   unread = refl;
   silent = refl;
   status = c.refusal_status.ensures;
@@ -14,7 +14,7 @@ pub returns : goal.returns
 returns g c = inl (record {
   keeper = c.in-Ok.keeper;
   keeper_after = c.site_engine-ended.result.1;
-  opened = record { stored = c.in-Ok.ensures.store; blank = c.in-Ok.ensures.blank };
+  opened = record { stored = c.in-Ok.ensures.store; blank = c.in-Ok.ensures.blank; beside = c.in-Ok.ensures.beside };
   ends = c.site_engine-ended.ensures.ended;
   handed = c.into_connection.ensures;
 })

@@ -1,5 +1,5 @@
 use Rattle.std.proofs.Common.{inl, ap, sym, subst, ◌∙◌}
-use Rattle.store_rows.specs.Rows.{Stored}
+use Rattle.store_rows.specs.Holding.{HoldsBeside}
 use Rattle.admission_core.specs.Kept.{DurableState}
 use Rattle.store_tables.specs.Kept.{connection_of}
 use Rattle.store_content.proofs.TellableLemmas.{tellable}
@@ -8,7 +8,7 @@ use Rattle.durable_keeper.specs.Keeping.{changed}
 use Rattle.store_content.specs.Plan.{after_change}
 use Rattle.std.proofs.lemmas.Result.{on_ok_weaker}
 use Rattle.site_store.specs.Sql.{Changes, IsOneOf, KeepsContent}
-use Rattle.site_store.proofs.OpenLemmas.{twice}
+use Rattle.site_store.proofs.OpenLemmas.{if_honest, twice}
 use Rattle.site_store.proofs.SqlLemmas.{either_first, lacks_some, left_or, nothing_after}
 use Rattle.site_store.proofs.sql.SqlKeeper.make_change.Goals as goal
 
@@ -84,3 +84,11 @@ returns-then-is_empty-clause-full g c it keeps lacks =
 
 pub returns-clause-full : goal.returns-clause-full
 returns-clause-full g c it keeps lacks = c.commit_rows.ensures.full c.args.self.now.layout c.args.self.now.site it keeps lacks
+
+-- ---- the other tables
+
+pub returns-clause-beside : goal.returns-clause-beside
+returns-clause-beside g c d others keeps beside =
+    let k = c.args.self.now in
+    if_honest g.S.Store (connection_of c.commit_rows.new.tables) (HoldsBeside others)
+    (λ clean. let found = keeps (c.commit_rows.ensures.honest clean) in c.commit_rows.ensures.beside k.layout k.site found.0 others found.1.0 beside)

@@ -5,12 +5,12 @@ use Rattle.sqlite.specs.Held.{Held, state}
 use Rattle.merge_core.specs.Layout.{LayoutState}
 use Rattle.layout_line.specs.Line.{line_of}
 use Rattle.store_rows.specs.Rows.{Stored}
-use Rattle.store_rows.specs.Holding.{Keeps, KeepsEither, KeepsNothingOr}
+use Rattle.store_rows.specs.Holding.{Keeps, KeepsBeside, KeepsEither, KeepsNothingOr}
 use Rattle.store_rows.specs.Changes.{renewed}
 use Rattle.store_tables.specs.Kept.{connection_of}
 use Rattle.store_tables.specs.Transacts.{made}
 use Rattle.site_store.specs.Sql.{Stores}
-use Rattle.site_store.specs.Opened.{CommitsNothing, IsDeviceCause, IsDue, IsReady, IsRefusal}
+use Rattle.site_store.specs.Opened.{CommitsNothing, IsDue, IsReady, IsRefusal}
 use Rattle.store_rows.proofs.StepLemmas.{survives_same}
 use Rattle.site_store.proofs.OwnLemmas.{memory_is_none}
 use Rattle.site_store.proofs.sql.SqlKeeper.open.Goals as goal
@@ -92,3 +92,16 @@ returns-in_default-clause-judged g c = λ other room. absurd (room refl)
 
 pub returns-in_default-clause-current : goal.returns-in_default-clause-current
 returns-in_default-clause-current g c it current keeps clean = survives_same _
+
+-- ---- the other tables
+
+pub returns-in-Ok-prepare-clause-beside : goal.returns-in-Ok-prepare-clause-beside
+returns-in-Ok-prepare-clause-beside g c a b others keeps beside =
+    c.in-Ok-prepare.ensures.beside a b others (subst (λ (h : Held g.row.S.Denot). KeepsEither g.S.Store h a b) (sym c.over-tables.ensures.connection) keeps)
+    (subst (λ (h : Held g.row.S.Denot). KeepsBeside g.S.Store h others) (sym c.over-tables.ensures.connection) beside)
+
+pub returns-in-Err-clause-beside : goal.returns-in-Err-clause-beside
+returns-in-Err-clause-beside g c a b others keeps beside =
+    subst (λ (h : Held g.row.S.Denot). KeepsBeside g.S.Store h others) (sym c.into_connection.ensures)
+    (c.in-Err.ensures.beside a b others (subst (λ (h : Held g.row.S.Denot). KeepsEither g.S.Store h a b) (sym c.over-tables.ensures.connection) keeps)
+    (subst (λ (h : Held g.row.S.Denot). KeepsBeside g.S.Store h others) (sym c.over-tables.ensures.connection) beside))

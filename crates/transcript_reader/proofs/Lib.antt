@@ -1,0 +1,11 @@
+pub mod QuotedLemmas
+pub mod NumberLemmas
+pub mod SessionLemmas
+pub mod WordLemmas
+pub mod EntryLemmas
+pub mod CallLemmas
+pub mod ReplyLemmas
+pub mod ReadingLemmas
+pub mod OpeningLemmas
+pub mod PartLemmas
+pub mod BeginLemmas

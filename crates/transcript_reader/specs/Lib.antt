@@ -1,0 +1,6 @@
+pub mod Unquoted
+pub mod Fits
+pub mod Words
+pub mod Readers
+pub mod Reading
+pub mod Lines

@@ -1,0 +1,96 @@
+//! The lines of entries.
+ghost use Rattle.std.specs.Prelude.{◌≡◌, ◌++◌, ◌⊎◌, ◌≤◌, ◌↔◌, IsTrue, Ok, Err, length, map, IfOk};
+ghost use Rattle.text_parts.specs.Readers.{Gives};
+ghost use Rattle.text_input.specs.Lines.{lines_of};
+ghost use Rattle.desk_log.specs.declared.entry.Entry.{Entry as EntryThere};
+ghost use Rattle.transcript_text.specs.Texts.{entry_text};
+ghost use Rattle.transcript_reader.specs.Fits.{FitsEntry};
+ghost use Rattle.transcript_reader.specs.Readers.{entry_parts};
+ghost use Rattle.transcript_reader.specs.Lines.{StopsAt};
+
+use crate::asks::call_in;
+use crate::quoted::quoted_behind;
+use crate::replies::reply_in;
+use desk_log::Entry;
+use merge_core::Layout;
+use std::alloc::{AllocError, Global};
+use text_input::cut_line;
+use text_parts::{Unread, after, short_at};
+use transcript_text::push_entry;
+
+// What stands in such a line: two texts, and the number of a pass.
+#[derive(Debug, Drop)]
+struct Parts {
+    call: Vec<u8>,
+    pass: u16,
+    reply: Vec<u8>,
+}
+
+// What stands in a line.
+#[tactic(auto, unfolding(crate::specs::Readers::entry_parts))]
+fn entry_parts(alloc: Global, line: &[u8]) -> Result<Parts, Unread>
+    ensures { Gives (λ p. record { call = p.call.items; pass = p.pass; reply = p.reply.items }) result (entry_parts line.now) }
+{
+    let (call, rest) = quoted_behind(alloc, b"{\"call\":\"", line)?;
+    let rest = after(b",\"pass\":", rest)?;
+    let (pass, rest) = short_at(rest)?;
+    let (reply, rest) = quoted_behind(alloc, b",\"reply\":\"", rest)?;
+    let rest = after(b"}", rest)?;
+    if !rest.is_empty() {
+        return Err(Unread::Refused);
+    }
+    Ok(Parts { call, pass, reply })
+}
+
+// Whether the line is that of the entry.
+fn is_line_of(
+    alloc: Global,
+    layout: &Layout,
+    line: &[u8],
+    entry: &Entry,
+) -> Result<bool, AllocError>
+    ensures { IfOk result (λ b. IsTrue b ↔ (line.now ≡ entry_text layout.now.records entry.now)) }
+{
+    let mut text = String::new(alloc);
+    push_entry(alloc, &mut text, layout, entry)?;
+    Ok(text.as_bytes() == line)
+}
+
+// The entry of a line. Linear in it.
+fn entry_in(alloc: Global, layout: &Layout, line: &[u8]) -> Result<Entry, Unread>
+    ensures sound { IfOk result (λ e. line.now ≡ entry_text layout.now.records e) }
+    ensures only { (e : EntryThere) → FitsEntry e → line.now ≡ entry_text layout.now.records e → (result ≡ Ok e) ⊎ (result ≡ Err Unread.Memory) }
+{
+    let Parts { call, pass, reply } = entry_parts(alloc, line)?;
+    let call = call_in(alloc, layout, call.as_slice())?;
+    let reply = reply_in(alloc, reply.as_slice())?;
+    let entry = Entry { pass, call, reply };
+    if is_line_of(alloc, layout, line, &entry)? {
+        return Ok(entry);
+    }
+    Err(Unread::Refused)
+}
+
+/// The entries of the first lines, up to one that is no entry, and the bytes from there on. Linear in their lines.
+pub(crate) fn entries_in<'a>(
+    alloc: Global,
+    layout: &Layout,
+    bytes: &'a [u8],
+) -> Result<(Vec<Entry>, &'a [u8]), AllocError>
+    ensures lines { IfOk result (λ x. lines_of bytes.now ≡ map (entry_text layout.now.records) x.0.items ++ lines_of x.1.now) }
+    ensures stops { IfOk result (λ x. StopsAt layout.now.records (lines_of x.1.now)) }
+    ensures shorter { IfOk result (λ x. length x.1.now ≤ length bytes.now) }
+{
+    let mut entries = Vec::new(alloc);
+    let mut rest = bytes;
+    while !rest.is_empty() {
+        let (line, behind) = cut_line(rest);
+        match entry_in(alloc, layout, line) {
+            Ok(entry) => entries.push(entry)?,
+            Err(Unread::Refused) => return Ok((entries, rest)),
+            Err(Unread::Memory) => return Err(AllocError),
+        }
+        rest = behind;
+    }
+    Ok((entries, rest))
+}

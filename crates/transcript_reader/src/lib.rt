@@ -1,0 +1,18 @@
+//! Transcripts from their text: the runs of all sites, read off lines.
+#![tactic(auto)]
+
+pub use openings::Opening;
+pub use reading::{ReadError, read_transcripts};
+pub use runs::SiteRun;
+
+mod asks;
+mod cells;
+mod entries;
+mod numbers;
+mod openings;
+mod quoted;
+mod reading;
+mod replies;
+mod runs;
+mod sessions;
+mod told;

@@ -1,0 +1,9 @@
+//! Tests of transcripts as text: closed logs that are written and read again, and lines that are refused.
+#![tactic(auto)]
+
+#[cfg(test)]
+mod lines;
+#[cfg(test)]
+mod logs;
+#[cfg(test)]
+mod texts;

@@ -1,0 +1,3 @@
+pub mod QuotedLemmas
+pub mod ToldLemmas
+pub mod WritingLemmas
