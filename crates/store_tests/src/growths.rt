@@ -1,4 +1,4 @@
-//! Want of memory at each call of a keeper and a desk. These tests pass with ample memory and with any one allocation
+//! Want of memory at each call of a keeper and a desk. These tests are to pass with ample memory and with any one allocation
 //! refused, or any two in a row: what then finds no memory has changed nothing, and goes on after that.
 use crate::databases::in_memory;
 use crate::desks::{ENTERS, NOTHING, ONE_READER, READ_7, Told, ask, is_part, over, over_memory};
