@@ -19,6 +19,8 @@ cat examples/site_1.deltas examples/site_0.deltas | ./seat_cli join --layout exa
 prints $? joined.txt "the deltas of two sites are joined"
 ./seat_cli play --tables --layout examples/three_sites.toml <examples/maintenance.script >"$work/out"
 prints $? maintenance.txt "the script of a maintenance job is played"
+./seat_cli judge --layout examples/three_sites.toml <examples/maintenance.log >"$work/out"
+prints $? maintenance.verdict "the logs of its sites are judged"
 examples/two_sites.sh >"$work/out"
 prints $? two_sites.txt "two sites, with a store each, serve a writer"
 

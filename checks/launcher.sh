@@ -115,10 +115,12 @@ ends 0 "seat_cli 0.1.0" "" --version </dev/null
 tell $? "0 and the version on standard output"
 ends 0 '{"from":0,"rows":[],"v":1}' "" </dev/null
 tell $? "0 and the book of no input"
-ends 2 "" "error: unrecognized subcommand 'judge'" judge </dev/null
+ends 2 "" "error: unrecognized subcommand 'run'" run </dev/null
 tell $? "2 and clap's words on standard error"
 ends 2 "" "error: an argument is not UTF-8" "$(printf '\377')" </dev/null
 tell $? "2 for an argument that is not UTF-8"
+ends 2 "" "cut refused BadWord" judge --cut 1,x </dev/null
+tell $? "2 for a word that is no cut"
 ends 3 "" "layout refused NotRead" join --layout examples </dev/null
 tell $? "3 for a folder in place of a layout file"
 ends 3 "" "layout refused TooLong" join --layout /dev/zero </dev/null

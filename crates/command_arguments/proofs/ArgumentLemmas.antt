@@ -12,7 +12,7 @@ use Rattle.clap.specs.ValueTests.{is_numeral}
 use Rattle.clap.specs.Matches.{ReadsOne}
 use Rattle.clap.specs.Words.{Row, Text, fault_of, first_of}
 use Rattle.clap.proofs.WalkLemmas.{both}
-use Rattle.command_arguments.specs.Arguments.{is_true, layout_in, program, short_number, store_in, usage_errors}
+use Rattle.command_arguments.specs.Arguments.{is_true, program, short_number, usage_errors, value_in}
 
 -- arguments behind the program's name are judged by clap's rules
 pub errors_by_clap : (arguments : List Text) → 1 < length arguments → usage_errors arguments ≡ fault_of program arguments
@@ -22,19 +22,11 @@ errors_by_clap arguments more = rw (lt-leb (length arguments) 1 more) refl
 pub more_texts : {S : Type 0} (f : S → Text) (arguments : List S) → 1 < length arguments → 1 < length (map f arguments)
 more_texts f arguments more = omega (arith, length-map arguments f)
 
--- the layout file is read from the rows of the command that was met
-pub layout_of_rows : (met : Option (Text × List Row)) (rows : List Row) → option_map (λ p. p.1) met ≡ Some rows
-    → first_of (codes "layout") rows ≡ layout_in met
-layout_of_rows None rows has_rows = cc
-layout_of_rows (Some (name, values)) rows has_rows =
-    let rows_are : values ≡ rows = cc in
-    rw rows_are refl
-
--- and so is the store's file
-pub store_of_rows : (met : Option (Text × List Row)) (rows : List Row) → option_map (λ p. p.1) met ≡ Some rows
-    → first_of (codes "store") rows ≡ store_in met
-store_of_rows None rows has_rows = cc
-store_of_rows (Some (name, values)) rows has_rows =
+-- the value of an option is read from the rows of the command that was met
+pub value_of_rows : (option : Text) (met : Option (Text × List Row)) (rows : List Row) → option_map (λ p. p.1) met ≡ Some rows
+    → first_of option rows ≡ value_in option met
+value_of_rows option None rows has_rows = cc
+value_of_rows option (Some (name, values)) rows has_rows =
     let rows_are : values ≡ rows = cc in
     rw rows_are refl
 

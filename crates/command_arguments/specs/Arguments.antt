@@ -8,15 +8,23 @@ use Rattle.clap.specs.ValueTests.{is_numeral}
 use Rattle.clap.specs.declared.builder.ArgAction.TheVariants.{Set, SetTrue}
 use Rattle.clap.specs.declared.builder.value_parser.ValueParser.TheVariants.{Signed}
 use Rattle.command_arguments.specs.declared.arguments.Command.{Command}
-use Rattle.command_arguments.specs.declared.arguments.Command.TheVariants.{Join, Play, Site}
+use Rattle.command_arguments.specs.declared.arguments.Command.TheVariants.{Join, Play, Site, Judge}
 
--- the option `--layout FILE` (the project's own), with one name for its value
-abbrev pub layout_option : Rule
-layout_option = record (new_rule (codes "layout")) {
-  long = Some (codes "layout");
+-- an option whose value is any text (the project's own), with one name for its value
+abbrev pub text_option : Text → Rule
+text_option name = record (new_rule name) {
+  long = Some name;
   action = Some Set;
   value_names = 1;
 }
+
+-- the option `--layout FILE` (the project's own)
+abbrev pub layout_option : Rule
+layout_option = text_option (codes "layout")
+
+-- the option `--cut C` (the project's own)
+abbrev pub cut_option : Rule
+cut_option = text_option (codes "cut")
 
 -- the flag `--tables` (the project's own)
 abbrev pub tables_flag : Rule
@@ -27,12 +35,7 @@ tables_flag = record (new_rule (codes "tables")) {
 
 -- an option whose value is a number from 0 to 65,535 (the project's own)
 abbrev pub number_option : Text → Rule
-number_option name = record (new_rule name) {
-  long = Some name;
-  action = Some Set;
-  value_names = 1;
-  parser = Some (Signed (pos 0) (pos 65535));
-}
+number_option name = record (text_option name) { parser = Some (Signed (pos 0) (pos 65535)) }
 
 -- the option `--from M` (the project's own)
 abbrev pub first_option : Rule
@@ -44,12 +47,7 @@ site_option = record (number_option (codes "site")) { required = true }
 
 -- the option `--store FILE` (the project's own), which is needed
 abbrev pub store_option : Rule
-store_option = record (new_rule (codes "store")) {
-  long = Some (codes "store");
-  action = Some Set;
-  value_names = 1;
-  required = true;
-}
+store_option = record (text_option (codes "store")) { required = true }
 
 -- the command `join` (the project's own), with one option
 abbrev pub join_command : App
@@ -63,6 +61,10 @@ play_command = with_rule (with_rule (with_rule (new_app (codes "play")) tables_f
 abbrev pub site_command : App
 site_command = with_rule (with_rule (with_rule (new_app (codes "site")) site_option) store_option) layout_option
 
+-- the command `judge` (the project's own), with two options
+abbrev pub judge_command : App
+judge_command = with_rule (with_rule (new_app (codes "judge")) cut_option) layout_option
+
 -- the settings of the program: it has a version, it needs a command, and it has no command `help`
 abbrev pub with_settings : Shape → Shape
 with_settings top = record top {
@@ -71,9 +73,11 @@ with_settings top = record top {
   disable_help_subcommand = true;
 }
 
--- the program, whose commands are `join`, `play` and `site`
+-- the program, whose commands are `join`, `play`, `site` and `judge`
 abbrev pub program : App
-program = with_subcommand (with_subcommand (with_subcommand (on_top with_settings (new_app (codes "seat_cli"))) join_command.top) play_command.top) site_command.top
+program =
+    with_subcommand (with_subcommand (with_subcommand (with_subcommand (on_top with_settings (new_app (codes "seat_cli")))
+    join_command.top) play_command.top) site_command.top) judge_command.top
 
 -- whether a flag's text is `true`
 abbrev pub is_true : Text → Bool
@@ -101,34 +105,26 @@ site_in rows = unwrap_or (option_and_then short_number (one_of (codes "site") ro
 abbrev pub command_of : Text → List Row → Command
 command_of name rows =
     if bytes_eq name (codes "play") then Play (tables_in rows) (first_in rows)
-    else if bytes_eq name (codes "site") then Site (site_in rows) else Join
+    else if bytes_eq name (codes "site") then Site (site_in rows)
+    else if bytes_eq name (codes "judge") then Judge else Join
 
 -- the command that was met, if one was
 abbrev pub command_in : Option (Text × List Row) → Command
 command_in None = Join
 command_in (Some (name, rows)) = command_of name rows
 
--- the layout file that its values name, if they name one
-abbrev pub layout_in : Option (Text × List Row) → Option Text
-layout_in None = None
-layout_in (Some (name, rows)) = first_of (codes "layout") rows
-
--- the store's file that its values name, if they name one
-abbrev pub store_in : Option (Text × List Row) → Option Text
-store_in None = None
-store_in (Some (name, rows)) = first_of (codes "store") rows
+-- the value that the command that was met has for an option, if it has one
+abbrev pub value_in : Text → Option (Text × List Row) → Option Text
+value_in option None = None
+value_in option (Some (name, rows)) = first_of option rows
 
 -- the command that arguments name, as clap gives it and its values
 abbrev pub named_command : List Text → Command
 named_command arguments = command_in (subcommand_of program arguments)
 
--- the layout file that arguments name, as clap gives their command's values
-abbrev pub named_layout : List Text → Option Text
-named_layout arguments = layout_in (subcommand_of program arguments)
-
--- the store's file that arguments name, as clap gives their command's values
-abbrev pub named_store : List Text → Option Text
-named_store arguments = store_in (subcommand_of program arguments)
+-- the value that arguments have for an option, as clap gives their command's values
+abbrev pub named_value : Text → List Text → Option Text
+named_value option arguments = value_in option (subcommand_of program arguments)
 
 -- the arguments of a call of the program: its own name, and those behind it
 abbrev pub called_with : List Text → List Text
@@ -142,10 +138,18 @@ usage_errors arguments = if nat_le (length arguments) 1 then [] else fault_of pr
 abbrev pub asked_command : List Text → Command
 asked_command arguments = if nat_le (length arguments) 1 then Join else named_command arguments
 
+-- the value that they have for an option
+abbrev pub asked_value : Text → List Text → Option Text
+asked_value option arguments = if nat_le (length arguments) 1 then None else named_value option arguments
+
 -- the layout file that they name
 abbrev pub asked_layout : List Text → Option Text
-asked_layout arguments = if nat_le (length arguments) 1 then None else named_layout arguments
+asked_layout arguments = asked_value (codes "layout") arguments
 
 -- the store's file that they name
 abbrev pub asked_store : List Text → Option Text
-asked_store arguments = if nat_le (length arguments) 1 then None else named_store arguments
+asked_store arguments = asked_value (codes "store") arguments
+
+-- the word for a cut that they name
+abbrev pub asked_cut : List Text → Option Text
+asked_cut arguments = asked_value (codes "cut") arguments

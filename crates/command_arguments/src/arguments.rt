@@ -1,7 +1,7 @@
-ghost use Rattle.std.specs.Prelude.{◌≡◌, ◌≤◌, false, length, map, IfOk, IsOk, option_map, string_bytes};
+ghost use Rattle.std.specs.Prelude.{◌≡◌, ◌≤◌, codes, false, length, map, IfOk, IsOk, option_map, string_bytes};
 ghost use Rattle.clap.specs.Words.{FailsBy, app_of, found_of, rows_of, rule_of, subcommand_rows_of};
 ghost use Rattle.clap.specs.declared.builder.command.Command.TheViews.{out-Command as fields_of};
-ghost use Rattle.command_arguments.specs.Arguments.{asked_command, asked_layout, asked_store, command_in, command_of, join_command, layout_in, layout_option, number_option, play_command, program, site_command, site_in, site_option, store_in, store_option, tables_flag, usage_errors};
+ghost use Rattle.command_arguments.specs.Arguments.{asked_command, asked_cut, asked_layout, asked_store, command_in, command_of, join_command, judge_command, number_option, play_command, program, site_command, site_in, site_option, store_option, tables_flag, text_option, usage_errors, value_in};
 
 use crate::help;
 use clap::{Arg, ArgAction, ArgMatches, Command as Parser, Error, value_parser};
@@ -24,9 +24,11 @@ pub enum Command {
         /// The site's number.
         site: u16,
     },
+    /// The lines of the input are those of closed logs, which are judged.
+    Judge,
 }
 
-/// A command and the paths of the files that are named.
+/// A command and the texts that its options name.
 #[derive(Clone, Copy)]
 pub struct Request<'a> {
     pub command: Command,
@@ -34,6 +36,8 @@ pub struct Request<'a> {
     pub layout: Option<&'a str>,
     /// The file of the site's store: `site` has one, and no other command.
     pub store: Option<&'a str>,
+    /// The word for a cut, if one is named: `judge` may have one, and no other command.
+    pub cut: Option<&'a str>,
 }
 
 /// What the arguments ask for. The first is the program's own name; without a further one it is `join`, for which no
@@ -42,6 +46,7 @@ pub fn requested<'a>(alloc: Global, arguments: &'a [String]) -> Result<Request<'
     ensures command { IfOk result (λ asked. asked.command ≡ asked_command (map string_bytes arguments.now)) }
     ensures layout { IfOk result (λ asked. option_map (λ path. path.now) asked.layout ≡ asked_layout (map string_bytes arguments.now)) }
     ensures store { IfOk result (λ asked. option_map (λ path. path.now) asked.store ≡ asked_store (map string_bytes arguments.now)) }
+    ensures cut { IfOk result (λ asked. option_map (λ word. word.now) asked.cut ≡ asked_cut (map string_bytes arguments.now)) }
     // An error comes just where clap's rules find one, and is of a kind that they give, or memory ran out.
     ensures refused { FailsBy (usage_errors (map string_bytes arguments.now)) result }
     ensures bare { length arguments.now ≤ 1 → IsOk result }
@@ -51,6 +56,7 @@ pub fn requested<'a>(alloc: Global, arguments: &'a [String]) -> Result<Request<'
             command: Command::Join,
             layout: None,
             store: None,
+            cut: None,
         });
     }
     let matches = parser(alloc)?.try_get_matches_from(arguments)?;
@@ -60,20 +66,23 @@ pub fn requested<'a>(alloc: Global, arguments: &'a [String]) -> Result<Request<'
 // What the arguments' matches ask for.
 fn request_in<'a>(matches: &ArgMatches<'a>) -> Request<'a>
     ensures command { result.command ≡ command_in (subcommand_rows_of matches.now) }
-    ensures layout { option_map (λ path. path.now) result.layout ≡ layout_in (subcommand_rows_of matches.now) }
-    ensures store { option_map (λ path. path.now) result.store ≡ store_in (subcommand_rows_of matches.now) }
+    ensures layout { option_map (λ path. path.now) result.layout ≡ value_in (codes "layout") (subcommand_rows_of matches.now) }
+    ensures store { option_map (λ path. path.now) result.store ≡ value_in (codes "store") (subcommand_rows_of matches.now) }
+    ensures cut { option_map (λ word. word.now) result.cut ≡ value_in (codes "cut") (subcommand_rows_of matches.now) }
 {
     let Some((name, found)) = matches.subcommand() else {
         return Request {
             command: Command::Join,
             layout: None,
             store: None,
+            cut: None,
         };
     };
     Request {
         command: command_of(name, found),
         layout: found.get_str("layout"),
         store: found.get_str("store"),
+        cut: found.get_str("cut"),
     }
 }
 
@@ -92,6 +101,9 @@ fn command_of(name: &str, found: &ArgMatches) -> Command
             site: site_in(found),
         };
     }
+    if name == "judge" {
+        return Command::Judge;
+    }
     Command::Join
 }
 
@@ -109,6 +121,7 @@ fn parser<'a>(alloc: Global) -> Result<Parser<'a>, AllocError>
     let join = join_parser(alloc)?;
     let play = play_parser(alloc)?;
     let site = site_parser(alloc)?;
+    let judge = judge_parser(alloc)?;
     Parser::new(alloc, "seat_cli")
         .version("0.1.0")
         .override_usage("seat_cli [COMMAND]")
@@ -118,7 +131,8 @@ fn parser<'a>(alloc: Global) -> Result<Parser<'a>, AllocError>
         .disable_help_subcommand(true)
         .subcommand(join)?
         .subcommand(play)?
-        .subcommand(site)
+        .subcommand(site)?
+        .subcommand(judge)
 }
 
 // The command `join`.
@@ -165,16 +179,26 @@ fn site_parser<'a>(alloc: Global) -> Result<Parser<'a>, AllocError>
         .arg(layout)
 }
 
+// The command `judge`.
+fn judge_parser<'a>(alloc: Global) -> Result<Parser<'a>, AllocError>
+    ensures { IfOk result (λ built. (app_of built ≡ judge_command) × ((fields_of built).has_globals ≡ false)) }
+{
+    let cut = text_option(alloc, "cut", "C", help::CUT);
+    let layout = layout_option(alloc);
+    Parser::new(alloc, "judge")
+        .override_usage("seat_cli judge [--cut C] [--layout FILE]")
+        .about(help::JUDGE)
+        .after_help(help::JUDGE_NOTES)
+        .arg(cut)?
+        .arg(layout)
+}
+
 // The option `--layout FILE`.
 fn layout_option<'a>(alloc: Global) -> Arg<'a>
-    ensures rule { rule_of result ≡ layout_option }
+    ensures rule { rule_of result ≡ text_option (codes "layout") }
     ensures local { result.global ≡ false }
 {
-    Arg::new(alloc, "layout")
-        .long("layout")
-        .value_name("FILE")
-        .help(help::LAYOUT)
-        .action(ArgAction::Set)
+    text_option(alloc, "layout", "FILE", help::LAYOUT)
 }
 
 // The flag `--tables`.
@@ -201,11 +225,18 @@ fn store_option<'a>(alloc: Global) -> Arg<'a>
     ensures rule { rule_of result ≡ store_option }
     ensures local { result.global ≡ false }
 {
-    Arg::new(alloc, "store")
-        .long("store")
-        .value_name("FILE")
-        .help(help::STORE)
-        .required(true)
+    text_option(alloc, "store", "FILE", help::STORE).required(true)
+}
+
+// An option whose value is any text.
+fn text_option<'a>(alloc: Global, name: &'a str, value: &'a str, about: &'a str) -> Arg<'a>
+    ensures rule { rule_of result ≡ text_option name.now }
+    ensures local { result.global ≡ false }
+{
+    Arg::new(alloc, name)
+        .long(name)
+        .value_name(value)
+        .help(about)
         .action(ArgAction::Set)
 }
 
@@ -214,10 +245,5 @@ fn number_option<'a>(alloc: Global, name: &'a str, value: &'a str, about: &'a st
     ensures rule { rule_of result ≡ number_option name.now }
     ensures local { result.global ≡ false }
 {
-    let option = Arg::new(alloc, name)
-        .long(name)
-        .value_name(value)
-        .help(about)
-        .action(ArgAction::Set);
-    option.value_parser(value_parser!(u16))
+    text_option(alloc, name, value, about).value_parser(value_parser!(u16))
 }

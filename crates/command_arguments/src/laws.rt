@@ -2,22 +2,22 @@
 ghost use Rattle.std.specs.Prelude.{◌≡◌, ◌∷◌, [], None, Some, codes, false, true};
 ghost use Rattle.clap.specs.Words.{fault_of};
 ghost use Rattle.clap.specs.declared.error.ErrorKind.TheVariants.{ArgumentConflict, InvalidSubcommand, InvalidValue, MissingRequiredArgument, TooManyValues, UnknownArgument, ValueValidation};
-ghost use Rattle.command_arguments.specs.Arguments.{called_with, named_command, named_layout, named_store, program};
-ghost use Rattle.command_arguments.specs.declared.arguments.Command.TheVariants.{Join, Play, Site};
+ghost use Rattle.command_arguments.specs.Arguments.{called_with, named_command, named_value, program};
+ghost use Rattle.command_arguments.specs.declared.arguments.Command.TheVariants.{Join, Play, Site, Judge};
 
 /// What arguments the program is called with and how they are read, by computation alone: the layout file that they
 /// name, and the kinds of error that clap may answer with.
 #[tactic(auto, unfolding(clap::proofs::OnLiterals::clap_on_literals))]
 pub fn arguments_read()
-    ensures no_file { named_layout (called_with (codes "join" ∷ [])) ≡ None }
-    ensures file { named_layout (called_with (codes "join" ∷ codes "--layout" ∷ codes "a" ∷ [])) ≡ Some (codes "a") }
-    ensures file_behind_equals { named_layout (called_with (codes "join" ∷ codes "--layout=a" ∷ [])) ≡ Some (codes "a") }
+    ensures no_file { named_value (codes "layout") (called_with (codes "join" ∷ [])) ≡ None }
+    ensures file { named_value (codes "layout") (called_with (codes "join" ∷ codes "--layout" ∷ codes "a" ∷ [])) ≡ Some (codes "a") }
+    ensures file_behind_equals { named_value (codes "layout") (called_with (codes "join" ∷ codes "--layout=a" ∷ [])) ≡ Some (codes "a") }
     ensures no_error { fault_of program (called_with (codes "join" ∷ codes "--layout" ∷ codes "a" ∷ [])) ≡ [] }
     ensures missing_value { fault_of program (called_with (codes "join" ∷ codes "--layout" ∷ [])) ≡ InvalidValue ∷ [] }
     ensures two_files { fault_of program (called_with (codes "join" ∷ codes "--layout=a" ∷ codes "--layout=b" ∷ [])) ≡ ArgumentConflict ∷ [] }
     ensures stray_argument { fault_of program (called_with (codes "join" ∷ codes "x" ∷ [])) ≡ UnknownArgument ∷ [] }
     ensures option_before_command { fault_of program (called_with (codes "--layout" ∷ codes "a" ∷ [])) ≡ UnknownArgument ∷ [] }
-    ensures other_command { fault_of program (called_with (codes "judge" ∷ [])) ≡ UnknownArgument ∷ InvalidSubcommand ∷ [] }
+    ensures other_command { fault_of program (called_with (codes "run" ∷ [])) ≡ UnknownArgument ∷ InvalidSubcommand ∷ [] }
     ensures joins { named_command (called_with (codes "join" ∷ [])) ≡ Join }
     ensures flag_of_play { fault_of program (called_with (codes "join" ∷ codes "--tables" ∷ [])) ≡ UnknownArgument ∷ [] }
 {}
@@ -30,7 +30,7 @@ pub fn play_arguments_read()
     ensures tables { named_command (called_with (codes "play" ∷ codes "--tables" ∷ [])) ≡ Play true None }
     ensures first { named_command (called_with (codes "play" ∷ codes "--from" ∷ codes "1" ∷ [])) ≡ Play false (Some 1) }
     ensures greatest { named_command (called_with (codes "play" ∷ codes "--from=65535" ∷ codes "--tables" ∷ [])) ≡ Play true (Some 65535) }
-    ensures file { named_layout (called_with (codes "play" ∷ codes "--layout" ∷ codes "a" ∷ [])) ≡ Some (codes "a") }
+    ensures file { named_value (codes "layout") (called_with (codes "play" ∷ codes "--layout" ∷ codes "a" ∷ [])) ≡ Some (codes "a") }
     ensures no_error { fault_of program (called_with (codes "play" ∷ codes "--tables" ∷ codes "--from" ∷ codes "0" ∷ [])) ≡ [] }
     ensures no_number { fault_of program (called_with (codes "play" ∷ codes "--from" ∷ codes "x" ∷ [])) ≡ ValueValidation ∷ [] }
     ensures too_great { fault_of program (called_with (codes "play" ∷ codes "--from" ∷ codes "65536" ∷ [])) ≡ ValueValidation ∷ [] }
@@ -43,10 +43,10 @@ pub fn play_arguments_read()
 #[tactic(auto, unfolding(clap::proofs::OnLiterals::clap_on_literals))]
 pub fn site_arguments_read()
     ensures plain { named_command (called_with (codes "site" ∷ codes "--site" ∷ codes "1" ∷ codes "--store" ∷ codes "a" ∷ [])) ≡ Site 1 }
-    ensures store { named_store (called_with (codes "site" ∷ codes "--site" ∷ codes "1" ∷ codes "--store" ∷ codes "a" ∷ [])) ≡ Some (codes "a") }
+    ensures store { named_value (codes "store") (called_with (codes "site" ∷ codes "--site" ∷ codes "1" ∷ codes "--store" ∷ codes "a" ∷ [])) ≡ Some (codes "a") }
     ensures behind_equals { named_command (called_with (codes "site" ∷ codes "--store=a" ∷ codes "--site=65535" ∷ [])) ≡ Site 65535 }
-    ensures store_behind_equals { named_store (called_with (codes "site" ∷ codes "--store=a" ∷ codes "--site=65535" ∷ [])) ≡ Some (codes "a") }
-    ensures layout { named_layout (called_with (codes "site" ∷ codes "--store=a" ∷ codes "--layout=b" ∷ codes "--site=0" ∷ [])) ≡ Some (codes "b") }
+    ensures store_behind_equals { named_value (codes "store") (called_with (codes "site" ∷ codes "--store=a" ∷ codes "--site=65535" ∷ [])) ≡ Some (codes "a") }
+    ensures layout { named_value (codes "layout") (called_with (codes "site" ∷ codes "--store=a" ∷ codes "--layout=b" ∷ codes "--site=0" ∷ [])) ≡ Some (codes "b") }
     ensures no_error { fault_of program (called_with (codes "site" ∷ codes "--site" ∷ codes "0" ∷ codes "--store" ∷ codes "a" ∷ [])) ≡ [] }
     ensures no_site { fault_of program (called_with (codes "site" ∷ codes "--store" ∷ codes "a" ∷ [])) ≡ MissingRequiredArgument ∷ [] }
     ensures no_store { fault_of program (called_with (codes "site" ∷ codes "--site" ∷ codes "0" ∷ [])) ≡ MissingRequiredArgument ∷ [] }
@@ -56,4 +56,18 @@ pub fn site_arguments_read()
     ensures two_stores { fault_of program (called_with (codes "site" ∷ codes "--site=0" ∷ codes "--store=a" ∷ codes "--store=b" ∷ [])) ≡ ArgumentConflict ∷ [] }
     ensures stray_argument { fault_of program (called_with (codes "site" ∷ codes "--site=0" ∷ codes "--store=a" ∷ codes "b" ∷ [])) ≡ UnknownArgument ∷ [] }
     ensures store_of_play { fault_of program (called_with (codes "play" ∷ codes "--store=a" ∷ [])) ≡ UnknownArgument ∷ [] }
+{}
+
+/// The same of the command `judge`: the word for a cut, and the layout file.
+#[tactic(auto, unfolding(clap::proofs::OnLiterals::clap_on_literals))]
+pub fn judge_arguments_read()
+    ensures plain { named_command (called_with (codes "judge" ∷ [])) ≡ Judge }
+    ensures no_cut { named_value (codes "cut") (called_with (codes "judge" ∷ [])) ≡ None }
+    ensures cut { named_value (codes "cut") (called_with (codes "judge" ∷ codes "--cut" ∷ codes "1,0" ∷ [])) ≡ Some (codes "1,0") }
+    ensures behind_equals { named_value (codes "cut") (called_with (codes "judge" ∷ codes "--layout=a" ∷ codes "--cut=full" ∷ [])) ≡ Some (codes "full") }
+    ensures layout { named_value (codes "layout") (called_with (codes "judge" ∷ codes "--layout=a" ∷ codes "--cut=full" ∷ [])) ≡ Some (codes "a") }
+    ensures no_error { fault_of program (called_with (codes "judge" ∷ codes "--cut=x" ∷ [])) ≡ [] }
+    ensures missing_value { fault_of program (called_with (codes "judge" ∷ codes "--cut" ∷ [])) ≡ InvalidValue ∷ [] }
+    ensures two_cuts { fault_of program (called_with (codes "judge" ∷ codes "--cut=1" ∷ codes "--cut=2" ∷ [])) ≡ ArgumentConflict ∷ [] }
+    ensures cut_of_join { fault_of program (called_with (codes "join" ∷ codes "--cut=1" ∷ [])) ≡ UnknownArgument ∷ [] }
 {}

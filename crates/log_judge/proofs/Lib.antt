@@ -1,3 +1,4 @@
+pub mod CutLemmas
 pub mod ExcessLemmas
 pub mod ListLemmas
 pub mod SameLemmas

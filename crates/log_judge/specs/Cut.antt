@@ -1,5 +1,5 @@
 -- Cuts through closed logs: a length for each, the accounts that the sites have there, and what was merged before it.
-use Rattle.std.specs.Prelude.{◌≡◌, ℕ, ◌+◌, ◌-◌, ◌<◌, ◌⊎◌, Bool, true, false, ◌&&◌, ◌||◌, nat_lt, if◌then◌else◌, List, [], ◌∷◌, ◌++◌, map, take, length, slice_index, slice_index_or}
+use Rattle.std.specs.Prelude.{◌≡◌, ℕ, zero, suc, ◌+◌, ◌-◌, ◌<◌, ◌⊎◌, Bool, true, false, ◌&&◌, ◌||◌, nat_lt, if◌then◌else◌, List, [], ◌∷◌, ◌++◌, map, take, length, slice_index, slice_index_or}
 use Rattle.merge_core.specs.declared.cell.Cell.{Cell}
 use Rattle.merge_core.specs.declared.delta.Row.{Row}
 use Rattle.merge_core.specs.Layout.{LayoutState}
@@ -58,6 +58,15 @@ no_transcript = record { site = 0; runs = [] }
 -- the runs of a site, by its number
 abbrev pub runs_at : List Transcript → ℕ → List Run
 runs_at ts i = (slice_index_or ts i no_transcript).runs
+
+-- the cut at the end of each of the first n transcripts
+abbrev pub lengths_below : List Transcript → ℕ → List ℕ
+lengths_below ts zero = []
+lengths_below ts (suc n) = lengths_below ts n ++ entries_in (runs_at ts n) ∷ []
+
+-- the cut at the end of each transcript
+abbrev pub full_cut : List Transcript → List ℕ
+full_cut ts = lengths_below ts (length ts)
 
 -- the account of a site at the cut
 abbrev pub cut_account : LayoutState → List Transcript → List ℕ → ℕ → Account

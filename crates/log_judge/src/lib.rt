@@ -1,7 +1,7 @@
 //! The judge of closed logs: whether each site's log is legal, and whether a cut through all of them is consistent.
 #![tactic(auto)]
 
-pub use cut::is_cut;
+pub use cut::{full_cut, is_cut};
 pub use judging::{are_of_sites, judge};
 pub use table::cut_table;
 pub use verdict::Verdict;

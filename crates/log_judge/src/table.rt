@@ -1,10 +1,10 @@
 //! The table of a cut through closed logs.
 ghost use Rattle.std.specs.Prelude.{◌≡◌, ◌++◌, ◌+◌, string_bytes, IfOk};
-ghost use Rattle.log_judge.specs.Cut.{entries_in};
 ghost use Rattle.log_judge.specs.Verdict.{IsCut};
 ghost use Rattle.log_judge.specs.Table.{blanks, number_in, cut_line, cut_table};
 
-use desk_log::{Run, Transcript};
+use crate::cut::count_entries;
+use desk_log::Transcript;
 use itoa::Buffer;
 use std::alloc::{AllocError, Global};
 
@@ -26,22 +26,6 @@ fn push_number(text: &mut String, places: usize, n: u64) -> Result<(), AllocErro
     let digits = buffer.format(n);
     push_blanks(text, places.saturating_sub(digits.len()))?;
     text.push_str(digits)
-}
-
-// How many entries runs have together. No memory holds so many that their number does not fit.
-fn count_entries(runs: &[Run]) -> Result<u64, AllocError>
-    ensures { IfOk result (λ n. n ≡ entries_in runs.now) }
-{
-    let mut n: u64 = 0;
-    let mut rest = runs;
-    'runs: while let [run, later @ ..] = rest {
-        let Some(sum) = n.checked_add(run.entries.len() as u64) else {
-            return Err(AllocError);
-        };
-        n = sum;
-        rest = later;
-    }
-    Ok(n)
 }
 
 // Writes the line of a site.

@@ -9,14 +9,18 @@ use Rattle.clap.specs.Words.{Text, IsAmong}
 use Rattle.clap.specs.declared.error.ErrorKind.{ErrorKind}
 use Rattle.clap.specs.declared.error.ErrorKind.TheVariants.{OutOfMemory, DisplayHelp, DisplayVersion}
 use Rattle.command_arguments.specs.declared.arguments.Command.{Command}
-use Rattle.command_arguments.specs.declared.arguments.Command.TheVariants.{Join, Play, Site}
+use Rattle.command_arguments.specs.declared.arguments.Command.TheVariants.{Join, Play, Site, Judge}
 use Rattle.layout_file.specs.declared.fault.LayoutFault.{LayoutFault}
 use Rattle.layout_file.specs.declared.fault.LayoutFault.TheVariants as layout
 use Rattle.exit_status.specs.declared.status.Status.{Status}
 use Rattle.exit_status.specs.declared.status.Status.TheVariants.{Done, Memory, Io}
-use Rattle.command_arguments.specs.Arguments.{asked_command, asked_layout, usage_errors}
+use Rattle.command_arguments.specs.Arguments.{asked_command, asked_cut, asked_layout, usage_errors}
 use Rattle.exit_status.specs.Endings.{EndsWith, without_layout}
 use Rattle.join_engine.specs.Engine.{EndsJoin}
+use Rattle.judge_engine.specs.declared.cut.CutError.{CutError}
+use Rattle.judge_engine.specs.declared.cut.CutError.TheVariants as cut
+use Rattle.judge_engine.specs.Cuts.{IsCutFault, cut_in}
+use Rattle.judge_engine.specs.Engine.{EndsJudge}
 use Rattle.layout_file.specs.LayoutFile.{ReadsLayout, built_in_layout}
 use Rattle.play_engine.specs.Plays.{EndsPlay}
 use Rattle.site_databases.specs.Databases.{EndsStored}
@@ -76,25 +80,53 @@ abbrev pub FindsLayout : Option Text → Result LayoutState LayoutFault → Type
 FindsLayout None answer = FindsBuiltIn answer
 FindsLayout (Some path) answer = FindsFile answer
 
--- a command under a layout: what its engine did
-abbrev pub EndsCommand : Command → LayoutState → SourceState → SourceState → SinkState → SinkState → Status → Type 0
-EndsCommand Join layout source source_after sink sink_after ended = EndsJoin (shape_of layout) source source_after sink sink_after ended
-EndsCommand (Play tables first) layout source source_after sink sink_after ended = EndsPlay layout first tables source source_after sink sink_after ended
-EndsCommand (Site site) layout source source_after sink sink_after ended = EndsStored layout site source source_after sink sink_after ended
+-- The cut that the arguments name: all calls, where they name none. A word that names no cut is refused; memory may run
+-- out over any word.
+abbrev pub FindsCut : Option Text → Result (Option (List ℕ)) CutError → Type 0
+FindsCut None answer = answer ≡ Ok None
+FindsCut (Some word) (Ok lengths) = cut_in word ≡ Some lengths
+FindsCut (Some word) (Err error) = IsCutFault word error
+
+-- what is said of a word that names no cut
+abbrev pub no_cut_text : List ℕ
+no_cut_text = codes "cut refused BadWord\n"
+
+-- the end where there is no cut: wrong arguments, or want of memory
+abbrev pub EndsWithoutCut : CutError → SinkState → SinkState → ℕ → Type 0
+EndsWithoutCut cut.BadWord errors errors_after code = (Writes errors errors_after no_cut_text ⊎ HasFault errors_after.fault) × (code ≡ 2)
+EndsWithoutCut cut.Memory errors errors_after code = EndsWith Memory errors errors_after code
+
+-- a command under a layout and a cut: what its engine did
+abbrev pub EndsCommand : Command → Option (List ℕ) → LayoutState → SourceState → SourceState → SinkState → SinkState → Status → Type 0
+EndsCommand Join lengths layout source source_after sink sink_after ended = EndsJoin (shape_of layout) source source_after sink sink_after ended
+EndsCommand (Play tables first) lengths layout source source_after sink sink_after ended = EndsPlay layout first tables source source_after sink sink_after ended
+EndsCommand (Site site) lengths layout source source_after sink sink_after ended = EndsStored layout site source source_after sink sink_after ended
+EndsCommand Judge lengths layout source source_after sink sink_after ended = EndsJudge layout lengths source source_after sink sink_after ended
 
 -- a command under what was found for a layout: without a layout nothing is read or written
-abbrev pub EndsUnder : Command → Result LayoutState LayoutFault → SourceState → SourceState → SinkState → SinkState → Status → Type 0
-EndsUnder command (Ok layout) source source_after sink sink_after ended = EndsCommand command layout source source_after sink sink_after ended
-EndsUnder command (Err fault) source source_after sink sink_after ended = (source_after ≡ source) × (sink_after ≡ sink) × (ended ≡ without_layout fault)
+abbrev pub EndsUnder : Command → Option (List ℕ) → Result LayoutState LayoutFault → SourceState → SourceState → SinkState → SinkState → Status → Type 0
+EndsUnder command lengths (Ok layout) source source_after sink sink_after ended = EndsCommand command lengths layout source source_after sink sink_after ended
+EndsUnder command lengths (Err fault) source source_after sink sink_after ended = (source_after ≡ source) × (sink_after ≡ sink) × (ended ≡ without_layout fault)
 
--- a command is asked for, and that one was carried out under the layout that the arguments name
+-- a command is asked for, and that one was carried out under the cut and the layout that the arguments name
 pub record RunsCommand (arguments : List Text) (source source_after : SourceState) (sink sink_after errors errors_after : SinkState) (code : ℕ) : Type 0 where
   pub asked : usage_errors arguments ≡ []
+  pub lengths : Option (List ℕ)
+  pub cut_found : FindsCut (asked_cut arguments) (Ok lengths)
   pub layout : Result LayoutState LayoutFault
   pub found : FindsLayout (asked_layout arguments) layout
   pub ended : Status
-  pub carried_out : EndsUnder (asked_command arguments) layout source source_after sink sink_after ended
+  pub carried_out : EndsUnder (asked_command arguments) lengths layout source source_after sink sink_after ended
   pub told : EndsWith ended errors errors_after code
+
+-- a command is asked for, and a word that names no cut, or memory ran out: nothing is read or written
+pub record RefusesCut (arguments : List Text) (source source_after : SourceState) (sink sink_after errors errors_after : SinkState) (code : ℕ) : Type 0 where
+  pub asked : usage_errors arguments ≡ []
+  pub error : CutError
+  pub refused : FindsCut (asked_cut arguments) (Err error)
+  pub unread : source_after ≡ source
+  pub unwritten : sink_after ≡ sink
+  pub told : EndsWithoutCut error errors errors_after code
 
 -- no command is asked for, or memory ran out: nothing is read, and what clap says is told
 pub record RunsNone (arguments : List Text) (source source_after : SourceState) (sink sink_after errors errors_after : SinkState) (code : ℕ) : Type 0 where
@@ -107,4 +139,5 @@ pub record RunsNone (arguments : List Text) (source source_after : SourceState) 
 abbrev pub RunsProgram : List Text → SourceState → SourceState → SinkState → SinkState → SinkState → SinkState → ℕ → Type 0
 RunsProgram arguments source source_after sink sink_after errors errors_after code =
     RunsCommand arguments source source_after sink sink_after errors errors_after code
+    ⊎ RefusesCut arguments source source_after sink sink_after errors errors_after code
     ⊎ RunsNone arguments source source_after sink sink_after errors errors_after code

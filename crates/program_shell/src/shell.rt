@@ -1,12 +1,13 @@
-ghost use Rattle.std.specs.Prelude.{◌≡◌, map, MatchOption, MatchResult, string_bytes};
+ghost use Rattle.std.specs.Prelude.{◌≡◌, None, Some, map, MatchOption, MatchResult, string_bytes};
 ghost use Rattle.clap.specs.Words.{kind_of};
-ghost use Rattle.program_shell.specs.Shell.{EndsCommand, EndsUnasked, EndsUnread, FindsBuiltIn, FindsFile, IsUnopened, RunsProgram, unopened};
+ghost use Rattle.program_shell.specs.Shell.{EndsCommand, EndsUnasked, EndsWithoutCut, EndsUnread, FindsBuiltIn, FindsCut, FindsFile, IsUnopened, RunsProgram, unopened};
 
 use crate::standard_error::StandardError;
 use clap::error::ErrorKind as UsageKind;
 use command_arguments::{Command, requested};
 use exit_status::Status;
 use join_engine::join_engine;
+use judge_engine::{Cut, CutError, judge_engine};
 use layout_file::{LayoutFault, built_in, read_layout_file};
 use merge_core::Layout;
 use play_engine::play_engine;
@@ -63,11 +64,15 @@ pub fn run_with<R: Files + Databases + AllocGlobal, I: Read, O: Write, E: Write>
         Ok(asked) => asked,
         Err(error) => return end_unasked(&error, sink, errors),
     };
+    let cut = match cut_of(rt.alloc(), asked.cut) {
+        Ok(cut) => cut,
+        Err(error) => return end_without_cut(error, errors),
+    };
     let layout = match layout_at(rt, asked.layout) {
         Ok(layout) => layout,
         Err(fault) => return Status::without_layout(fault).end(errors),
     };
-    let ended = carry_out(rt, asked.command, asked.store, layout, source, sink);
+    let ended = carry_out(rt, asked.command, asked.store, &cut, layout, source, sink);
     ended.end(errors)
 }
 
@@ -76,11 +81,12 @@ fn carry_out<R: Databases + AllocGlobal, I: Read, O: Write>(
     rt: &R,
     command: Command,
     store: Option<&str>,
+    cut: &Cut,
     layout: Layout,
     source: &mut Source<I>,
     sink: &mut Sink<O>,
 ) -> Status
-    ensures { EndsCommand command layout source.old source.new sink.old sink.new result }
+    ensures { EndsCommand command cut.now layout source.old source.new sink.old sink.new result }
 {
     match command {
         Command::Join => join_engine(rt.alloc(), &layout, source, sink),
@@ -91,6 +97,7 @@ fn carry_out<R: Databases + AllocGlobal, I: Read, O: Write>(
             let path = store.unwrap_or(""); // clap has refused arguments without one
             serve_stored(rt, path, layout, site, source, sink)
         }
+        Command::Judge => judge_engine(rt.alloc(), &layout, cut, source, sink),
     }
 }
 
@@ -114,6 +121,29 @@ fn end_unasked<O: Write, E: Write>(
             let _ = errors.print_and_flush(error);
             Status::Usage.end(errors)
         }
+    }
+}
+
+// The cut that is named, or that of all calls.
+fn cut_of(alloc: Global, word: Option<&str>) -> Result<Cut, CutError>
+    ensures { MatchOption word.entry (FindsCut None result) (λ named. FindsCut (Some named.now) result) }
+{
+    match word {
+        Some(word) => Cut::parse(alloc, word.as_bytes()),
+        None => Ok(Cut::full()),
+    }
+}
+
+// Says that a word is no cut, or that memory ran out.
+fn end_without_cut<E: Write>(error: CutError, errors: &mut Sink<E>) -> u8
+    ensures { EndsWithoutCut error errors.old errors.new result }
+{
+    match error {
+        CutError::BadWord => {
+            let _ = errors.write_and_flush("cut refused BadWord\n");
+            Status::Usage.end(errors)
+        }
+        CutError::Memory => Status::Memory.end(errors),
     }
 }
 

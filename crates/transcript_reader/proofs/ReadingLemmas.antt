@@ -74,7 +74,8 @@ added rs r (suc n) i is below = at (cases_eq i n) (λ lower. added rs r n i is l
         ∙ (ap (λ (xs : List Transcript). xs ++ record { site = n; runs = runs_of n rs } ∷ []) (earlier (omega (arith, apart)))
         ∙ ap (λ (ys : List Run). transcripts_below (rs ++ r ∷ []) n ++ record { site = n; runs = ys } ∷ []) (sym same))
 
-transcript_at : (rs : List SiteRun) (n i : ℕ) (d : Transcript) → i < n → get_or (transcripts_below rs n) i d ≡ record { site = i; runs = runs_of i rs }
+-- a transcript has the runs of its site
+pub transcript_at : (rs : List SiteRun) (n i : ℕ) (d : Transcript) → i < n → get_or (transcripts_below rs n) i d ≡ record { site = i; runs = runs_of i rs }
 transcript_at rs zero i d below = absurd (omega arith)
 transcript_at rs (suc n) i d below = at (cases_eq i n) (λ lower. transcript_at rs n i d lower)
   where

@@ -9,8 +9,8 @@ use merge_core::Layout;
 use std::alloc::AllocError;
 use text_parts::push_field;
 
-/// Writes a record: its name, or `?` and its number.
-pub(crate) fn push_record(text: &mut String, layout: &Layout, r: u16) -> Result<(), AllocError>
+/// Writes a record: its name, or `?` and its number where the layout has none of that number.
+pub fn push_record(text: &mut String, layout: &Layout, r: u16) -> Result<(), AllocError>
     ensures { IfOk result (λ _. string_bytes text.new ≡ string_bytes text.old ++ record_text layout.now.records r) }
 {
     let records = layout.records();

@@ -9,9 +9,10 @@ Admits readers and writers to shared records at several sites, which exchange de
 Usage: seat_cli [COMMAND]
 
 Commands:
-  join  Joins deltas, one a line, and prints one delta that has all of them
-  play  Simulates several sites: carries out one event a line, and prints one reply a line
-  site  Serves one site over its store: carries out one call a line, and prints one reply a line
+  join   Joins deltas, one a line, and prints one delta that has all of them
+  play   Simulates several sites: carries out one event a line, and prints one reply a line
+  site   Serves one site over its store: carries out one call a line, and prints one reply a line
+  judge  Judges the closed logs of all sites, and prints where it looked and the verdict
 
 Options:
   -h, --help     Print help
@@ -21,7 +22,7 @@ Without arguments it is `join`. It reads standard input and writes standard outp
 
 Exit status:
   0  every line was carried out, whatever the replies; or help or the version was printed
-  2  the arguments are wrong
+  2  the arguments are wrong, or `judge` was given no cut: `cut refused BadWord` on standard error
   3  there is no layout, or it has no such site: `layout refused NAME` on standard error
   4  a line can't be read, or `join` refused it, or the input is above 16 MiB: the output says which
   5  the store can't be used: `store refused NAME` on standard error; or it failed: a reply was `refused StoreFault`
@@ -119,8 +120,40 @@ Example:
   printf 'read a 7\\nleave a 7\\n' | seat_cli site --site 0 --store site_0.db
 ";
 
+const JUDGE_HELP: &str = "\
+Judges the closed logs of all sites, and prints where it looked and the verdict
+
+Usage: seat_cli judge [--cut C] [--layout FILE]
+
+Options:
+      --cut <C>        How many calls of each site are looked at, as 8,6,0 [default: full]
+      --layout <FILE>  A TOML file with the sites and records [default: two sites, record a of two seats at site 0]
+  -h, --help           Print help
+
+The input has the logs of all sites, one behind another. A log has a line for each time that the site was opened, with
+what it had stored then, and behind it a line for each call, with its reply:
+  {\"book\":\"DELTA\",\"sessions\":[\"NAME H PHASE\"],\"site\":I,\"sites\":N}
+  {\"call\":\"read a 7\",\"pass\":0,\"reply\":\"admitted\"}
+A site without a line has an empty log. The output is a table with a line for each site, and then the verdict, which is
+the first of these that applies:
+  bad cut               the cut has not a number for each site, or one above its number of calls; there is no table
+  bad joint site I      site I was opened with something else than it had left
+  bad reply site I at K the reply to call K of site I is not the one that the rules give
+  exceeds site I at K record NAME origin J
+                        call K of site I brought more of site J than site J had done within the cut
+  consistent            none of these: at the cut, a writer inside a record was alone in it at all sites
+The calls of a site are counted from 0. The status is 0, whatever the verdict. The first line that is none of a log ends
+it, with `line K refused NotTranscript` and status 4.
+
+C says how many calls of each site are looked at, with commas between the numbers, as `8,6,0`; or it is `full`: all.
+Any other word is refused, with `cut refused BadWord` and status 2.
+
+Example:
+  cat site_0.log site_1.log | seat_cli judge
+";
+
 // Arguments, and what goes to standard output.
-static TOLD: [(&[&[u8]], &str); 10] = [
+static TOLD: [(&[&[u8]], &str); 12] = [
     (&[b"seat_cli", b"--help"], HELP),
     (&[b"seat_cli", b"-h"], HELP),
     (&[b"seat_cli", b"join", b"--help"], JOIN_HELP),
@@ -129,6 +162,8 @@ static TOLD: [(&[&[u8]], &str); 10] = [
     (&[b"seat_cli", b"play", b"-h"], PLAY_HELP),
     (&[b"seat_cli", b"site", b"--help"], SITE_HELP),
     (&[b"seat_cli", b"site", b"-h"], SITE_HELP),
+    (&[b"seat_cli", b"judge", b"--help"], JUDGE_HELP),
+    (&[b"seat_cli", b"judge", b"-h"], JUDGE_HELP),
     (&[b"seat_cli", b"--version"], "seat_cli 0.1.0\n"),
     (&[b"seat_cli", b"-V"], "seat_cli 0.1.0\n"),
 ];

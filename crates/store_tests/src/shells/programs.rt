@@ -180,7 +180,7 @@ pub fn wrongly_faulted(alloc: Global, input: &'static str, rows: &[Faulty]) -> O
 }
 
 // Arguments that are wrong, and what goes to standard error.
-static WRONG: [Wrong; 14] = [
+static WRONG: [Wrong; 18] = [
     (
         &[b"seat_cli", b"--layout", b"three.toml"],
         "error: unexpected argument '--layout' found\n\nUsage: seat_cli [COMMAND]\n\nFor more information, try '--help'.\n",
@@ -202,8 +202,8 @@ static WRONG: [Wrong; 14] = [
         "error: unexpected argument '--sites' found\n\nUsage: seat_cli join [--layout FILE]\n\nFor more information, try '--help'.\n",
     ),
     (
-        &[b"seat_cli", b"judge"],
-        "error: unrecognized subcommand 'judge'\n\nUsage: seat_cli [COMMAND]\n\nFor more information, try '--help'.\n",
+        &[b"seat_cli", b"run"],
+        "error: unrecognized subcommand 'run'\n\nUsage: seat_cli [COMMAND]\n\nFor more information, try '--help'.\n",
     ),
     (
         &[b"seat_cli", b"help"],
@@ -211,7 +211,7 @@ static WRONG: [Wrong; 14] = [
     ),
     (
         &[b"seat_cli", b"--"],
-        "error: 'seat_cli' requires a subcommand but one was not provided\n  [subcommands: join, play, site]\n\nUsage: seat_cli [COMMAND]\n\nFor more information, try '--help'.\n",
+        "error: 'seat_cli' requires a subcommand but one was not provided\n  [subcommands: join, play, site, judge]\n\nUsage: seat_cli [COMMAND]\n\nFor more information, try '--help'.\n",
     ),
     (
         &[b"seat_cli", b"play", b"--from", b"x"],
@@ -234,6 +234,23 @@ static WRONG: [Wrong; 14] = [
         "error: the argument '--from <M>' cannot be used multiple times\n\nUsage: seat_cli play [--tables] [--from M] [--layout FILE]\n\nFor more information, try '--help'.\n",
     ),
     (
+        &[b"seat_cli", b"judge", b"--cut"],
+        "error: a value is required for '--cut <C>' but none was supplied\n\nFor more information, try '--help'.\n",
+    ),
+    (
+        &[b"seat_cli", b"judge", b"--cut=1", b"--cut=2"],
+        "error: the argument '--cut <C>' cannot be used multiple times\n\nUsage: seat_cli judge [--cut C] [--layout FILE]\n\nFor more information, try '--help'.\n",
+    ),
+    // a word that names no cut is refused before the layout is looked for
+    (
+        &[b"seat_cli", b"judge", b"--cut", b"1,x"],
+        "cut refused BadWord\n",
+    ),
+    (
+        &[b"seat_cli", b"judge", b"--layout=no.toml", b"--cut="],
+        "cut refused BadWord\n",
+    ),
+    (
         &[b"seat_cli", b"join", b"--layout", b"\xff"],
         "error: an argument is not UTF-8\n",
     ),
@@ -245,7 +262,7 @@ fn wrong_arguments_are_told_and_nothing_is_read(rt: HostRuntime) {
 }
 
 // Arguments and input, and what the program does.
-static RUNS: [Carried; 13] = [
+static RUNS: [Carried; 16] = [
     (&[], GAVE, (0, GAVE, "", "")),
     (&[b"seat_cli"], GAVE, (0, GAVE, "", "")),
     (&[b"seat_cli", b"join"], GAVE, (0, GAVE, "", "")),
@@ -298,6 +315,36 @@ static RUNS: [Carried; 13] = [
         &[b"seat_cli", b"play", b"--layout=no.toml"],
         GAVE,
         (3, "", "layout refused NotRead\n", "no.toml\n"),
+    ),
+    (
+        &[
+            b"seat_cli",
+            b"judge",
+            b"--cut=0,0,1",
+            b"--layout=three.toml",
+        ],
+        "",
+        (0, "bad cut\n", "", "three.toml\n"),
+    ),
+    (
+        &[b"seat_cli", b"judge"],
+        "",
+        (
+            0,
+            "\
+site      cut  entries  runs
+   0        0        0     0
+   1        0        0     0
+consistent
+",
+            "",
+            "",
+        ),
+    ),
+    (
+        &[b"seat_cli", b"judge", b"--cut=full"],
+        GAVE,
+        (4, "line 1 refused NotTranscript\n", "", ""),
     ),
 ];
 
@@ -361,7 +408,7 @@ static FAULTS: [Faulty; 14] = [
         NEVER,
         1,
         ErrorKind::Other,
-        &[b"seat_cli", b"judge"],
+        &[b"seat_cli", b"run"],
         (2, "", "error: ", ""),
     ),
     // a file can't be opened or read, for want of memory; or it is not there, which can't be written

@@ -1,15 +1,20 @@
 use Rattle.std.proofs.Common.{◌∙◌, codes, sym}
 use Rattle.clap.specs.Words.{found_of, subcommand_rows_of}
 use Rattle.clap.proofs.WalkLemmas.{first_value-rows}
-use Rattle.command_arguments.proofs.ArgumentLemmas.{layout_of_rows, store_of_rows}
+use Rattle.command_arguments.proofs.ArgumentLemmas.{value_of_rows}
 use Rattle.command_arguments.proofs.arguments.request_in.Goals as goal
 
 pub returns-clause-layout : goal.returns-clause-layout
 returns-clause-layout c =
     c.get_str.ensures ∙ first_value-rows (found_of c.in-Some.found.now) (codes "layout")
-    ∙ layout_of_rows (subcommand_rows_of c.args.matches.now) _ (sym c.in-Some.ensures.rows)
+    ∙ value_of_rows (codes "layout") (subcommand_rows_of c.args.matches.now) _ (sym c.in-Some.ensures.rows)
 
 pub returns-clause-store : goal.returns-clause-store
 returns-clause-store c =
     c.get_str-2.ensures ∙ first_value-rows (found_of c.in-Some.found.now) (codes "store")
-    ∙ store_of_rows (subcommand_rows_of c.args.matches.now) _ (sym c.in-Some.ensures.rows)
+    ∙ value_of_rows (codes "store") (subcommand_rows_of c.args.matches.now) _ (sym c.in-Some.ensures.rows)
+
+pub returns-clause-cut : goal.returns-clause-cut
+returns-clause-cut c =
+    c.get_str-3.ensures ∙ first_value-rows (found_of c.in-Some.found.now) (codes "cut")
+    ∙ value_of_rows (codes "cut") (subcommand_rows_of c.args.matches.now) _ (sym c.in-Some.ensures.rows)

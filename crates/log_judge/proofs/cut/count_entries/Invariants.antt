@@ -1,6 +1,6 @@
 use Rattle.std.proofs.Common.{◌≡◌, ◌+◌, length}
 use Rattle.log_judge.specs.Cut.{entries_in}
-use Rattle.log_judge.proofs.table.count_entries.Given as goal
+use Rattle.log_judge.proofs.cut.count_entries.Given as goal
 
 abbrev pub invariant-runs : goal.invariant-runs
 invariant-runs l = l.n + entries_in l.rest ≡ entries_in l.runs
