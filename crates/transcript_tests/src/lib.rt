@@ -2,6 +2,10 @@
 #![tactic(auto)]
 
 #[cfg(test)]
+mod bytes;
+#[cfg(test)]
+mod entries;
+#[cfg(test)]
 mod lines;
 #[cfg(test)]
 mod logs;

@@ -1,5 +1,5 @@
 //! Closed logs of sites at work.
-use crate::texts::{layout_of, written, written_again};
+use crate::texts::{Record, TWO_RECORDS, TWO_SEATS, are_kept, layout_of, written};
 use admission_core::{Ask, Call, Reply, SiteCore};
 use desk_log::{Entries, Entry, Run, Runs, Transcript};
 use merge_core::{Delta, Layout};
@@ -23,6 +23,14 @@ enum Step {
     Open(usize, u16),
 }
 
+// Sites that know so many sites at first, and what they do.
+#[derive(Clone, Copy)]
+struct Story {
+    records: &'static [Record],
+    sites: &'static [u16],
+    steps: &'static [Step],
+}
+
 // A site at work: its core, its run, and the runs before it.
 #[derive(Drop)]
 struct Worker {
@@ -31,7 +39,8 @@ struct Worker {
     runs: Vec<Run>,
 }
 
-const STORY: [Step; 26] = [
+// Three sites, of which two are told of the third one later.
+static TOLD: [Step; 26] = [
     Step::Read(0, 0, 7),
     Step::Read(1, 1, 1_000_000_000_000),
     Step::Announce(1, 0, 5),
@@ -60,8 +69,23 @@ const STORY: [Step; 26] = [
     Step::Open(2, 3),
 ];
 
-// How many sites each site knows at first.
-const FIRST_SITES: [u16; 3] = [2, 2, 3];
+// A site that knows itself alone, and then another one.
+static GROWN: [Step; 4] = [
+    Step::Read(0, 0, 7),
+    Step::Give(0, 0, 1, 1),
+    Step::Open(0, 2),
+    Step::Give(0, 0, 1, 1),
+];
+
+// The lines of both sites then.
+const GROWN_TEXT: &str =
+    "{\"book\":\"{\\\"from\\\":0,\\\"rows\\\":[],\\\"v\\\":1}\",\"sessions\":[],\"site\":0,\"sites\":1}
+{\"call\":\"read a 7\",\"pass\":0,\"reply\":\"admitted\"}
+{\"call\":\"give a 1 1\",\"pass\":0,\"reply\":\"refused NoSite\"}
+{\"book\":\"{\\\"from\\\":0,\\\"rows\\\":[{\\\"ann\\\":0,\\\"fin\\\":0,\\\"out\\\":[2,0],\\\"r\\\":0,\\\"s\\\":0,\\\"taken\\\":1}],\\\"v\\\":1}\",\"sessions\":[\"a 7 reader\"],\"site\":0,\"sites\":2}
+{\"call\":\"give a 1 1\",\"pass\":0,\"reply\":\"given\"}
+{\"book\":\"{\\\"from\\\":1,\\\"rows\\\":[],\\\"v\\\":1}\",\"sessions\":[],\"site\":1,\"sites\":2}
+";
 
 // A run without entries that begins with what the site has.
 fn run_of(alloc: Global, core: &SiteCore) -> Option<Run> {
@@ -72,10 +96,10 @@ fn run_of(alloc: Global, core: &SiteCore) -> Option<Run> {
     })
 }
 
-fn workers(alloc: Global) -> Option<Vec<Worker>> {
+fn workers(alloc: Global, story: Story) -> Option<Vec<Worker>> {
     let mut all = Vec::new(alloc);
-    for (site, sites) in FIRST_SITES.iter().enumerate() {
-        let layout = layout_of(alloc, *sites)?;
+    for (site, sites) in story.sites.iter().enumerate() {
+        let layout = layout_of(alloc, *sites, story.records)?;
         let site = u16::try_from(site).ok()?;
         if site >= layout.sites() {
             return None;
@@ -120,14 +144,14 @@ fn serve(worker: Worker, call: Call) -> Option<Worker> {
 }
 
 // The run ends, and another one begins.
-fn begin_again(alloc: Global, worker: Worker, sites: u16) -> Option<Worker> {
+fn begin_again(alloc: Global, worker: Worker, layout: Layout) -> Option<Worker> {
     let Worker {
         core,
         run,
         mut runs,
     } = worker;
     let part = core.durable().ok()?;
-    let core = SiteCore::restore(alloc, layout_of(alloc, sites)?, core.site(), part).ok()?;
+    let core = SiteCore::restore(alloc, layout, core.site(), part).ok()?;
     runs.push(run).ok()?;
     let run = run_of(alloc, &core)?;
     Some(Worker { core, run, runs })
@@ -180,20 +204,30 @@ fn transcript_of(worker: Worker) -> Option<Transcript> {
     })
 }
 
-// The transcripts that the story leaves.
-fn played(alloc: Global) -> Option<Vec<Transcript>> {
-    let mut all = workers(alloc)?;
+// A worker after a step.
+fn worked(
+    alloc: Global,
+    story: Story,
+    worker: Worker,
+    message: &Option<Delta>,
+    step: Step,
+) -> Option<Worker> {
+    if let Step::Open(_, sites) = step {
+        return begin_again(alloc, worker, layout_of(alloc, sites, story.records)?);
+    }
+    serve(worker, call_of(alloc, message, step)?)
+}
+
+// The transcripts that a story leaves.
+fn played(alloc: Global, story: Story) -> Option<Vec<Transcript>> {
+    let mut all = workers(alloc, story)?;
     let mut message = None;
-    for step in STORY {
-        let at = site_of(step);
+    for step in story.steps {
+        let at = site_of(*step);
         if at >= all.len() {
             return None;
         }
-        let worker = all.remove(at);
-        let worker = match call_of(alloc, &message, step) {
-            Some(call) => serve(worker, call)?,
-            None => begin_again(alloc, worker, 3)?,
-        };
+        let worker = worked(alloc, story, all.remove(at), &message, *step)?;
         if let Step::Send(_) = step {
             message = message_of(alloc, &worker);
         }
@@ -206,20 +240,33 @@ fn played(alloc: Global) -> Option<Vec<Transcript>> {
     Some(transcripts)
 }
 
-fn story_text(alloc: Global, layout: &Layout) -> Option<String> {
-    let transcripts = played(alloc)?;
-    written(alloc, layout, transcripts.as_slice())
+// Whether the logs of three sites come back from their text.
+fn come_back(alloc: Global) -> Option<bool> {
+    let story = Story {
+        records: &TWO_RECORDS,
+        sites: &[2, 2, 3],
+        steps: &TOLD,
+    };
+    let layout = layout_of(alloc, 3, story.records)?;
+    let transcripts = played(alloc, story)?;
+    let text = written(alloc, &layout, transcripts.as_slice())?;
+    are_kept(alloc, &layout, transcripts.as_slice(), text.as_str())
 }
 
-// Whether the story's text is read and comes back as it is.
-fn comes_back(alloc: Global) -> Option<bool> {
-    let layout = layout_of(alloc, 3)?;
-    let text = story_text(alloc, &layout)?;
-    let again = written_again(alloc, &layout, text.as_bytes())?;
-    Some(again.as_str() == text.as_str())
+// Whether the logs of a site that grew, and of the other one, have these lines and come back.
+fn grown_come_back(alloc: Global) -> Option<bool> {
+    let story = Story {
+        records: &TWO_SEATS,
+        sites: &[1, 2],
+        steps: &GROWN,
+    };
+    let layout = layout_of(alloc, 2, story.records)?;
+    let transcripts = played(alloc, story)?;
+    are_kept(alloc, &layout, transcripts.as_slice(), GROWN_TEXT)
 }
 
 #[test]
 fn closed_logs_come_back(rt: HostRuntime) {
-    assert_eq!(rt; comes_back(rt.alloc()), Some(true));
+    assert!(rt; come_back(rt.alloc()) == Some(true));
+    assert!(rt; grown_come_back(rt.alloc()) == Some(true));
 }
