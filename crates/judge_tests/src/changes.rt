@@ -6,11 +6,13 @@ use merge_core::Delta;
 use std::alloc::Global;
 use std::mem;
 
-/// A reply that a change puts.
+/// A reply of a log.
 #[derive(Clone, Copy)]
 pub enum Said {
     Admitted,
     Given,
+    AlreadyHere,
+    NoSite,
     Memory,
     /// The store failed.
     Fault,
@@ -29,10 +31,13 @@ pub enum Change {
     Nothing(u16),
 }
 
-fn reply_of(said: Said) -> Reply {
+/// The reply.
+pub fn reply_of(said: Said) -> Reply {
     match said {
         Said::Admitted => Reply::Admitted,
         Said::Given => Reply::Given,
+        Said::AlreadyHere => Reply::Refused(Refusal::AlreadyHere),
+        Said::NoSite => Reply::Refused(Refusal::NoSite),
         Said::Memory => Reply::Refused(Refusal::Memory),
         Said::Fault => Reply::Refused(Refusal::StoreFault),
     }

@@ -1,13 +1,16 @@
-//! Tests of the judge: stories of several sites, their closed logs as they are or changed, and the verdicts at cuts.
+//! Tests of the judge: stories of several sites, sites behind their locks, closed logs as they are, changed or read
+//! from text, and the verdicts at cuts.
 #![tactic(auto)]
 
 #[cfg(test)]
 mod changes;
 #[cfg(test)]
-mod keeper;
+mod judged;
 #[cfg(test)]
 mod stories;
 #[cfg(test)]
 mod tables;
+#[cfg(test)]
+mod texts;
 #[cfg(test)]
 mod verdicts;

@@ -1,11 +1,11 @@
 //! Stories of several sites, step by step, and the logs that they leave.
-use crate::keeper::{Kept, layout_of};
 use admission_core::{Ask, Call, Durable, Reply};
 use desk_log::{Desk, Run, Runs, Transcript};
 use grow_counters::Counts;
 use merge_core::{Delta, Layout, Row};
 use std::alloc::Global;
 use std::mem;
+use test_keepers::{Fake, Fault, layout_of, store_with};
 
 /// The sites, the seats and the problem of a layout with one record, and how many sites its first ones know at first;
 /// the others know all.
@@ -43,7 +43,7 @@ pub enum Step {
 #[derive(Drop)]
 pub struct Story {
     layout: Layout,
-    desks: Vec<Desk<Kept>>,
+    desks: Vec<Desk<Fake>>,
     closed: Vec<Vec<Run>>,
     messages: Vec<Delta>,
 }
@@ -54,10 +54,12 @@ fn opened(
     layout: &Layout,
     (site, sites): (u16, u16),
     first: Option<Durable>,
-) -> Option<Desk<Kept>> {
+) -> Option<Desk<Fake>> {
     let layout = layout.at_sites(alloc, sites).ok()??;
-    let kept = Kept::new(alloc, &layout, site, first)?;
-    Desk::open(alloc, kept, layout, site, 64).ok()
+    let mut store = store_with(0, Fault::Never);
+    store.first = first;
+    let keeper = Fake::new(alloc, &layout, site, store)?;
+    Desk::open(alloc, keeper, layout, site, 64).ok()
 }
 
 // Sites that have done nothing yet.
@@ -123,8 +125,8 @@ pub fn call_of(alloc: Global, messages: &[Delta], step: Step) -> Option<Call> {
     }
 }
 
-// The site of a step.
-fn site_of(step: Step) -> usize {
+/// The site of a step.
+pub fn site_of(step: Step) -> usize {
     let site = match step {
         Step::Read(i, _) | Step::Announce(i, _) | Step::Quill(i, _) | Step::Leave(i, _) => i,
         Step::Give(i, _, _) | Step::Claim(i, _, _) => i,
@@ -136,9 +138,9 @@ fn site_of(step: Step) -> usize {
 }
 
 // The run that an opening leaves.
-fn run_of(desk: Desk<Kept>) -> Run {
+fn run_of(desk: Desk<Fake>) -> Run {
     let sites = desk.core().layout().sites();
-    let (first, entries, _kept) = desk.into_parts();
+    let (first, entries, _keeper) = desk.into_parts();
     Run {
         sites,
         first,
@@ -147,7 +149,7 @@ fn run_of(desk: Desk<Kept>) -> Run {
 }
 
 // What the next opening of a site begins with.
-fn kept_by(desk: &Desk<Kept>, renew: bool) -> Option<Option<Durable>> {
+fn kept_by(desk: &Desk<Fake>, renew: bool) -> Option<Option<Durable>> {
     if renew {
         return Some(None);
     }
@@ -191,7 +193,7 @@ fn go(alloc: Global, story: &mut Story, step: Step) -> Option<()> {
 }
 
 // Closes all sites.
-fn closed(alloc: Global, desks: Vec<Desk<Kept>>, runs: Vec<Vec<Run>>) -> Option<Vec<Transcript>> {
+fn closed(alloc: Global, desks: Vec<Desk<Fake>>, runs: Vec<Vec<Run>>) -> Option<Vec<Transcript>> {
     let mut all = Vec::new(alloc);
     let mut site = 0u16;
     for (desk, runs) in desks.into_iter().zip(runs) {

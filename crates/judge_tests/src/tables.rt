@@ -1,23 +1,16 @@
 //! The table of a cut.
+use crate::judged::has_table;
 use crate::stories::told;
 use crate::verdicts::{Told, story_of};
-use log_judge::{cut_table, is_cut};
 use std::alloc::Global;
 
-// The table of a cut through a story's logs.
-fn table_of(alloc: Global, story: Told, cut: &[u64]) -> Option<String> {
-    let (plan, steps) = story_of(story);
-    let (_layout, transcripts, _messages) = told(alloc, plan, steps)?;
-    if !is_cut(transcripts.as_slice(), cut) {
-        return None;
-    }
-    cut_table(alloc, transcripts.as_slice(), cut).ok()
-}
-
-// Whether the table is this text.
+// Whether a cut through a story's logs has this table.
 fn says(alloc: Global, story: Told, cut: &[u64], text: &str) -> bool {
-    match table_of(alloc, story, cut) {
-        Some(table) => table.as_str() == text,
+    let (plan, steps) = story_of(story);
+    match told(alloc, plan, steps) {
+        Some((_layout, transcripts, _messages)) => {
+            has_table(alloc, transcripts.as_slice(), cut, text)
+        }
         None => false,
     }
 }

@@ -1,7 +1,8 @@
 //! The verdicts on stories of sites, at cuts through their logs.
 use crate::changes::{Change, Said, make};
+use crate::judged::verdict_at;
 use crate::stories::{Plan, Step, told};
-use log_judge::{Verdict, are_of_sites, judge};
+use log_judge::Verdict;
 use std::alloc::Global;
 
 /// The stories.
@@ -145,10 +146,7 @@ fn verdict_of(alloc: Global, story: Told, changes: &[Change], cut: &[u64]) -> Op
         transcripts.as_mut_slice(),
         changes,
     )?;
-    if !are_of_sites(&layout, transcripts.as_slice()) {
-        return None;
-    }
-    judge(alloc, &layout, transcripts.as_slice(), cut).ok()
+    verdict_at(alloc, &layout, transcripts.as_slice(), cut)
 }
 
 // The first of these cases with another verdict, and that verdict.
