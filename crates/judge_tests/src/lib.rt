@@ -7,6 +7,10 @@ mod changes;
 #[cfg(test)]
 mod judged;
 #[cfg(test)]
+mod openings;
+#[cfg(test)]
+mod posts;
+#[cfg(test)]
 mod stories;
 #[cfg(test)]
 mod tables;

@@ -1,0 +1,254 @@
+//! Sites behind their locks, each with one pass: three that tell each other what they know, and openings of one, and the
+//! logs that they leave.
+ghost use Rattle.std.specs.Prelude.{◌≡◌};
+ghost use Rattle.admission_core.specs.Kept.{DurableState};
+
+use crate::stories::{Plan, Step, call_of, site_of};
+use admission_core::{Call, Durable, Reply};
+use desk_log::Transcript;
+use durable_keeper::Keeper;
+use merge_core::{Delta, Layout};
+use session_book::{CloseError, Opening, Pass, Site};
+use std::alloc::Global;
+use std::marker::Brand;
+use std::sync::Wait;
+use std::sync::ledger::Blank;
+use test_keepers::{Fake, Fault, Store, layout_of, store_with};
+
+// A site behind its lock, and its pass.
+#[derive(Drop)]
+struct Post<L: Opening> {
+    site: Site<Fake, L>,
+    passes: Vec<Pass<L>>,
+}
+
+// A site over a new keeper.
+fn opened<L: Opening>(
+    alloc: Global,
+    blank: Blank,
+    layout: Layout,
+    site: u16,
+    store: Store,
+) -> Option<Post<L>>
+    requires name { blank.name ≡ L.name }
+    requires parts { blank.parts ≡ L.parts }
+    requires unknown { (d : DurableState) → ¬ L.kept d }
+    requires one { blank.parts ≡ 1 }
+{
+    let keeper = Fake::new(alloc, &layout, site, store)?;
+    let (site, passes) = Site::<Fake, L>::open(alloc, blank, keeper, layout, site, 1, 64).ok()?;
+    Some(Post { site, passes })
+}
+
+// What a site answers.
+fn served<L: Opening, R: Wait>(rt: &R, post: &mut Post<L>, call: Call) -> Option<Reply> {
+    let pass = post.passes.get_mut(0)?;
+    Some(post.site.call(rt, pass, call))
+}
+
+// Closes a site, again where the first closing found no memory.
+fn closed<L: Opening, R: Wait>(rt: &R, post: Post<L>) -> Option<(Transcript, Fake)> {
+    let Post { site, passes } = post;
+    match site.close(rt, passes) {
+        Ok(left) => Some(left),
+        Err((CloseError::Memory, site, passes)) => site.close(rt, passes).ok(),
+        Err(_) => None,
+    }
+}
+
+// Three sites at work, and what they told.
+#[derive(Drop)]
+struct Trio<L: Opening, M: Opening, N: Opening> {
+    first: Post<L>,
+    second: Post<M>,
+    third: Post<N>,
+    messages: Vec<Delta>,
+}
+
+// What one of three sites answers.
+fn answered<L: Opening, M: Opening, N: Opening, R: Wait>(
+    rt: &R,
+    trio: &mut Trio<L, M, N>,
+    site: usize,
+    call: Call,
+) -> Option<Reply> {
+    match site {
+        0 => served(rt, &mut trio.first, call),
+        1 => served(rt, &mut trio.second, call),
+        2 => served(rt, &mut trio.third, call),
+        _ => None,
+    }
+}
+
+// Goes on by one step, which is a call.
+fn go<L: Opening, M: Opening, N: Opening, R: Wait>(
+    rt: &R,
+    alloc: Global,
+    trio: &mut Trio<L, M, N>,
+    step: Step,
+) -> Option<()> {
+    let call = call_of(alloc, trio.messages.as_slice(), step)?;
+    match answered(rt, trio, site_of(step), call)? {
+        Reply::Snapshot(delta) => trio.messages.push(delta).ok(),
+        _ => Some(()),
+    }
+}
+
+// Closes three sites.
+fn all_closed<L: Opening, M: Opening, N: Opening, R: Wait>(
+    rt: &R,
+    alloc: Global,
+    trio: Trio<L, M, N>,
+) -> Option<Vec<Transcript>> {
+    let Trio {
+        first,
+        second,
+        third,
+        messages: _,
+    } = trio;
+    let mut all = Vec::new(alloc);
+    let (transcript, _keeper) = closed(rt, first)?;
+    all.push(transcript).ok()?;
+    let (transcript, _keeper) = closed(rt, second)?;
+    all.push(transcript).ok()?;
+    let (transcript, _keeper) = closed(rt, third)?;
+    all.push(transcript).ok()?;
+    Some(all)
+}
+
+fn trio_over<L: Opening, M: Opening, N: Opening, R: Wait>(
+    rt: &R,
+    alloc: Global,
+    plan: Plan,
+    blank_0: Blank,
+    blank_1: Blank,
+    blank_2: Blank,
+    steps: &[Step],
+) -> Option<Vec<Transcript>>
+    requires first { (blank_0.name ≡ L.name) × (blank_0.parts ≡ L.parts) × (blank_0.parts ≡ 1) × ((d : DurableState) → ¬ L.kept d) }
+    requires second { (blank_1.name ≡ M.name) × (blank_1.parts ≡ M.parts) × (blank_1.parts ≡ 1) × ((d : DurableState) → ¬ M.kept d) }
+    requires third { (blank_2.name ≡ N.name) × (blank_2.parts ≡ N.parts) × (blank_2.parts ≡ 1) × ((d : DurableState) → ¬ N.kept d) }
+{
+    let layout = layout_of(alloc, plan.sites, plan.seats, plan.problem)?;
+    let never = store_with(0, Fault::Never);
+    let first = opened::<L>(alloc, blank_0, layout.try_copy(alloc).ok()?, 0, never)?;
+    let never = store_with(0, Fault::Never);
+    let second = opened::<M>(alloc, blank_1, layout.try_copy(alloc).ok()?, 1, never)?;
+    let never = store_with(0, Fault::Never);
+    let third = opened::<N>(alloc, blank_2, layout, 2, never)?;
+    let mut trio = Trio {
+        first,
+        second,
+        third,
+        messages: Vec::new(alloc),
+    };
+    for step in steps {
+        go(rt, alloc, &mut trio, *step)?;
+    }
+    all_closed(rt, alloc, trio)
+}
+
+/// The logs that three sites leave of a story whose steps are calls.
+pub fn three_closed<R: Wait>(
+    rt: &R,
+    alloc: Global,
+    plan: Plan,
+    steps: &[Step],
+) -> Option<Vec<Transcript>> {
+    let blank_0 = Blank::new(1);
+    let blank_1 = Blank::new(1);
+    let blank_2 = Blank::new(1);
+    trio_over::<Brand, Brand, Brand, R>(rt, alloc, plan, blank_0, blank_1, blank_2, steps)
+}
+
+/// The store of an opening.
+#[derive(Clone, Copy)]
+pub enum Device {
+    New,
+    /// It has what the opening before left.
+    Left,
+    /// A new one that fails at its second change, and has kept that where the flag says so.
+    Stops(bool),
+}
+
+/// An opening of site 0: how many sites it knows, its store, and its calls.
+pub type Opened = (u16, Device, &'static [Step]);
+
+// The store, if what the opening before left is known.
+fn store_of(device: Device, left: Option<Durable>) -> Store {
+    let mut store = match device {
+        Device::Stops(keeps) => store_with(1, Fault::Refused(keeps)),
+        _ => store_with(0, Fault::Never),
+    };
+    if let Device::Left = device {
+        store.first = left;
+    }
+    store
+}
+
+fn opening_over<L: Opening, R: Wait>(
+    rt: &R,
+    alloc: Global,
+    blank: Blank,
+    layout: Layout,
+    site: u16,
+    store: Store,
+    steps: &[Step],
+) -> Option<(Transcript, Fake)>
+    requires name { blank.name ≡ L.name }
+    requires parts { blank.parts ≡ L.parts }
+    requires unknown { (d : DurableState) → ¬ L.kept d }
+    requires one { blank.parts ≡ 1 }
+{
+    let mut post = opened::<L>(alloc, blank, layout, site, store)?;
+    for step in steps {
+        let _ = served(rt, &mut post, call_of(alloc, &[], *step)?)?;
+    }
+    closed(rt, post)
+}
+
+// Opens a site, makes the calls and closes it.
+fn run_opening<R: Wait>(
+    rt: &R,
+    alloc: Global,
+    layout: Layout,
+    site: u16,
+    store: Store,
+    steps: &[Step],
+) -> Option<(Transcript, Fake)> {
+    let blank = Blank::new(1);
+    opening_over::<Brand, R>(rt, alloc, blank, layout, site, store, steps)
+}
+
+// What an opening of site 0 leaves.
+fn run_first<R: Wait>(
+    rt: &R,
+    alloc: Global,
+    layout: &Layout,
+    (sites, device, steps): Opened,
+    left: Option<Durable>,
+) -> Option<(Transcript, Fake)> {
+    let layout = layout.at_sites(alloc, sites).ok()??;
+    run_opening(rt, alloc, layout, 0, store_of(device, left), steps)
+}
+
+/// The logs of two sites: site 0 is opened twice, and the second log is put behind the first; site 1 is opened and does
+/// nothing.
+pub fn opened_twice<R: Wait>(
+    rt: &R,
+    alloc: Global,
+    layout: &Layout,
+    (first, second): (Opened, Opened),
+) -> Option<Vec<Transcript>> {
+    let (mut all, mut keeper) = run_first(rt, alloc, layout, first, None)?;
+    let left = keeper.kept.load(alloc).ok()?;
+    let (later, _keeper) = run_first(rt, alloc, layout, second, Some(left))?;
+    all.append(later).ok()?;
+    let layout = layout.try_copy(alloc).ok()?;
+    let store = store_of(Device::New, None);
+    let (other, _keeper) = run_opening(rt, alloc, layout, 1, store, &[])?;
+    let mut transcripts = Vec::new(alloc);
+    transcripts.push(all).ok()?;
+    transcripts.push(other).ok()?;
+    Some(transcripts)
+}
