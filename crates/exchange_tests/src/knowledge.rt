@@ -1,7 +1,9 @@
 //! What sites know after runs whose gates open at random, compared with all that was sent to them.
 use crate::nets::{THREE, jobs_of, port_to, run_sites};
 use crate::sites::{Outcome, layout_of};
+use crate::verdicts::full_verdict;
 use admission_core::{Ask, Call, Reply};
+use log_judge::Verdict;
 use merge_core::{Book, Delta};
 use session_book::Entry;
 use std::alloc::Global;
@@ -64,8 +66,12 @@ fn unlike(alloc: Global, all: &[Option<Outcome>], site: u16) -> Option<(u64, u64
     Some((unknown, join(&mut told, &others)?))
 }
 
-// How many counters differ at all sites after a run whose gates the seed picks.
-fn differences<R: Threads + Wait + Sync>(rt: &R, alloc: Global, seed: u32) -> Option<(u64, u64)> {
+// How many counters differ at all sites after a run whose gates the seed picks, and the verdict on its logs.
+fn differences<R: Threads + Wait + Sync>(
+    rt: &R,
+    alloc: Global,
+    seed: u32,
+) -> Option<(u64, u64, Verdict)> {
     let mut jobs = jobs_of(alloc, THREE, 24, seed)?;
     jobs.get_mut(1)?.before = Some(Ask::Announce { r: 0, h: 5 });
     jobs.get_mut(0)?.before = Some(Ask::Read { r: 0, h: 7 });
@@ -78,14 +84,17 @@ fn differences<R: Threads + Wait + Sync>(rt: &R, alloc: Global, seed: u32) -> Op
             sums.1.saturating_add(untold),
         );
     }
-    Some(sums)
+    Some((sums.0, sums.1, full_verdict(alloc, THREE, all)?))
 }
 
-// Each site knows what was told to it, and of the others nothing else.
+// Each site knows what was told to it, and of the others nothing else; the logs agree.
 #[test]
 fn a_site_knows_what_it_was_told(rt: HostRuntime) {
     for seed in [1, 7, 2026, 31_337] {
         let found = differences(&rt, rt.alloc(), seed);
-        assert!(rt; found == Some((0, 0)), "{seed} {found:?}");
+        assert!(rt;
+            found == Some((0, 0, Verdict::Consistent)),
+            "{seed} {found:?}"
+        );
     }
 }

@@ -1,5 +1,5 @@
 //! Tests of the exchange: sites of one process that tell each other over links, gates that open and shut, peers that go
-//! away, logs that get full and stores that fail.
+//! away, logs that get full and stores that fail; and the verdicts on the logs that they leave.
 #![tactic(auto)]
 
 #[cfg(test)]
@@ -11,8 +11,6 @@ mod gates;
 #[cfg(test)]
 mod growths;
 #[cfg(test)]
-mod keepers;
-#[cfg(test)]
 mod knowledge;
 #[cfg(test)]
 mod nets;
@@ -20,3 +18,5 @@ mod nets;
 mod sites;
 #[cfg(test)]
 mod texts;
+#[cfg(test)]
+mod verdicts;

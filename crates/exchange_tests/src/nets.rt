@@ -1,8 +1,10 @@
 //! Several sites with links between all of them, each at work on a thread of its own.
 use crate::gates::TestGate;
 use crate::sites::{Job, Outcome, Shape, job_of, layout_of, run_site};
+use crate::verdicts::full_verdict;
 use admission_core::{Ask, Refusal, Reply};
 use exchange_threads::{End, Report, make_link};
+use log_judge::Verdict;
 use merge_core::Layout;
 use std::alloc::Global;
 use std::sync::Wait;
@@ -130,10 +132,9 @@ fn three_jobs(alloc: Global) -> Option<Vec<Job>> {
 
 static WHOLE_RUN: [Numbers; 2] = [(1, 8, 8, 0), (2, 8, 0, 0)];
 
-// Whether three sites are told of each other's seats and writers, and all close.
-fn are_told<R: Threads + Wait + Sync>(rt: &R, alloc: Global) -> Option<bool> {
-    let jobs = three_jobs(alloc)?;
-    for (site, ended) in run_sites(rt, alloc, jobs)?.as_slice().iter().enumerate() {
+// Whether three sites were told of each other's seats and writers, and all closed.
+fn are_told(all: &[Option<Outcome>]) -> Option<bool> {
+    for (site, ended) in all.iter().enumerate() {
         let ended = ended.as_ref()?;
         if !has_reports(ended, 4, &WHOLE_RUN) || ended.marks != (0, 0) {
             return Some(false);
@@ -153,7 +154,15 @@ fn are_told<R: Threads + Wait + Sync>(rt: &R, alloc: Global) -> Option<bool> {
     Some(true)
 }
 
+// The same of a run, and the verdict on its logs.
+fn told_and_judged<R: Threads + Wait + Sync>(rt: &R, alloc: Global) -> Option<(bool, Verdict)> {
+    let all = run_sites(rt, alloc, three_jobs(alloc)?)?;
+    let told = are_told(all.as_slice())?;
+    Some((told, full_verdict(alloc, THREE, all)?))
+}
+
 #[test]
 fn three_sites_hear_of_a_writer(rt: HostRuntime) {
-    assert!(rt; are_told(&rt, rt.alloc()) == Some(true));
+    let told = told_and_judged(&rt, rt.alloc());
+    assert!(rt; told == Some((true, Verdict::Consistent)), "{told:?}");
 }

@@ -4,7 +4,6 @@ ghost use Rattle.std.specs.Prelude.{◌≡◌, ◌+◌, All, IsSome, IfSome, len
 ghost use Rattle.admission_core.specs.Kept.{DurableState};
 
 use crate::gates::TestGate;
-use crate::keepers::Fake;
 use admission_core::{Ask, Call, Reply};
 use exchange_threads::{End, Port, Report, run_links};
 use merge_core::{Delta, Layout, RecordName, RecordSpec};
@@ -14,6 +13,7 @@ use std::marker::Brand;
 use std::sync::Wait;
 use std::sync::ledger::Blank;
 use std::thread::Threads;
+use test_keepers::{Fake, Fault, store_with};
 
 /// The sites, and the records with as many seats each, all at site 0.
 #[derive(Clone, Copy)]
@@ -99,7 +99,11 @@ fn opened<L: Opening>(
     requires one_each { blank.parts ≡ passes }
 {
     let layout = layout_of(alloc, job.shape)?;
-    let keeper = Fake::new(alloc, &layout, job.site, job.left)?;
+    let store = match job.left {
+        Some(left) => store_with(left, Fault::Refused(false)),
+        None => store_with(0, Fault::Never),
+    };
+    let keeper = Fake::new(alloc, &layout, job.site, store)?;
     Site::<Fake, L>::open(alloc, blank, keeper, layout, job.site, passes, job.limit).ok()
 }
 
