@@ -9,7 +9,7 @@ pub use inbox::run_inbox;
 pub use link::{LINK_CAPACITY, make_link};
 pub use names::RefusalName;
 pub use outbox::run_outbox;
-pub use port::{End, Port, Report, run_links};
+pub use port::{End, Port, Report, run_links, run_port};
 pub use report::{InReport, MOST_TURNS, OutReport};
 
 mod counts;

@@ -38,8 +38,9 @@ pub struct Port<L: Ledger, G> {
     pub report: Option<Report>,
 }
 
-// Runs one port.
-fn run_port<K: Keeper, L: Opening, G: Gate + Drop, R: Wait>(
+/// Runs one port of a site for so many turns, at most 10^9, on the thread that it is called on. The caller shows an end in
+/// the port; afterwards it has its report and no end. For who starts the threads of a site's ports beside others. May wait.
+pub fn run_port<K: Keeper, L: Opening, G: Gate + Drop, R: Wait>(
     rt: &R,
     alloc: Global,
     site: &Site<K, L>,

@@ -1,0 +1,7 @@
+pub mod Scripts
+pub mod Callers
+pub mod Tasks
+pub mod Runs
+pub mod Replies
+pub mod Logs
+pub mod Engine

@@ -1,0 +1,120 @@
+//! The closed logs that a run writes: they are read again, and judged again.
+use crate::runs::{ONE_SITE, ending};
+use desk_log::Transcript;
+use exit_status::Status;
+use judge_engine::{Cut, judge_engine};
+use layout_file::read_layout;
+use std::alloc::Global;
+use std::sync::Wait;
+use std::thread::Threads;
+use test_streams::texts::{THREE_SITES, TWO_SITES};
+use test_streams::{Giving, Keeping, NEVER};
+use text_input::{Sink, Source};
+use transcript_reader::read_transcripts;
+
+// The logs of a script, if it was carried out.
+fn logs_of<Rt: Threads + Wait + Sync>(
+    rt: &Rt,
+    alloc: Global,
+    toml: &str,
+    script: &str,
+) -> Option<Keeping> {
+    let mut reader = Giving::new(script.as_bytes(), NEVER);
+    let mut writer = Keeping::new(alloc, NEVER);
+    let mut logs = Keeping::new(alloc, NEVER);
+    let mut sink = Some(Sink::new(&mut logs));
+    match ending(rt, alloc, (toml, 30), &mut reader, &mut writer, &mut sink)? {
+        Status::Done => Some(logs),
+        _ => None,
+    }
+}
+
+// The log of a script at one site, which has no links.
+const ONE_LOG: &str = "\
+{\"book\":\"{\\\"from\\\":0,\\\"rows\\\":[],\\\"v\\\":1}\",\"sessions\":[],\"site\":0,\"sites\":1}\n\
+{\"call\":\"read a 1\",\"pass\":0,\"reply\":\"admitted\"}\n\
+{\"call\":\"leave a 1\",\"pass\":0,\"reply\":\"left reader\"}\n";
+
+fn is_logged<Rt: Threads + Wait + Sync>(rt: &Rt, alloc: Global) -> Option<bool> {
+    let logs = logs_of(rt, alloc, ONE_SITE, "0 read a 1\n0 leave a 1\n")?;
+    Some(logs.bytes() == ONE_LOG.as_bytes())
+}
+
+#[test]
+fn the_log_of_one_site_is_written(rt: HostRuntime) {
+    assert!(rt; is_logged(&rt, rt.alloc()) == Some(true));
+}
+
+// A layout, a script whose replies may depend on the schedule, and how many calls of callers there are.
+static SCRIPTS: [(&str, &str, usize); 3] = [
+    (
+        TWO_SITES,
+        "1 announce a 5\n0 read a 1\n1 write a 5\n0 leave a 1\n1 write a 5\n1 leave a 5\n0 help a\n",
+        7,
+    ),
+    (
+        THREE_SITES,
+        "2 announce a 1\n1 announce a 1\n0 read a 1\n0 give a 2 1\n2 read a 7\n1 write a 1\n2 leave a 1\n",
+        7,
+    ),
+    (THREE_SITES, "", 0),
+];
+
+// How many entries callers made.
+fn count_calls(transcripts: &[Transcript]) -> usize {
+    let mut count = 0usize;
+    for transcript in transcripts {
+        for run in transcript.runs.as_slice() {
+            for entry in run.entries.as_slice() {
+                count = count.saturating_add(usize::from(entry.pass == 0));
+            }
+        }
+    }
+    count
+}
+
+// Whether the logs are those of a transcript for each site, with so many calls of callers.
+fn are_read_again(alloc: Global, toml: &str, logs: &[u8], calls: usize) -> Option<bool> {
+    let layout = read_layout(alloc, toml.as_bytes()).ok()?;
+    let transcripts = read_transcripts(alloc, &layout, logs).ok()?;
+    let mut runs = 0usize;
+    for transcript in transcripts.as_slice() {
+        runs = runs.saturating_add(transcript.runs.len());
+    }
+    Some(runs == usize::from(layout.sites()) && count_calls(transcripts.as_slice()) == calls)
+}
+
+// Whether the judge finds the logs consistent.
+fn are_consistent(alloc: Global, toml: &str, logs: &[u8]) -> Option<bool> {
+    let layout = read_layout(alloc, toml.as_bytes()).ok()?;
+    let mut reader = Giving::new(logs, NEVER);
+    let mut writer = Keeping::new(alloc, NEVER);
+    let ended = judge_engine(
+        alloc,
+        &layout,
+        &Cut::full(),
+        &mut Source::new(&mut reader),
+        &mut Sink::new(&mut writer),
+    );
+    Some(ended == Status::Done && writer.bytes().ends_with(b"\nconsistent\n"))
+}
+
+fn are_judged_again<Rt: Threads + Wait + Sync>(
+    rt: &Rt,
+    alloc: Global,
+    row: &(&str, &str, usize),
+) -> Option<bool> {
+    let (toml, script, calls) = *row;
+    let logs = logs_of(rt, alloc, toml, script)?;
+    Some(
+        are_read_again(alloc, toml, logs.bytes(), calls)?
+            && are_consistent(alloc, toml, logs.bytes())?,
+    )
+}
+
+#[test]
+fn logs_are_read_and_judged_again(rt: HostRuntime) {
+    for row in &SCRIPTS {
+        assert!(rt; are_judged_again(&rt, rt.alloc(), row) == Some(true));
+    }
+}
