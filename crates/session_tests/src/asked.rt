@@ -1,10 +1,11 @@
 //! What the tests ask of a site, and its replies as numbers.
-use crate::fakes::{Fake, small_desk};
+use crate::fakes::small_desk;
 use admission_core::{Ask, Call, Refusal, Reply};
 use grow_counters::Counts;
 use merge_core::{Delta, Row};
 use session_book::Desk;
 use std::alloc::Global;
+use test_keepers::Fake;
 
 /// A reply as numbers, by which replies are compared.
 pub type Numbers = (u8, u64, u64);

@@ -1,10 +1,11 @@
 //! The desk of a site: its replies, what it logs, openings one after another, and a store that fails.
 use crate::asked::{Asked, Numbers, call_of, served};
-use crate::fakes::{Fake, Fault, desk_of, small_desk, store_with};
+use crate::fakes::{desk_of, small_desk};
 use admission_core::Durable;
 use durable_keeper::Keeper;
 use session_book::{AppendError, Desk, OpenError, Run, Runs, Transcript};
 use std::alloc::Global;
+use test_keepers::{Fake, Fault, store_with};
 
 // What is asked, and the reply's numbers.
 type Row = (Asked, Numbers);

@@ -1,6 +1,5 @@
 //! A story of a site of which any one allocation may be refused. With ample memory each call is answered.
 use crate::asked::{Asked, Numbers, call_of};
-use crate::fakes::{Fault, store_with};
 use crate::openings::{Plan, Stop, run_opening};
 use admission_core::Call;
 use session_book::same::same_call;
@@ -8,6 +7,7 @@ use session_book::{Entry, OpenError};
 use std::alloc::Global;
 use std::sync::Wait;
 use std::thread::Threads;
+use test_keepers::{Fault, store_with};
 
 // Site 0 of two, with three seats under problem 2 and two passes.
 const TWO_PASSES: Plan = Plan {

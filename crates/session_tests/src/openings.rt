@@ -3,7 +3,6 @@ ghost use Rattle.std.specs.Prelude.{◌≡◌, IfOk};
 ghost use Rattle.admission_core.specs.Kept.{DurableState};
 
 use crate::asked::{Asked, Numbers, call_of, numbers};
-use crate::fakes::{Fake, Store, layout_of};
 use admission_core::{Ask, Call};
 use durable_keeper::Keeper;
 use session_book::{CloseError, OpenError, Opening, Pass, Site, Transcript};
@@ -13,6 +12,7 @@ use std::sync::Wait;
 use std::sync::ledger::Blank;
 use std::thread;
 use std::thread::Threads;
+use test_keepers::{Fake, Store, layout_of};
 
 /// A site of a layout of one record, its passes, and the places of its log. Where `in_threads` says so, each of two
 /// passes makes calls in a thread of its own first.

@@ -1,7 +1,7 @@
 //! Sites that work at the same time, sites that are opened again, and callers on several threads.
 use crate::asked::{Asked, Numbers, served};
 use crate::desks::durable_of;
-use crate::fakes::{Fault, Store, small_desk, store_with};
+use crate::fakes::small_desk;
 use crate::growths::story;
 use crate::openings::{Outcome, Plan, Stop, run_opening};
 use admission_core::{Ask, Call, Durable};
@@ -12,6 +12,7 @@ use std::sync::atomic::{AtomicU64, Ordering};
 use std::sync::{Arc, Wait};
 use std::thread;
 use std::thread::Threads;
+use test_keepers::{Fault, Store, store_with};
 
 // Site 0 of two, with two seats and one pass.
 const ONE_PASS: Plan = Plan {
