@@ -8,7 +8,8 @@ _seat_cli() {
         join) COMPREPLY=($(compgen -W "--help --layout" -- "$word")) ;;
         play) COMPREPLY=($(compgen -W "--from --help --layout --tables" -- "$word")) ;;
         site) COMPREPLY=($(compgen -W "--help --layout --site --store" -- "$word")) ;;
-        *) COMPREPLY=($(compgen -W "join play site --help --version" -- "$word")) ;;
+        judge) COMPREPLY=($(compgen -W "--cut --help --layout" -- "$word")) ;;
+        *) COMPREPLY=($(compgen -W "join play site judge --help --version" -- "$word")) ;;
     esac
 }
 complete -F _seat_cli seat_cli
