@@ -1,12 +1,14 @@
 #!/usr/bin/env bash
-# Tries each planted wrong body by itself, in a copy of the crates: those of crates/NAME/must-fail/, which the gate tries
-# too, and those of crates/NAME/planted/, which it leaves out. A file several_bodies.edit holds a body behind each line
-# "# body: NAME". Prints each body that the prover did not refuse, and how many it refused.
+# Tries each planted wrong body, in a copy of the crates: those of crates/NAME/must-fail/, which the gate tries too, and
+# those of crates/NAME/planted/, which it leaves out. A file several_bodies.edit holds a body behind each line
+# "# body: NAME". Bodies in different functions are tried in one check, which has to point to a place in each of these
+# functions (checks/planted_together.py); each of the others is tried by itself. Prints each body that the prover did not
+# refuse, and how many it refused.
 #
 #     checks/planted.sh [CRATE ..]
 #
-# Without arguments: all crates, which takes hours. Libraries that `rt` has built in this tree, and whose sources have not
-# changed since, are taken along; others are built anew first.
+# Without arguments: all crates, which takes an hour or two of one core. Libraries that `rt` has built in this tree, and whose
+# sources have not changed since, are taken along; others are built anew first.
 # The exit status is 1 where a body was not refused, could not be applied, or was not tried.
 set -eu
 cd "$(dirname "$0")/.."
@@ -36,14 +38,20 @@ for name in "$@"; do
     fi
 done
 
+together=$PWD/checks/planted_together.py
 cd "$work"
 missed=0
 for name in "$@"; do
-    rt must-fail "$name" > "$work/log" 2>&1 || true
     planted=$(ls "crates/$name/must-fail" | wc -l)
-    refused=$(grep -c 'must-fail .*: refused' "$work/log" || true)
-    echo "$name: $refused of $planted planted bodies refused"
-    grep 'must-fail .*: \(NOT REFUSED\|NOT TRIED\|BAD EDIT\)' "$work/log" || true
+    "$together" "crates/$name" > "$work/log" 2>&1 || cat "$work/log"
+    left=$(ls "crates/$name/must-fail" | wc -l)
+    refused=$((planted - left))
+    if [ "$left" -gt 0 ]; then
+        rt must-fail "$name" > "$work/log" 2>&1 || true
+        refused=$((refused + $(grep -c 'must-fail .*: refused' "$work/log" || true)))
+        grep 'must-fail .*: \(NOT REFUSED\|NOT TRIED\|BAD EDIT\)' "$work/log" || true
+    fi
+    echo "$name: $refused of $planted planted bodies refused, $left of them by themselves"
     [ "$refused" = "$planted" ] || { missed=$((missed + planted - refused)); tail -n 3 "$work/log"; }
 done
 echo "planted bodies that were not refused: $missed"
