@@ -1,17 +1,21 @@
 -- What is done with a site over a database.
-use Rattle.std.specs.Prelude.{◌≡◌, ℕ, ◌⊎◌, Result, Ok, Err}
+use Rattle.std.specs.Prelude.{◌≡◌, ℕ, ◌⊎◌, decimal, Result, Ok, Err, IfOk, IfErr}
 use Rattle.sqlite_trees.specs.declared.store.Store.{Ghosts as Device}
 use Rattle.sqlite.specs.Effect.{Database}
-use Rattle.sqlite.specs.Held.{Held}
+use Rattle.sqlite.specs.Held.{Held, state}
+use Rattle.sqlite.specs.State.{HasCleanDisk}
 use Rattle.merge_core.specs.Layout.{LayoutState}
 use Rattle.store_rows.specs.Rows.{Stored}
-use Rattle.store_rows.specs.Holding.{Keeps, KeepsBeside, KeepsEither, KeepsNothing}
+use Rattle.store_rows.specs.Holding.{Keeps, KeepsBeside, KeepsEither, KeepsNothing, KeepsNothingOr}
+use Rattle.store_tables.specs.Transacts.{made}
+use Rattle.layout_line.specs.Line.{line_of}
+use Rattle.durable_keeper.specs.Keeping.{nothing_kept}
 use Rattle.durable_keeper.specs.declared.keeper.Keeper.{Ghosts}
 use Rattle.site_store.specs.declared.error.OpenError.{OpenError}
 use Rattle.site_store.specs.declared.error.OpenError.TheVariants as opening
 use Rattle.site_store.specs.declared.sql.SqlKeeper.{SqlKeeper}
-use Rattle.site_store.specs.Sql.{below}
-use Rattle.site_store.specs.Opened.{Opens, OpensBlank, left_by}
+use Rattle.site_store.specs.Sql.{below, KeepsPart}
+use Rattle.site_store.specs.Opened.{CommitsNothing, IsByDevice, IsCurrent, IsFault, IsJudgedFirst, IsOwn, Opens, OpensBlank, Settles, left_by}
 use Rattle.text_input.specs.Source.{SourceState}
 use Rattle.text_input.specs.Sink.{SinkState}
 use Rattle.exit_status.specs.declared.store_refusal.StoreRefusal.TheVariants.{BadStore, WrongSite, WrongLayout, StoreFault}
@@ -28,11 +32,21 @@ refusal_status opening.StoreFault = NoStore StoreFault
 refusal_status opening.Memory = Memory
 
 module _ {S : Type 0} (g : Device S) where
-  -- What an opening of the store in a database came to: a keeper, or a refusal with the database; either way other tables,
-  -- which were made behind those of the store, keep their rows.
+  -- What an opening of the store in a database came to: a keeper, or a refusal with the database. Where a crash left one of
+  -- two contents, it is a keeper of one of them; where both were this site's own, an honest device is the only cause of a
+  -- refusal. The same holds where a crash left a new store or none. A fault of an honest device has its cause; nothing is
+  -- committed before all is judged, nor where nothing is due; and other tables, which were made behind those of the
+  -- store, keep their rows.
   pub record OpensStore (layout : LayoutState) (i : ℕ) (c : Held S) (opened : Result (SqlKeeper S g) (OpenError × Held S)) : Type 0 where
     pub stored : (it : Stored) → Keeps g c it → Opens {g = g} layout i it opened
     pub blank : KeepsNothing g c → OpensBlank {g = g} layout i opened
+    pub settles : (a b : Stored) → KeepsEither g c a b → IfOk opened (Settles a b)
+    pub own : (a b : Stored) → IsOwn layout i a → IsOwn layout i b → KeepsEither g c a b → IfErr opened (IsByDevice g)
+    pub settles_or : KeepsNothingOr g c (made (decimal i) (line_of layout)) → IfOk opened (λ k. KeepsPart k nothing_kept)
+    pub own_or : KeepsNothingOr g c (made (decimal i) (line_of layout)) → IfErr opened (IsByDevice g)
+    pub fault : (it : Stored) → Keeps g c it → IfErr opened (IsFault g layout i it c)
+    pub judged : IfErr opened (IsJudgedFirst g c)
+    pub current : (it : Stored) → IsCurrent layout it → Keeps g c it → HasCleanDisk (state g (left_by opened)) → CommitsNothing g c (left_by opened)
     pub beside : (a b : Stored) → (others : Database) → KeepsEither g c a b → KeepsBeside g c others → KeepsBeside g (left_by opened) others
 
   -- the store was opened, the engine ended over it, and the database below is handed back
