@@ -21,6 +21,11 @@ prints $? joined.txt "the deltas of two sites are joined"
 prints $? maintenance.txt "the script of a maintenance job is played"
 ./seat_cli judge --layout examples/three_sites.toml <examples/maintenance.log >"$work/out"
 prints $? maintenance.verdict "the logs of its sites are judged"
+./seat_cli run --out "$work/sites.log" --layout examples/three_sites.toml <examples/at_once.script >"$work/out"
+prints $? at_once.txt "three sites work at the same time"
+./seat_cli judge --layout examples/three_sites.toml <"$work/sites.log" | tail -n 1 >"$work/verdict"
+tail -n 1 examples/at_once.txt | cmp -s - "$work/verdict" && [ ! -e "$work/sites.log.part" ]
+prints $? at_once.txt "their logs are judged"
 examples/two_sites.sh >"$work/out"
 prints $? two_sites.txt "two sites, with a store each, serve a writer"
 

@@ -115,12 +115,14 @@ ends 0 "seat_cli 0.1.0" "" --version </dev/null
 tell $? "0 and the version on standard output"
 ends 0 '{"from":0,"rows":[],"v":1}' "" </dev/null
 tell $? "0 and the book of no input"
-ends 2 "" "error: unrecognized subcommand 'run'" run </dev/null
+ends 2 "" "error: unrecognized subcommand 'walk'" walk </dev/null
 tell $? "2 and clap's words on standard error"
 ends 2 "" "error: an argument is not UTF-8" "$(printf '\377')" </dev/null
 tell $? "2 for an argument that is not UTF-8"
 ends 2 "" "cut refused BadWord" judge --cut 1,x </dev/null
 tell $? "2 for a word that is no cut"
+ends 2 "" "error: invalid value '1001' for '--turns <T>': 1001 is not in 1..=1000" run --turns 1001 </dev/null
+tell $? "2 for too many turns"
 ends 3 "" "layout refused NotRead" join --layout examples </dev/null
 tell $? "3 for a folder in place of a layout file"
 ends 3 "" "layout refused TooLong" join --layout /dev/zero </dev/null
@@ -137,6 +139,20 @@ ends 5 "" "store refused WrongSite" site --site 1 --store "$work/site_0.db" </de
 tell $? "5 for the store of another site"
 ends 5 "" "store refused StoreFault" site --site 0 --store examples </dev/null
 tell $? "5 for a folder in place of a store"
+echo "0 send" | ends 4 "line 1 refused BadWord" "" run --out "$work/run.log" && [ -z "$(ls "$work"/run.log* 2>/dev/null)" ]
+tell $? "4 for a script that is refused, and no file for its logs"
+echo "0 leave a 1" | ends 0 "0: refused NotHere
+consistent" "" run --out "$work/run.log" && ./seat_cli judge <"$work/run.log" | grep -q '^consistent$' && [ ! -e "$work/run.log.part" ]
+tell $? "0 for a script that is run, and its logs are judged"
+printf 'older\n' >"$work/older.log" && mkdir "$work/older.log.part"
+echo "0 leave a 1" | ends 7 "" "io" run --out "$work/older.log" && [ "$(cat "$work/older.log")" = older ]
+tell $? "7 for a file that can't be made, and an older one stays"
+ends 7 "" "io" run --out "$work/nowhere/run.log" </dev/null
+tell $? "7 for logs in a folder that isn't there"
+ends 7 "" "io" run --out "$work" </dev/null
+tell $? "7 for a folder in place of a file for logs"
+(ulimit -f 1 && trap '' XFSZ && echo "0 leave a 1" | ends 7 "" "io" run --turns 1000 --out "$work/large.log") && [ -z "$(ls "$work"/large.log* 2>/dev/null)" ]
+tell $? "7 for logs that are too large for the file system, and nothing is left of them"
 ends 7 "" "io" <examples
 tell $? "7 for a folder in place of the input"
 if [ -w /dev/full ]; then
@@ -146,6 +162,8 @@ if [ -w /dev/full ]; then
     ./seat_cli --help >/dev/full 2>"$work/errors" </dev/null
     [ $? = 7 ] && [ "$(cat "$work/errors")" = io ]
     tell $? "7 for help where the output is full"
+    echo "0 leave a 1" | ends 7 "" "io" run --out /dev/full && [ -c /dev/full ] && [ ! -e /dev/full.part ]
+    tell $? "7 for logs on a device that is full, which stays as it is"
 fi
 
 python3 checks/second_reader.py --against crates/seat_cli/out/seat_cli >"$work/output" 2>&1

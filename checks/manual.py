@@ -42,7 +42,7 @@ def manual():
 def completions():
     names = commands()
     lines = ["# Completions of seat_cli for bash, made by checks/manual.py.", "_seat_cli() {", "    local word=${COMP_WORDS[COMP_CWORD]} before=${COMP_WORDS[COMP_CWORD-1]}",
-             "    case $before in", "        --layout | --store) COMPREPLY=($(compgen -f -- \"$word\")); return ;;", "    esac", "    case ${COMP_WORDS[1]} in"]
+             "    case $before in", "        --layout | --out | --store) COMPREPLY=($(compgen -f -- \"$word\")); return ;;", "    esac", "    case ${COMP_WORDS[1]} in"]
     for name in names:
         options = sorted(set(re.findall(r"--[a-z]+", help_of(name).split("Options:\n", 1)[1].split("\n\n", 1)[0])))
         lines.append(f"        {name}) COMPREPLY=($(compgen -W \"{' '.join(options)}\" -- \"$word\")) ;;")

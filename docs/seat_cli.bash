@@ -2,14 +2,15 @@
 _seat_cli() {
     local word=${COMP_WORDS[COMP_CWORD]} before=${COMP_WORDS[COMP_CWORD-1]}
     case $before in
-        --layout | --store) COMPREPLY=($(compgen -f -- "$word")); return ;;
+        --layout | --out | --store) COMPREPLY=($(compgen -f -- "$word")); return ;;
     esac
     case ${COMP_WORDS[1]} in
         join) COMPREPLY=($(compgen -W "--help --layout" -- "$word")) ;;
         play) COMPREPLY=($(compgen -W "--from --help --layout --tables" -- "$word")) ;;
         site) COMPREPLY=($(compgen -W "--help --layout --site --store" -- "$word")) ;;
         judge) COMPREPLY=($(compgen -W "--cut --help --layout" -- "$word")) ;;
-        *) COMPREPLY=($(compgen -W "join play site judge --help --version" -- "$word")) ;;
+        run) COMPREPLY=($(compgen -W "--help --layout --out --turns" -- "$word")) ;;
+        *) COMPREPLY=($(compgen -W "join play site judge run --help --version" -- "$word")) ;;
     esac
 }
 complete -F _seat_cli seat_cli

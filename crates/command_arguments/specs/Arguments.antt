@@ -8,7 +8,7 @@ use Rattle.clap.specs.ValueTests.{is_numeral}
 use Rattle.clap.specs.declared.builder.ArgAction.TheVariants.{Set, SetTrue}
 use Rattle.clap.specs.declared.builder.value_parser.ValueParser.TheVariants.{Signed}
 use Rattle.command_arguments.specs.declared.arguments.Command.{Command}
-use Rattle.command_arguments.specs.declared.arguments.Command.TheVariants.{Join, Play, Site, Judge}
+use Rattle.command_arguments.specs.declared.arguments.Command.TheVariants.{Join, Play, Site, Judge, Run}
 
 -- an option whose value is any text (the project's own), with one name for its value
 abbrev pub text_option : Text → Rule
@@ -49,6 +49,14 @@ site_option = record (number_option (codes "site")) { required = true }
 abbrev pub store_option : Rule
 store_option = record (text_option (codes "store")) { required = true }
 
+-- the option `--turns T` (the project's own), whose value is a number from 1 to 1,000
+abbrev pub turns_option : Rule
+turns_option = record (text_option (codes "turns")) { parser = Some (Signed (pos 1) (pos 1000)) }
+
+-- the option `--out FILE` (the project's own)
+abbrev pub out_option : Rule
+out_option = text_option (codes "out")
+
 -- the command `join` (the project's own), with one option
 abbrev pub join_command : App
 join_command = with_rule (new_app (codes "join")) layout_option
@@ -65,6 +73,10 @@ site_command = with_rule (with_rule (with_rule (new_app (codes "site")) site_opt
 abbrev pub judge_command : App
 judge_command = with_rule (with_rule (new_app (codes "judge")) cut_option) layout_option
 
+-- the command `run` (the project's own), with three options
+abbrev pub run_command : App
+run_command = with_rule (with_rule (with_rule (new_app (codes "run")) turns_option) out_option) layout_option
+
 -- the settings of the program: it has a version, it needs a command, and it has no command `help`
 abbrev pub with_settings : Shape → Shape
 with_settings top = record top {
@@ -73,11 +85,11 @@ with_settings top = record top {
   disable_help_subcommand = true;
 }
 
--- the program, whose commands are `join`, `play`, `site` and `judge`
+-- the program, whose commands are `join`, `play`, `site`, `judge` and `run`
 abbrev pub program : App
 program =
-    with_subcommand (with_subcommand (with_subcommand (with_subcommand (on_top with_settings (new_app (codes "seat_cli")))
-    join_command.top) play_command.top) site_command.top) judge_command.top
+    with_subcommand (with_subcommand (with_subcommand (with_subcommand (with_subcommand (on_top with_settings (new_app (codes "seat_cli")))
+    join_command.top) play_command.top) site_command.top) judge_command.top) run_command.top
 
 -- whether a flag's text is `true`
 abbrev pub is_true : Text → Bool
@@ -101,12 +113,17 @@ first_in rows = option_and_then short_number (one_of (codes "from") rows)
 abbrev pub site_in : List Row → ℕ
 site_in rows = unwrap_or (option_and_then short_number (one_of (codes "site") rows)) 0
 
+-- the number of turns that the values name; 100 where they name none
+abbrev pub turns_in : List Row → ℕ
+turns_in rows = unwrap_or (option_and_then short_number (one_of (codes "turns") rows)) 100
+
 -- the command of a name, with its values
 abbrev pub command_of : Text → List Row → Command
 command_of name rows =
     if bytes_eq name (codes "play") then Play (tables_in rows) (first_in rows)
     else if bytes_eq name (codes "site") then Site (site_in rows)
-    else if bytes_eq name (codes "judge") then Judge else Join
+    else if bytes_eq name (codes "judge") then Judge
+    else if bytes_eq name (codes "run") then Run (turns_in rows) else Join
 
 -- the command that was met, if one was
 abbrev pub command_in : Option (Text × List Row) → Command
@@ -153,3 +170,7 @@ asked_store arguments = asked_value (codes "store") arguments
 -- the word for a cut that they name
 abbrev pub asked_cut : List Text → Option Text
 asked_cut arguments = asked_value (codes "cut") arguments
+
+-- the file for closed logs that they name
+abbrev pub asked_out : List Text → Option Text
+asked_out arguments = asked_value (codes "out") arguments

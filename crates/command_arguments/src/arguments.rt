@@ -1,9 +1,10 @@
 ghost use Rattle.std.specs.Prelude.{◌≡◌, ◌≤◌, codes, false, length, map, IfOk, IsOk, option_map, string_bytes};
 ghost use Rattle.clap.specs.Words.{FailsBy, app_of, found_of, rows_of, rule_of, subcommand_rows_of};
 ghost use Rattle.clap.specs.declared.builder.command.Command.TheViews.{out-Command as fields_of};
-ghost use Rattle.command_arguments.specs.Arguments.{asked_command, asked_cut, asked_layout, asked_store, command_in, command_of, join_command, judge_command, number_option, play_command, program, site_command, site_in, site_option, store_option, tables_flag, text_option, usage_errors, value_in};
+ghost use Rattle.command_arguments.specs.Arguments.{asked_command, asked_cut, asked_layout, asked_out, asked_store, command_in, command_of, join_command, judge_command, number_option, play_command, program, run_command, site_command, site_in, site_option, store_option, tables_flag, text_option, turns_in, turns_option, usage_errors, value_in};
 
 use crate::help;
+use clap::builder::ValueParser;
 use clap::{Arg, ArgAction, ArgMatches, Command as Parser, Error, value_parser};
 use std::alloc::{AllocError, Global};
 
@@ -26,6 +27,11 @@ pub enum Command {
     },
     /// The lines of the input are those of closed logs, which are judged.
     Judge,
+    /// The lines of the input are calls at several sites, which work at the same time.
+    Run {
+        /// How many turns each link between two sites has.
+        turns: u16,
+    },
 }
 
 /// A command and the texts that its options name.
@@ -38,6 +44,8 @@ pub struct Request<'a> {
     pub store: Option<&'a str>,
     /// The word for a cut, if one is named: `judge` may have one, and no other command.
     pub cut: Option<&'a str>,
+    /// The file for closed logs, if one is named: `run` may have one, and no other command.
+    pub out: Option<&'a str>,
 }
 
 /// What the arguments ask for. The first is the program's own name; without a further one it is `join`, for which no
@@ -47,6 +55,7 @@ pub fn requested<'a>(alloc: Global, arguments: &'a [String]) -> Result<Request<'
     ensures layout { IfOk result (λ asked. option_map (λ path. path.now) asked.layout ≡ asked_layout (map string_bytes arguments.now)) }
     ensures store { IfOk result (λ asked. option_map (λ path. path.now) asked.store ≡ asked_store (map string_bytes arguments.now)) }
     ensures cut { IfOk result (λ asked. option_map (λ word. word.now) asked.cut ≡ asked_cut (map string_bytes arguments.now)) }
+    ensures out { IfOk result (λ asked. option_map (λ path. path.now) asked.out ≡ asked_out (map string_bytes arguments.now)) }
     // An error comes just where clap's rules find one, and is of a kind that they give, or memory ran out.
     ensures refused { FailsBy (usage_errors (map string_bytes arguments.now)) result }
     ensures bare { length arguments.now ≤ 1 → IsOk result }
@@ -57,6 +66,7 @@ pub fn requested<'a>(alloc: Global, arguments: &'a [String]) -> Result<Request<'
             layout: None,
             store: None,
             cut: None,
+            out: None,
         });
     }
     let matches = parser(alloc)?.try_get_matches_from(arguments)?;
@@ -69,6 +79,7 @@ fn request_in<'a>(matches: &ArgMatches<'a>) -> Request<'a>
     ensures layout { option_map (λ path. path.now) result.layout ≡ value_in (codes "layout") (subcommand_rows_of matches.now) }
     ensures store { option_map (λ path. path.now) result.store ≡ value_in (codes "store") (subcommand_rows_of matches.now) }
     ensures cut { option_map (λ word. word.now) result.cut ≡ value_in (codes "cut") (subcommand_rows_of matches.now) }
+    ensures out { option_map (λ path. path.now) result.out ≡ value_in (codes "out") (subcommand_rows_of matches.now) }
 {
     let Some((name, found)) = matches.subcommand() else {
         return Request {
@@ -76,6 +87,7 @@ fn request_in<'a>(matches: &ArgMatches<'a>) -> Request<'a>
             layout: None,
             store: None,
             cut: None,
+            out: None,
         };
     };
     Request {
@@ -83,6 +95,7 @@ fn request_in<'a>(matches: &ArgMatches<'a>) -> Request<'a>
         layout: found.get_str("layout"),
         store: found.get_str("store"),
         cut: found.get_str("cut"),
+        out: found.get_str("out"),
     }
 }
 
@@ -104,6 +117,11 @@ fn command_of(name: &str, found: &ArgMatches) -> Command
     if name == "judge" {
         return Command::Judge;
     }
+    if name == "run" {
+        return Command::Run {
+            turns: turns_in(found),
+        };
+    }
     Command::Join
 }
 
@@ -114,6 +132,13 @@ fn site_in(found: &ArgMatches) -> u16
     found.get_one::<u16>("site").unwrap_or(0)
 }
 
+// How many turns links have: 100 where no number is named.
+fn turns_in(found: &ArgMatches) -> u16
+    ensures { result ≡ turns_in (rows_of (found_of found.now)) }
+{
+    found.get_one::<u16>("turns").unwrap_or(100)
+}
+
 // The program as clap is told of it.
 fn parser<'a>(alloc: Global) -> Result<Parser<'a>, AllocError>
     ensures { IfOk result (λ built. app_of built ≡ program) }
@@ -122,6 +147,7 @@ fn parser<'a>(alloc: Global) -> Result<Parser<'a>, AllocError>
     let play = play_parser(alloc)?;
     let site = site_parser(alloc)?;
     let judge = judge_parser(alloc)?;
+    let run = run_parser(alloc)?;
     Parser::new(alloc, "seat_cli")
         .version("0.1.0")
         .override_usage("seat_cli [COMMAND]")
@@ -132,7 +158,8 @@ fn parser<'a>(alloc: Global) -> Result<Parser<'a>, AllocError>
         .subcommand(join)?
         .subcommand(play)?
         .subcommand(site)?
-        .subcommand(judge)
+        .subcommand(judge)?
+        .subcommand(run)
 }
 
 // The command `join`.
@@ -193,6 +220,22 @@ fn judge_parser<'a>(alloc: Global) -> Result<Parser<'a>, AllocError>
         .arg(layout)
 }
 
+// The command `run`.
+fn run_parser<'a>(alloc: Global) -> Result<Parser<'a>, AllocError>
+    ensures { IfOk result (λ built. (app_of built ≡ run_command) × ((fields_of built).has_globals ≡ false)) }
+{
+    let turns = turns_option(alloc);
+    let out = text_option(alloc, "out", "FILE", help::OUT);
+    let layout = layout_option(alloc);
+    Parser::new(alloc, "run")
+        .override_usage("seat_cli run [--turns T] [--out FILE] [--layout FILE]")
+        .about(help::RUN)
+        .after_help(help::RUN_NOTES)
+        .arg(turns)?
+        .arg(out)?
+        .arg(layout)
+}
+
 // The option `--layout FILE`.
 fn layout_option<'a>(alloc: Global) -> Arg<'a>
     ensures rule { rule_of result ≡ text_option (codes "layout") }
@@ -226,6 +269,14 @@ fn store_option<'a>(alloc: Global) -> Arg<'a>
     ensures local { result.global ≡ false }
 {
     text_option(alloc, "store", "FILE", help::STORE).required(true)
+}
+
+// The option `--turns T`.
+fn turns_option<'a>(alloc: Global) -> Arg<'a>
+    ensures rule { rule_of result ≡ turns_option }
+    ensures local { result.global ≡ false }
+{
+    text_option(alloc, "turns", "T", help::TURNS).value_parser(ValueParser::signed(1, 1000))
 }
 
 // An option whose value is any text.

@@ -12,14 +12,16 @@ Exit status:
   0  every line was carried out, whatever the replies; or help or the version was printed
   2  the arguments are wrong, or `judge` was given no cut: `cut refused BadWord` on standard error
   3  there is no layout, or it has no such site: `layout refused NAME` on standard error
-  4  a line can't be read, or `join` refused it, or the input is above 16 MiB: the output says which
+  4  a line can't be read, or `join` or `run` refused it, or the input is above 16 MiB: the output says which
   5  the store can't be used: `store refused NAME` on standard error; or it failed: a reply was `refused StoreFault`
   6  out of memory: `memory` on standard error
   7  reading or writing failed: `io` on standard error
 
 Examples:
   cat site_0.deltas site_1.deltas | seat_cli join --layout three_sites.toml
-  printf '0 give a 1 1\\n0 send\\n1 take 0\\n1 read a 8\\n' | seat_cli play --tables";
+  printf '0 give a 1 1\\n0 send\\n1 take 0\\n1 read a 8\\n' | seat_cli play --tables
+  printf '0 read a 7\\n1 read a 8\\n' | seat_cli run --out sites.log
+  seat_cli judge < sites.log";
 
 /// What `join` does.
 pub const JOIN: &str = "Joins deltas, one a line, and prints one delta that has all of them";
@@ -114,8 +116,47 @@ it, with `line K refused NotTranscript` and status 4.
 C says how many calls of each site are looked at, with commas between the numbers, as `8,6,0`; or it is `full`: all.
 Any other word is refused, with `cut refused BadWord` and status 2.
 
+The command `run` judges the logs of its sites itself; with `--out FILE` it writes them, and `judge` reads them again.
+
+Examples:
+  cat site_*.log | seat_cli judge
+  seat_cli run --out sites.log < script.txt && seat_cli judge --cut 1,0 < sites.log";
+
+/// What `run` does.
+pub const RUN: &str =
+    "Runs several sites at the same time, with links between them, and judges their logs";
+
+/// What stands behind the options of `run`.
+pub const RUN_NOTES: &str = "\
+Each line of the input is a call of one site, with one space between words:
+  I read NAME H      at site I, holder H enters record NAME as a reader
+  I announce NAME H  H announces that it will write
+  I write NAME H     H, who has announced it, enters as the writer, who needs all seats
+  I leave NAME H     H leaves, or withdraws its announcement
+  I give NAME J N    site I gives N of its seats to site J
+  I help NAME        site I gives seats to the site of an announced writer, or its surplus to the next site
+I and J are sites, from 0. H is a holder: any number up to 1,000,000,000,000. Numbers have no leading zero.
+
+The sites begin with nothing stored, and work at the same time. The calls of one site are made in the order of its lines.
+Between each two sites are two links, one each way. At each turn of a link its first site helps at one record, as by
+`help`, and sends all that it knows, which the other merges. So the replies depend on when a site is told what the
+others did.
+
+The output has the replies to the calls, as `0: admitted` or `1: refused NoSeat 0`, site by site, and those of one site
+in the order of its lines; and then the verdict of `judge` on the logs of all sites. The status is 0, whatever these are.
+
+A line that can't be read, as `0 send`, or one that names no site of the layout, or line 16,385 refuses the whole script,
+and no site begins. The output is then `line K refused BadWord`, `NoSite` or `TooManyLines` alone, for the first such
+line, and the status is 4.
+
+FILE gets the logs of all sites, which `judge` reads if they have at most 16 MiB: fewer turns make shorter logs. They are
+written to FILE.part, which becomes FILE when it is whole: if the run fails, an older FILE stays as it was. A link, a
+pipe or a device is written to directly. If FILE can't be written, the status is 7, and no input is read if that is
+found at the start.
+
 Example:
-  cat site_0.log site_1.log | seat_cli judge";
+  printf '0 read a 7\\n1 read a 8\\n' | seat_cli run --out sites.log
+  seat_cli judge --cut 1,0 < sites.log";
 
 /// What `--layout` names.
 pub const LAYOUT: &str =
@@ -134,6 +175,12 @@ pub const SITE_NUMBER: &str = "The number of the site in the layout, from 0";
 
 /// What `--store` names.
 pub const STORE: &str = "The file of the site's store, which is made where it is new";
+
+/// What `--turns` says.
+pub const TURNS: &str = "How many turns each link has, from 1 to 1000 [default: 100]";
+
+/// What `--out` names.
+pub const OUT: &str = "A file for the logs of all sites, which `judge` reads";
 
 /// What `--cut` says.
 pub const CUT: &str = "How many calls of each site are looked at, as 8,6,0 [default: full]";

@@ -3,7 +3,7 @@ ghost use Rattle.std.specs.Prelude.{◌≡◌, ◌∷◌, [], None, Some, codes,
 ghost use Rattle.clap.specs.Words.{fault_of};
 ghost use Rattle.clap.specs.declared.error.ErrorKind.TheVariants.{ArgumentConflict, InvalidSubcommand, InvalidValue, MissingRequiredArgument, TooManyValues, UnknownArgument, ValueValidation};
 ghost use Rattle.command_arguments.specs.Arguments.{called_with, named_command, named_value, program};
-ghost use Rattle.command_arguments.specs.declared.arguments.Command.TheVariants.{Join, Play, Site, Judge};
+ghost use Rattle.command_arguments.specs.declared.arguments.Command.TheVariants.{Join, Play, Site, Judge, Run};
 
 /// What arguments the program is called with and how they are read, by computation alone: the layout file that they
 /// name, and the kinds of error that clap may answer with.
@@ -17,7 +17,7 @@ pub fn arguments_read()
     ensures two_files { fault_of program (called_with (codes "join" ∷ codes "--layout=a" ∷ codes "--layout=b" ∷ [])) ≡ ArgumentConflict ∷ [] }
     ensures stray_argument { fault_of program (called_with (codes "join" ∷ codes "x" ∷ [])) ≡ UnknownArgument ∷ [] }
     ensures option_before_command { fault_of program (called_with (codes "--layout" ∷ codes "a" ∷ [])) ≡ UnknownArgument ∷ [] }
-    ensures other_command { fault_of program (called_with (codes "run" ∷ [])) ≡ UnknownArgument ∷ InvalidSubcommand ∷ [] }
+    ensures other_command { fault_of program (called_with (codes "walk" ∷ [])) ≡ UnknownArgument ∷ InvalidSubcommand ∷ [] }
     ensures joins { named_command (called_with (codes "join" ∷ [])) ≡ Join }
     ensures flag_of_play { fault_of program (called_with (codes "join" ∷ codes "--tables" ∷ [])) ≡ UnknownArgument ∷ [] }
 {}
@@ -70,4 +70,21 @@ pub fn judge_arguments_read()
     ensures missing_value { fault_of program (called_with (codes "judge" ∷ codes "--cut" ∷ [])) ≡ InvalidValue ∷ [] }
     ensures two_cuts { fault_of program (called_with (codes "judge" ∷ codes "--cut=1" ∷ codes "--cut=2" ∷ [])) ≡ ArgumentConflict ∷ [] }
     ensures cut_of_join { fault_of program (called_with (codes "join" ∷ codes "--cut=1" ∷ [])) ≡ UnknownArgument ∷ [] }
+{}
+
+/// The same of the command `run`: how many turns links have, the file for closed logs, and the layout file.
+#[tactic(auto, unfolding(clap::proofs::OnLiterals::clap_on_literals))]
+pub fn run_arguments_read()
+    ensures plain { named_command (called_with (codes "run" ∷ [])) ≡ Run 100 }
+    ensures turns { named_command (called_with (codes "run" ∷ codes "--turns" ∷ codes "7" ∷ [])) ≡ Run 7 }
+    ensures most_turns { named_command (called_with (codes "run" ∷ codes "--out=a" ∷ codes "--turns=1000" ∷ [])) ≡ Run 1000 }
+    ensures out { named_value (codes "out") (called_with (codes "run" ∷ codes "--out" ∷ codes "a" ∷ [])) ≡ Some (codes "a") }
+    ensures layout { named_value (codes "layout") (called_with (codes "run" ∷ codes "--out=a" ∷ codes "--layout=b" ∷ [])) ≡ Some (codes "b") }
+    ensures no_error { fault_of program (called_with (codes "run" ∷ codes "--turns=1" ∷ codes "--out=a" ∷ [])) ≡ [] }
+    ensures no_turn { fault_of program (called_with (codes "run" ∷ codes "--turns" ∷ codes "0" ∷ [])) ≡ ValueValidation ∷ [] }
+    ensures too_many_turns { fault_of program (called_with (codes "run" ∷ codes "--turns=1001" ∷ [])) ≡ ValueValidation ∷ [] }
+    ensures no_number { fault_of program (called_with (codes "run" ∷ codes "--turns=x" ∷ [])) ≡ ValueValidation ∷ [] }
+    ensures missing_number { fault_of program (called_with (codes "run" ∷ codes "--turns" ∷ [])) ≡ InvalidValue ∷ [] }
+    ensures two_files { fault_of program (called_with (codes "run" ∷ codes "--out=a" ∷ codes "--out=b" ∷ [])) ≡ ArgumentConflict ∷ [] }
+    ensures out_of_judge { fault_of program (called_with (codes "judge" ∷ codes "--out=a" ∷ [])) ≡ UnknownArgument ∷ [] }
 {}

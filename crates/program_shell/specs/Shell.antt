@@ -9,12 +9,12 @@ use Rattle.clap.specs.Words.{Text, IsAmong}
 use Rattle.clap.specs.declared.error.ErrorKind.{ErrorKind}
 use Rattle.clap.specs.declared.error.ErrorKind.TheVariants.{OutOfMemory, DisplayHelp, DisplayVersion}
 use Rattle.command_arguments.specs.declared.arguments.Command.{Command}
-use Rattle.command_arguments.specs.declared.arguments.Command.TheVariants.{Join, Play, Site, Judge}
+use Rattle.command_arguments.specs.declared.arguments.Command.TheVariants.{Join, Play, Site, Judge, Run}
 use Rattle.layout_file.specs.declared.fault.LayoutFault.{LayoutFault}
 use Rattle.layout_file.specs.declared.fault.LayoutFault.TheVariants as layout
 use Rattle.exit_status.specs.declared.status.Status.{Status}
 use Rattle.exit_status.specs.declared.status.Status.TheVariants.{Done, Memory, Io}
-use Rattle.command_arguments.specs.Arguments.{asked_command, asked_cut, asked_layout, usage_errors}
+use Rattle.command_arguments.specs.Arguments.{asked_command, asked_cut, asked_layout, asked_out, usage_errors}
 use Rattle.exit_status.specs.Endings.{EndsWith, without_layout}
 use Rattle.join_engine.specs.Engine.{EndsJoin}
 use Rattle.judge_engine.specs.declared.cut.CutError.{CutError}
@@ -24,6 +24,7 @@ use Rattle.judge_engine.specs.Engine.{EndsJudge}
 use Rattle.layout_file.specs.LayoutFile.{ReadsLayout, built_in_layout}
 use Rattle.play_engine.specs.Plays.{EndsPlay}
 use Rattle.site_databases.specs.Databases.{EndsStored}
+use Rattle.program_shell.specs.Runs.{EndsRunTo}
 
 -- help or the version: it was printed, or the sink met a fault
 abbrev pub EndsPrinted : SinkState → SinkState → SinkState → SinkState → ℕ → Type 0
@@ -96,17 +97,18 @@ abbrev pub EndsWithoutCut : CutError → SinkState → SinkState → ℕ → Typ
 EndsWithoutCut cut.BadWord errors errors_after code = (Writes errors errors_after no_cut_text ⊎ HasFault errors_after.fault) × (code ≡ 2)
 EndsWithoutCut cut.Memory errors errors_after code = EndsWith Memory errors errors_after code
 
--- a command under a layout and a cut: what its engine did
-abbrev pub EndsCommand : Command → Option (List ℕ) → LayoutState → SourceState → SourceState → SinkState → SinkState → Status → Type 0
-EndsCommand Join lengths layout source source_after sink sink_after ended = EndsJoin (shape_of layout) source source_after sink sink_after ended
-EndsCommand (Play tables first) lengths layout source source_after sink sink_after ended = EndsPlay layout first tables source source_after sink sink_after ended
-EndsCommand (Site site) lengths layout source source_after sink sink_after ended = EndsStored layout site source source_after sink sink_after ended
-EndsCommand Judge lengths layout source source_after sink sink_after ended = EndsJudge layout lengths source source_after sink sink_after ended
+-- a command under a layout and a cut, and with a file for closed logs: what its engine did
+abbrev pub EndsCommand : Command → Option (List ℕ) → Option Text → LayoutState → SourceState → SourceState → SinkState → SinkState → Status → Type 0
+EndsCommand Join lengths out layout source source_after sink sink_after ended = EndsJoin (shape_of layout) source source_after sink sink_after ended
+EndsCommand (Play tables first) lengths out layout source source_after sink sink_after ended = EndsPlay layout first tables source source_after sink sink_after ended
+EndsCommand (Site site) lengths out layout source source_after sink sink_after ended = EndsStored layout site source source_after sink sink_after ended
+EndsCommand Judge lengths out layout source source_after sink sink_after ended = EndsJudge layout lengths source source_after sink sink_after ended
+EndsCommand (Run turns) lengths out layout source source_after sink sink_after ended = EndsRunTo out layout source source_after sink sink_after ended
 
 -- a command under what was found for a layout: without a layout nothing is read or written
-abbrev pub EndsUnder : Command → Option (List ℕ) → Result LayoutState LayoutFault → SourceState → SourceState → SinkState → SinkState → Status → Type 0
-EndsUnder command lengths (Ok layout) source source_after sink sink_after ended = EndsCommand command lengths layout source source_after sink sink_after ended
-EndsUnder command lengths (Err fault) source source_after sink sink_after ended = (source_after ≡ source) × (sink_after ≡ sink) × (ended ≡ without_layout fault)
+abbrev pub EndsUnder : Command → Option (List ℕ) → Option Text → Result LayoutState LayoutFault → SourceState → SourceState → SinkState → SinkState → Status → Type 0
+EndsUnder command lengths out (Ok layout) source source_after sink sink_after ended = EndsCommand command lengths out layout source source_after sink sink_after ended
+EndsUnder command lengths out (Err fault) source source_after sink sink_after ended = (source_after ≡ source) × (sink_after ≡ sink) × (ended ≡ without_layout fault)
 
 -- a command is asked for, and that one was carried out under the cut and the layout that the arguments name
 pub record RunsCommand (arguments : List Text) (source source_after : SourceState) (sink sink_after errors errors_after : SinkState) (code : ℕ) : Type 0 where
@@ -116,7 +118,7 @@ pub record RunsCommand (arguments : List Text) (source source_after : SourceStat
   pub layout : Result LayoutState LayoutFault
   pub found : FindsLayout (asked_layout arguments) layout
   pub ended : Status
-  pub carried_out : EndsUnder (asked_command arguments) lengths layout source source_after sink sink_after ended
+  pub carried_out : EndsUnder (asked_command arguments) lengths (asked_out arguments) layout source source_after sink sink_after ended
   pub told : EndsWith ended errors errors_after code
 
 -- a command is asked for, and a word that names no cut, or memory ran out: nothing is read or written

@@ -4,5 +4,6 @@
 
 pub use shell::{run, run_with};
 
+mod logs_file;
 mod shell;
 mod standard_error;

@@ -1,10 +1,11 @@
-ghost use Rattle.std.specs.Prelude.{◌≡◌, None, Some, map, MatchOption, MatchResult, string_bytes};
+ghost use Rattle.std.specs.Prelude.{◌≡◌, None, Some, map, MatchOption, MatchResult, option_map, string_bytes};
 ghost use Rattle.clap.specs.Words.{kind_of};
 ghost use Rattle.program_shell.specs.Shell.{EndsCommand, EndsUnasked, EndsWithoutCut, EndsUnread, FindsBuiltIn, FindsCut, FindsFile, IsUnopened, RunsProgram, unopened};
 
+use crate::logs_file::run_sites;
 use crate::standard_error::StandardError;
 use clap::error::ErrorKind as UsageKind;
-use command_arguments::{Command, requested};
+use command_arguments::{Command, Request, requested};
 use exit_status::Status;
 use join_engine::join_engine;
 use judge_engine::{Cut, CutError, judge_engine};
@@ -15,15 +16,22 @@ use site_databases::{Databases, serve_stored};
 use std::alloc::Global;
 use std::io::{ErrorKind, Read, Write};
 use std::rt::{Env, Files};
+use std::sync::Wait;
+use std::thread::Threads;
 use std::{env, fs, io};
 use text_input::{Sink, Source};
 
-/// Runs the program on a runtime's arguments, files and standard streams, and gives the exit status.
-pub fn run<R: Env + Files + Databases + Input + Print + Eprint + AllocGlobal>(rt: &R) -> u8 {
+/// Runs the program on a runtime's arguments, files and standard streams, and gives the exit status. The command `run`
+/// starts threads, and may wait; no other command does.
+pub fn run<
+    R: Env + Files + Databases + Input + Print + Eprint + AllocGlobal,
+    T: Threads + Wait + Sync,
+>(rt: &R, threads: &T) -> u8 {
     let mut errors = Sink::new(StandardError::of(rt));
     match all_arguments(rt) {
         Ok(arguments) => run_with(
             rt,
+            threads,
             arguments.as_slice(),
             &mut Source::new(rt.reader()),
             &mut Sink::new(io::writer(rt)),
@@ -51,8 +59,15 @@ fn all_arguments<R: Env + AllocGlobal>(rt: &R) -> io::Result<Vec<String>> {
 }
 
 /// Carries out the command that the arguments ask for, or says what is to be said of them. Gives the exit status.
-pub fn run_with<R: Files + Databases + AllocGlobal, I: Read, O: Write, E: Write>(
+pub fn run_with<
+    R: Files + Databases + AllocGlobal,
+    T: Threads + Wait + Sync,
+    I: Read,
+    O: Write,
+    E: Write,
+>(
     rt: &R,
+    threads: &T,
     arguments: &[String],
     source: &mut Source<I>,
     sink: &mut Sink<O>,
@@ -72,32 +87,36 @@ pub fn run_with<R: Files + Databases + AllocGlobal, I: Read, O: Write, E: Write>
         Ok(layout) => layout,
         Err(fault) => return Status::without_layout(fault).end(errors),
     };
-    let ended = carry_out(rt, asked.command, asked.store, &cut, layout, source, sink);
+    let ended = carry_out(rt, threads, &asked, &cut, layout, source, sink);
     ended.end(errors)
 }
 
 // Carries out the command that is asked for under a layout.
-fn carry_out<R: Databases + AllocGlobal, I: Read, O: Write>(
+fn carry_out<R: Files + Databases + AllocGlobal, T: Threads + Wait + Sync, I: Read, O: Write>(
     rt: &R,
-    command: Command,
-    store: Option<&str>,
+    threads: &T,
+    asked: &Request,
     cut: &Cut,
     layout: Layout,
     source: &mut Source<I>,
     sink: &mut Sink<O>,
 ) -> Status
-    ensures { EndsCommand command cut.now layout source.old source.new sink.old sink.new result }
+    ensures { EndsCommand asked.now.command cut.now (option_map (λ path. path.now) asked.now.out) layout source.old source.new sink.old sink.new result }
 {
-    match command {
+    match asked.command {
         Command::Join => join_engine(rt.alloc(), &layout, source, sink),
         Command::Play { tables, first } => {
             play_engine(rt.alloc(), layout, first, tables, source, sink)
         }
         Command::Site { site } => {
-            let path = store.unwrap_or(""); // clap has refused arguments without one
+            let path = asked.store.unwrap_or(""); // clap has refused arguments without one
             serve_stored(rt, path, layout, site, source, sink)
         }
         Command::Judge => judge_engine(rt.alloc(), &layout, cut, source, sink),
+        Command::Run { turns } => {
+            let turns = u64::from(turns.min(1000)); // clap has refused more
+            run_sites(rt, threads, &layout, turns, asked.out, source, sink)
+        }
     }
 }
 

@@ -1,6 +1,8 @@
 //! What the whole program says of itself on a fake runtime: the help of each command, and the version.
 use super::programs::answers;
 use std::alloc::Global;
+use std::sync::Wait;
+use std::thread::Threads;
 use test_streams::texts::GAVE;
 
 const HELP: &str = "\
@@ -13,6 +15,7 @@ Commands:
   play   Simulates several sites: carries out one event a line, and prints one reply a line
   site   Serves one site over its store: carries out one call a line, and prints one reply a line
   judge  Judges the closed logs of all sites, and prints where it looked and the verdict
+  run    Runs several sites at the same time, with links between them, and judges their logs
 
 Options:
   -h, --help     Print help
@@ -24,7 +27,7 @@ Exit status:
   0  every line was carried out, whatever the replies; or help or the version was printed
   2  the arguments are wrong, or `judge` was given no cut: `cut refused BadWord` on standard error
   3  there is no layout, or it has no such site: `layout refused NAME` on standard error
-  4  a line can't be read, or `join` refused it, or the input is above 16 MiB: the output says which
+  4  a line can't be read, or `join` or `run` refused it, or the input is above 16 MiB: the output says which
   5  the store can't be used: `store refused NAME` on standard error; or it failed: a reply was `refused StoreFault`
   6  out of memory: `memory` on standard error
   7  reading or writing failed: `io` on standard error
@@ -32,6 +35,8 @@ Exit status:
 Examples:
   cat site_0.deltas site_1.deltas | seat_cli join --layout three_sites.toml
   printf '0 give a 1 1\\n0 send\\n1 take 0\\n1 read a 8\\n' | seat_cli play --tables
+  printf '0 read a 7\\n1 read a 8\\n' | seat_cli run --out sites.log
+  seat_cli judge < sites.log
 ";
 
 const JOIN_HELP: &str = "\
@@ -148,12 +153,57 @@ it, with `line K refused NotTranscript` and status 4.
 C says how many calls of each site are looked at, with commas between the numbers, as `8,6,0`; or it is `full`: all.
 Any other word is refused, with `cut refused BadWord` and status 2.
 
+The command `run` judges the logs of its sites itself; with `--out FILE` it writes them, and `judge` reads them again.
+
+Examples:
+  cat site_*.log | seat_cli judge
+  seat_cli run --out sites.log < script.txt && seat_cli judge --cut 1,0 < sites.log
+";
+
+const RUN_HELP: &str = "\
+Runs several sites at the same time, with links between them, and judges their logs
+
+Usage: seat_cli run [--turns T] [--out FILE] [--layout FILE]
+
+Options:
+      --turns <T>      How many turns each link has, from 1 to 1000 [default: 100]
+      --out <FILE>     A file for the logs of all sites, which `judge` reads
+      --layout <FILE>  A TOML file with the sites and records [default: two sites, record a of two seats at site 0]
+  -h, --help           Print help
+
+Each line of the input is a call of one site, with one space between words:
+  I read NAME H      at site I, holder H enters record NAME as a reader
+  I announce NAME H  H announces that it will write
+  I write NAME H     H, who has announced it, enters as the writer, who needs all seats
+  I leave NAME H     H leaves, or withdraws its announcement
+  I give NAME J N    site I gives N of its seats to site J
+  I help NAME        site I gives seats to the site of an announced writer, or its surplus to the next site
+I and J are sites, from 0. H is a holder: any number up to 1,000,000,000,000. Numbers have no leading zero.
+
+The sites begin with nothing stored, and work at the same time. The calls of one site are made in the order of its lines.
+Between each two sites are two links, one each way. At each turn of a link its first site helps at one record, as by
+`help`, and sends all that it knows, which the other merges. So the replies depend on when a site is told what the
+others did.
+
+The output has the replies to the calls, as `0: admitted` or `1: refused NoSeat 0`, site by site, and those of one site
+in the order of its lines; and then the verdict of `judge` on the logs of all sites. The status is 0, whatever these are.
+
+A line that can't be read, as `0 send`, or one that names no site of the layout, or line 16,385 refuses the whole script,
+and no site begins. The output is then `line K refused BadWord`, `NoSite` or `TooManyLines` alone, for the first such
+line, and the status is 4.
+
+FILE gets the logs of all sites, which `judge` reads if they have at most 16 MiB: fewer turns make shorter logs. They are
+written to FILE.part, which becomes FILE when it is whole: if the run fails, an older FILE stays as it was. A link, a
+pipe or a device is written to directly. If FILE can't be written, the status is 7, and no input is read if that is
+found at the start.
+
 Example:
-  cat site_0.log site_1.log | seat_cli judge
+  printf '0 read a 7\\n1 read a 8\\n' | seat_cli run --out sites.log
+  seat_cli judge --cut 1,0 < sites.log
 ";
 
 // Arguments, and what goes to standard output.
-static TOLD: [(&[&[u8]], &str); 12] = [
+static TOLD: [(&[&[u8]], &str); 14] = [
     (&[b"seat_cli", b"--help"], HELP),
     (&[b"seat_cli", b"-h"], HELP),
     (&[b"seat_cli", b"join", b"--help"], JOIN_HELP),
@@ -164,15 +214,17 @@ static TOLD: [(&[&[u8]], &str); 12] = [
     (&[b"seat_cli", b"site", b"-h"], SITE_HELP),
     (&[b"seat_cli", b"judge", b"--help"], JUDGE_HELP),
     (&[b"seat_cli", b"judge", b"-h"], JUDGE_HELP),
+    (&[b"seat_cli", b"run", b"--help"], RUN_HELP),
+    (&[b"seat_cli", b"run", b"-h"], RUN_HELP),
     (&[b"seat_cli", b"--version"], "seat_cli 0.1.0\n"),
     (&[b"seat_cli", b"-V"], "seat_cli 0.1.0\n"),
 ];
 
 /// The first row that the program answers otherwise; it reads nothing.
-fn wrongly_told(alloc: Global) -> Option<usize> {
+fn wrongly_told<T: Threads + Wait + Sync>(threads: &T, alloc: Global) -> Option<usize> {
     let mut at = 0usize;
     for (arguments, output) in TOLD {
-        if !answers(alloc, arguments, GAVE, (0, output, "", "")) {
+        if !answers(threads, alloc, arguments, GAVE, (0, output, "", "")) {
             return Some(at);
         }
         at = at.saturating_add(1);
@@ -182,5 +234,5 @@ fn wrongly_told(alloc: Global) -> Option<usize> {
 
 #[test]
 fn help_and_the_version_are_printed(rt: HostRuntime) {
-    assert_eq!(rt; wrongly_told(rt.alloc()), None);
+    assert_eq!(rt; wrongly_told(&rt, rt.alloc()), None);
 }

@@ -3,6 +3,8 @@ use super::runtime::{Fake, Setting, Text};
 use program_shell::run;
 use std::alloc::Global;
 use std::io::ErrorKind;
+use std::sync::Wait;
+use std::thread::Threads;
 use test_streams::NEVER;
 use test_streams::texts::{GAVE, THIRD, THREE_SITES};
 
@@ -74,7 +76,8 @@ pub struct Faults {
 }
 
 /// Whether the program does so.
-pub fn does(
+pub fn does<T: Threads + Wait + Sync>(
+    threads: &T,
     alloc: Global,
     arguments: &'static [&'static [u8]],
     input: &'static str,
@@ -92,7 +95,7 @@ pub fn does(
         fault: faults.kind,
     };
     let fake = Fake::new(alloc, setting, faults.output, faults.errors);
-    let status = run(&fake);
+    let status = run(&fake, threads);
     let (output, errors, opened) = fake.into_texts();
     status == wanted.0
         && output.bytes() == wanted.1.as_bytes()
@@ -101,7 +104,8 @@ pub fn does(
 }
 
 /// The same where no call fails but those of the files.
-pub fn answers(
+pub fn answers<T: Threads + Wait + Sync>(
+    threads: &T,
     alloc: Global,
     arguments: &'static [&'static [u8]],
     input: &'static str,
@@ -113,17 +117,21 @@ pub fn answers(
         errors: NEVER,
         kind: ErrorKind::Other,
     };
-    does(alloc, arguments, input, faults, wanted)
+    does(threads, alloc, arguments, input, faults, wanted)
 }
 
 /// Arguments that are wrong, and what goes to standard error.
 pub type Wrong = (&'static [&'static [u8]], &'static str);
 
 /// The first of these that the program answers otherwise; it reads nothing.
-pub fn wrongly_refused(alloc: Global, rows: &[Wrong]) -> Option<usize> {
+pub fn wrongly_refused<T: Threads + Wait + Sync>(
+    threads: &T,
+    alloc: Global,
+    rows: &[Wrong],
+) -> Option<usize> {
     let mut at = 0usize;
     for (arguments, errors) in rows {
-        if !answers(alloc, arguments, GAVE, (2, "", errors, "")) {
+        if !answers(threads, alloc, arguments, GAVE, (2, "", errors, "")) {
             return Some(at);
         }
         at = at.saturating_add(1);
@@ -135,10 +143,14 @@ pub fn wrongly_refused(alloc: Global, rows: &[Wrong]) -> Option<usize> {
 pub type Carried = (&'static [&'static [u8]], &'static str, Run);
 
 /// The first of these after which the program does something else.
-pub fn wrongly_carried(alloc: Global, rows: &[Carried]) -> Option<usize> {
+pub fn wrongly_carried<T: Threads + Wait + Sync>(
+    threads: &T,
+    alloc: Global,
+    rows: &[Carried],
+) -> Option<usize> {
     let mut at = 0usize;
     for (arguments, input, wanted) in rows {
-        if !answers(alloc, arguments, input, *wanted) {
+        if !answers(threads, alloc, arguments, input, *wanted) {
             return Some(at);
         }
         at = at.saturating_add(1);
@@ -157,21 +169,31 @@ pub type Faulty = (
     Run,
 );
 
-fn does_so(alloc: Global, input: &'static str, row: Faulty) -> bool {
+fn does_so<T: Threads + Wait + Sync>(
+    threads: &T,
+    alloc: Global,
+    input: &'static str,
+    row: Faulty,
+) -> bool {
     let faults = Faults {
         read: row.0,
         output: row.1,
         errors: row.2,
         kind: row.3,
     };
-    does(alloc, row.4, input, faults, row.5)
+    does(threads, alloc, row.4, input, faults, row.5)
 }
 
 /// The first of these faults after which the program does something else.
-pub fn wrongly_faulted(alloc: Global, input: &'static str, rows: &[Faulty]) -> Option<usize> {
+pub fn wrongly_faulted<T: Threads + Wait + Sync>(
+    threads: &T,
+    alloc: Global,
+    input: &'static str,
+    rows: &[Faulty],
+) -> Option<usize> {
     let mut at = 0usize;
     for row in rows {
-        if !does_so(alloc, input, *row) {
+        if !does_so(threads, alloc, input, *row) {
             return Some(at);
         }
         at = at.saturating_add(1);
@@ -202,8 +224,8 @@ static WRONG: [Wrong; 18] = [
         "error: unexpected argument '--sites' found\n\nUsage: seat_cli join [--layout FILE]\n\nFor more information, try '--help'.\n",
     ),
     (
-        &[b"seat_cli", b"run"],
-        "error: unrecognized subcommand 'run'\n\nUsage: seat_cli [COMMAND]\n\nFor more information, try '--help'.\n",
+        &[b"seat_cli", b"walk"],
+        "error: unrecognized subcommand 'walk'\n\nUsage: seat_cli [COMMAND]\n\nFor more information, try '--help'.\n",
     ),
     (
         &[b"seat_cli", b"help"],
@@ -211,7 +233,7 @@ static WRONG: [Wrong; 18] = [
     ),
     (
         &[b"seat_cli", b"--"],
-        "error: 'seat_cli' requires a subcommand but one was not provided\n  [subcommands: join, play, site, judge]\n\nUsage: seat_cli [COMMAND]\n\nFor more information, try '--help'.\n",
+        "error: 'seat_cli' requires a subcommand but one was not provided\n  [subcommands: join, play, site, judge, run]\n\nUsage: seat_cli [COMMAND]\n\nFor more information, try '--help'.\n",
     ),
     (
         &[b"seat_cli", b"play", b"--from", b"x"],
@@ -258,7 +280,7 @@ static WRONG: [Wrong; 18] = [
 
 #[test]
 fn wrong_arguments_are_told_and_nothing_is_read(rt: HostRuntime) {
-    assert_eq!(rt; wrongly_refused(rt.alloc(), &WRONG), None);
+    assert_eq!(rt; wrongly_refused(&rt, rt.alloc(), &WRONG), None);
 }
 
 // Arguments and input, and what the program does.
@@ -350,7 +372,7 @@ consistent
 
 #[test]
 fn a_command_is_carried_out_under_the_layout_that_is_named(rt: HostRuntime) {
-    assert_eq!(rt; wrongly_carried(rt.alloc(), &RUNS), None);
+    assert_eq!(rt; wrongly_carried(&rt, rt.alloc(), &RUNS), None);
 }
 
 static FAULTS: [Faulty; 14] = [
@@ -408,7 +430,7 @@ static FAULTS: [Faulty; 14] = [
         NEVER,
         1,
         ErrorKind::Other,
-        &[b"seat_cli", b"run"],
+        &[b"seat_cli", b"walk"],
         (2, "", "error: ", ""),
     ),
     // a file can't be opened or read, for want of memory; or it is not there, which can't be written
@@ -440,5 +462,5 @@ static FAULTS: [Faulty; 14] = [
 
 #[test]
 fn each_fault_is_told_once_and_nothing_is_written_after_it(rt: HostRuntime) {
-    assert_eq!(rt; wrongly_faulted(rt.alloc(), GAVE, &FAULTS), None);
+    assert_eq!(rt; wrongly_faulted(&rt, rt.alloc(), GAVE, &FAULTS), None);
 }

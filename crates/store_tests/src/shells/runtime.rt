@@ -42,7 +42,7 @@ pub struct Setting {
     pub fault: ErrorKind,
 }
 
-/// A runtime over this, which keeps what is written and the paths that were opened, each with LF.
+/// A runtime over this, which keeps what is written, and which files were opened, renamed and removed, a line for each.
 #[derive(Drop)]
 pub struct Fake {
     alloc: Global,
@@ -168,9 +168,9 @@ impl Input for Fake {
     }
 }
 
-/// A file, or a folder that can't be listed.
+/// A file, or a folder that can't be listed. So many bytes can still be written to it.
 #[derive(Drop)]
-pub struct FakeFile(Giving<'static>);
+pub struct FakeFile(Giving<'static>, usize);
 
 impl Read for FakeFile {
     fn read(&mut self, buf: &mut [u8]) -> io::Result<usize> {
@@ -179,12 +179,16 @@ impl Read for FakeFile {
 }
 
 impl Write for FakeFile {
-    fn write(&mut self, _buf: &[u8]) -> io::Result<usize> {
-        Err(unsupported())
+    fn write(&mut self, buf: &[u8]) -> io::Result<usize> {
+        if buf.len() > self.1 {
+            return Err(unsupported());
+        }
+        self.1 -= buf.len();
+        Ok(buf.len())
     }
 
     fn flush(&mut self) -> io::Result<()> {
-        Err(unsupported())
+        Ok(())
     }
 }
 
@@ -222,7 +226,7 @@ impl Files for Fake {
         kept(&self.opened, "\n")?;
         for (name, text) in self.setting.files {
             if *name == path {
-                return Ok(FakeFile(text.reader(self.setting.fault)));
+                return Ok(FakeFile(text.reader(self.setting.fault), text.fillers));
             }
         }
         Err(Error::from(self.setting.fault))
@@ -236,7 +240,10 @@ impl Files for Fake {
         Err(unsupported())
     }
 
-    fn symlink_metadata(&self, _path: &str) -> io::Result<Metadata> {
+    fn symlink_metadata(&self, path: &str) -> io::Result<Metadata> {
+        if path == "link" {
+            return Ok(Metadata::of_symlink(0));
+        }
         Err(unsupported())
     }
 
@@ -244,12 +251,20 @@ impl Files for Fake {
         Err(unsupported())
     }
 
-    fn rename(&self, _from: &str, _to: &str) -> io::Result<()> {
-        Err(unsupported())
+    // A file can get any name but "taken".
+    fn rename(&self, from: &str, to: &str) -> io::Result<()> {
+        if to == "taken" {
+            return Err(unsupported());
+        }
+        kept(&self.opened, from)?;
+        kept(&self.opened, " becomes ")?;
+        kept(&self.opened, to)?;
+        kept(&self.opened, "\n")
     }
 
-    fn remove_file(&self, _path: &str) -> io::Result<()> {
-        Err(unsupported())
+    fn remove_file(&self, path: &str) -> io::Result<()> {
+        kept(&self.opened, path)?;
+        kept(&self.opened, " is gone\n")
     }
 
     fn create_dir(&self, _path: &str) -> io::Result<()> {

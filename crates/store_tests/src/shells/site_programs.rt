@@ -61,7 +61,7 @@ static WRONG: [Wrong; 8] = [
 
 #[test]
 fn wrong_arguments_of_site_are_told_and_nothing_is_read(rt: HostRuntime) {
-    assert_eq!(rt; wrongly_refused(rt.alloc(), &WRONG), None);
+    assert_eq!(rt; wrongly_refused(&rt, rt.alloc(), &WRONG), None);
 }
 
 // Arguments and input, and what the program does.
@@ -138,7 +138,7 @@ static RUNS: [Carried; 7] = [
 
 #[test]
 fn a_site_is_served_over_the_store_that_is_named(rt: HostRuntime) {
-    assert_eq!(rt; wrongly_carried(rt.alloc(), &RUNS), None);
+    assert_eq!(rt; wrongly_carried(&rt, rt.alloc(), &RUNS), None);
 }
 
 static FAULTS: [Faulty; 5] = [
@@ -186,5 +186,8 @@ static FAULTS: [Faulty; 5] = [
 
 #[test]
 fn each_fault_of_site_is_told_once(rt: HostRuntime) {
-    assert_eq!(rt; wrongly_faulted(rt.alloc(), "read a 7\n", &FAULTS), None);
+    assert_eq!(rt;
+        wrongly_faulted(&rt, rt.alloc(), "read a 7\n", &FAULTS),
+        None
+    );
 }

@@ -18,3 +18,8 @@ pub returns-clause-cut : goal.returns-clause-cut
 returns-clause-cut c =
     c.get_str-3.ensures ∙ first_value-rows (found_of c.in-Some.found.now) (codes "cut")
     ∙ value_of_rows (codes "cut") (subcommand_rows_of c.args.matches.now) _ (sym c.in-Some.ensures.rows)
+
+pub returns-clause-out : goal.returns-clause-out
+returns-clause-out c =
+    c.get_str-4.ensures ∙ first_value-rows (found_of c.in-Some.found.now) (codes "out")
+    ∙ value_of_rows (codes "out") (subcommand_rows_of c.args.matches.now) _ (sym c.in-Some.ensures.rows)
