@@ -1,7 +1,6 @@
-//! Databases that tests begin with: in memory, on files that stop, and with the tables of a store as they are documented.
+//! Databases that tests begin with: in memory, and with the tables of a store as they are documented.
 use merge_core::{Layout, RecordName, RecordSpec};
-use sqlite::{Alter, Connection, FileStore, Files, MemStore, Options};
-use sqlite_disk::{Crash, Disk, Fuse, Memory};
+use sqlite::{Alter, Connection, MemStore};
 use std::alloc::Global;
 
 /// The line of the layout of two sites with record `a` of two seats at site 0.
@@ -45,54 +44,6 @@ pub fn layout(alloc: Global, sites: u16, seats: u32) -> Option<Layout> {
 /// A new database in memory.
 pub fn in_memory(alloc: Global) -> Option<Connection<MemStore>> {
     Connection::open_in_memory(alloc).ok()
-}
-
-/// Empty files.
-pub fn empty_files(alloc: Global) -> Files<Memory> {
-    Files {
-        log: Memory::new(alloc),
-        db: Memory::new(alloc),
-    }
-}
-
-/// Files of which each stops after so many calls.
-pub fn fused(files: Files<Memory>, log: u64, db: u64) -> Files<Fuse<Memory>> {
-    Files {
-        log: Fuse::new(files.log, log),
-        db: Fuse::new(files.db, db),
-    }
-}
-
-/// A database on files, or the files where they do not open.
-pub fn opened<D: Crash + Drop>(
-    alloc: Global,
-    files: Files<D>,
-) -> Result<Connection<FileStore<D>>, Files<D>> {
-    if !files.may_be_used() {
-        return Err(files);
-    }
-    match Connection::open_files(alloc, files, Options::new(1)) {
-        Ok(connection) => Ok(connection),
-        Err((_, left)) => Err(left.into_files()),
-    }
-}
-
-/// The files as a crash leaves them.
-pub fn crashed<D: Crash + Drop>(files: Files<D>) -> Files<D> {
-    let mut left = files;
-    left.log.crash();
-    left.db.crash();
-    left
-}
-
-/// The files of a database, which are not closed in order.
-pub fn files_of<D: Crash + Drop>(connection: Connection<FileStore<D>>) -> Files<D> {
-    connection.into_store().close()
-}
-
-/// The files of a database that is closed in order.
-pub fn closed<D: Disk + Drop>(connection: Connection<FileStore<D>>) -> Option<Files<D>> {
-    connection.close_files().ok()
 }
 
 /// Whether a database takes these statements.

@@ -1,7 +1,11 @@
 //! Desks of site 0, what they answer to calls in turn, and what their keepers hold then.
+ghost use Rattle.std.specs.Prelude.{◌<◌};
+ghost use Rattle.desk_log.specs.Desk.{IsMadeFor};
+
 use crate::databases::layout;
 use admission_core::{Ask, Call, Durable, DurableCell, Phase, Refusal, Reply, Session};
 use desk_log::Desk;
+use merge_core::Layout;
 use site_store::{Keeper, KeeperError, MemoryKeeper, SqlKeeper};
 use sqlite::{Alter, Connection};
 use std::alloc::Global;
@@ -9,33 +13,57 @@ use std::alloc::Global;
 /// The fewest entries that a log may have places for.
 const PLACES: usize = 16;
 
-/// A desk of two sites over a new keeper in memory.
-pub fn over_memory(alloc: Global) -> Option<Desk<MemoryKeeper>> {
-    let layout = layout(alloc, 2, 2)?;
-    let Ok(keeper) = MemoryKeeper::new(alloc, &layout, 0) else {
-        return None;
-    };
-    Desk::open(alloc, keeper, layout, 0, PLACES).ok()
+/// What is done with a desk, whatever its keeper is.
+pub trait DeskWork {
+    type Found: Drop;
+
+    /// What comes of it, and the keeper; nothing where it goes otherwise than it is to.
+    fn at<K: Keeper + Drop>(&self, alloc: Global, desk: Desk<K>) -> Option<(Self::Found, K)>;
 }
 
-/// A desk over a connection, at so many sites, or the connection where there is none.
-pub fn over<S: Alter + Drop>(
+/// What comes of work with a desk of site 0 over a keeper, nothing where there is no desk, and the keeper.
+fn over_keeper<K: Keeper + Drop, W: DeskWork>(
+    alloc: Global,
+    keeper: K,
+    layout: Layout,
+    work: &W,
+) -> Option<(Option<W::Found>, K)>
+    requires { 0 < layout.sites → IsMadeFor K.Keeper keeper layout 0 }
+{
+    match Desk::open(alloc, keeper, layout, 0, PLACES) {
+        Ok(desk) => {
+            let (found, keeper) = work.at(alloc, desk)?;
+            Some((Some(found), keeper))
+        }
+        Err((_, keeper)) => Some((None, keeper)),
+    }
+}
+
+/// What comes of work with a desk of two sites over a new keeper in memory.
+pub fn over_memory<W: DeskWork>(alloc: Global, work: &W) -> Option<W::Found> {
+    let layout = layout(alloc, 2, 2)?;
+    let keeper = MemoryKeeper::new(alloc, &layout, 0).ok()?;
+    let (found, _) = over_keeper(alloc, keeper, layout, work)?;
+    found
+}
+
+/// What comes of work with a desk over a database, at so many sites, nothing where there is no desk, and the database.
+pub fn over<S: Alter + Drop, W: DeskWork>(
     alloc: Global,
     connection: Connection<S>,
     sites: u16,
-) -> Result<Desk<SqlKeeper<S>>, Connection<S>> {
-    let Some(layout) = layout(alloc, sites, 2) else {
-        return Err(connection);
-    };
+    work: &W,
+) -> Option<(Option<W::Found>, Connection<S>)> {
+    let layout = layout(alloc, sites, 2)?;
     if !connection.is_autocommit() {
-        return Err(connection);
+        return Some((None, connection));
     }
     match SqlKeeper::open(alloc, connection, &layout, 0) {
-        Ok(keeper) => match Desk::open(alloc, keeper, layout, 0, PLACES) {
-            Ok(desk) => Ok(desk),
-            Err((_, keeper)) => Err(keeper.into_connection()),
-        },
-        Err((_, back)) => Err(back),
+        Ok(keeper) => {
+            let (found, keeper) = over_keeper(alloc, keeper, layout, work)?;
+            Some((found, keeper.into_connection()))
+        }
+        Err((_, back)) => Some((None, back)),
     }
 }
 
@@ -75,7 +103,7 @@ macro_rules! reader {
 }
 
 /// A reply, as far as these stories tell them apart.
-#[derive(Clone, Copy, Debug, PartialEq, Eq)]
+#[derive(Clone, Copy, PartialEq, Eq)]
 pub enum Told {
     Admitted,
     Left,
@@ -191,16 +219,19 @@ pub const ENTERS: Shift = Shift {
     left: Some(ONE_READER),
 };
 
-/// The keeper of a desk after a shift, if that goes as it is told.
-pub fn serves<K: Keeper + Drop>(alloc: Global, desk: Desk<K>, shift: Shift) -> Option<K> {
-    let mut desk = desk;
-    if !is_part(desk.first(), shift.first) || answered(&mut desk, shift.calls).1.is_some() {
-        return None;
-    }
-    let mut keeper = desk.into_keeper();
-    if holds(alloc, &mut keeper, shift.left) {
-        Some(keeper)
-    } else {
-        None
+impl DeskWork for Shift {
+    type Found = bool;
+
+    fn at<K: Keeper + Drop>(&self, alloc: Global, desk: Desk<K>) -> Option<(bool, K)> {
+        let mut desk = desk;
+        if !is_part(desk.first(), self.first) || answered(&mut desk, self.calls).1.is_some() {
+            return None;
+        }
+        let mut keeper = desk.into_keeper();
+        if holds(alloc, &mut keeper, self.left) {
+            Some((true, keeper))
+        } else {
+            None
+        }
     }
 }

@@ -1,34 +1,27 @@
 //! What desks leave in their keepers, and what a store without a place for one more session does.
 use crate::databases::in_memory;
 use crate::desks::{
-    ENTERS, GIVE, LEAVE_7, ONE_LEFT, ONE_READER, READ_7, READ_8, Shift, Told, answered, over,
-    over_memory, serves,
+    DeskWork, ENTERS, GIVE, LEAVE_7, ONE_LEFT, ONE_READER, READ_7, READ_8, Shift, Told, answered,
+    over, over_memory,
 };
 use crate::stores::{At, Opened, Step, are_told};
 use admission_core::Ask;
-use desk_log::{Run, Runs, Transcript};
-use site_store::OpenError;
+use desk_log::{Desk, Run, Runs, Transcript};
+use site_store::{Keeper, OpenError};
 use sqlite::{Alter, Connection};
 use std::alloc::Global;
-
-fn enters_in_memory(alloc: Global) -> bool {
-    match over_memory(alloc) {
-        Some(desk) => serves(alloc, desk, ENTERS).is_some(),
-        None => false,
-    }
-}
 
 /// Whether a reader enters over a keeper in memory, and over a store.
 fn enters_over_both(alloc: Global) -> [bool; 2] {
     [
-        enters_in_memory(alloc),
+        over_memory(alloc, &ENTERS) == Some(true),
         are_told(alloc, &[Step::Serve(ENTERS)]),
     ]
 }
 
 #[test]
 fn keepers_of_both_kinds_keep_the_same(rt: HostRuntime) {
-    assert_eq!(rt; enters_over_both(rt.alloc()), [true, true]);
+    assert!(rt; enters_over_both(rt.alloc()) == [true, true]);
 }
 
 // ---- the store with one reader
@@ -85,7 +78,7 @@ fn wrongly_judged(alloc: Global) -> Option<usize> {
 
 #[test]
 fn a_store_with_a_reader_is_judged(rt: HostRuntime) {
-    assert_eq!(rt; wrongly_judged(rt.alloc()), None);
+    assert!(rt; wrongly_judged(rt.alloc()) == None);
 }
 
 /// The place of the one reader is the last but one: another enters behind it.
@@ -127,50 +120,45 @@ static NO_PLACE: [Step; 4] = [
 #[test]
 fn a_session_without_a_place_stops_the_desk(rt: HostRuntime) {
     let alloc = rt.alloc();
-    assert_eq!(rt;
-        [are_told(alloc, &LAST_PLACE), are_told(alloc, &NO_PLACE)],
-        [true, true]
-    );
+    assert!(rt; [are_told(alloc, &LAST_PLACE), are_told(alloc, &NO_PLACE)] == [true, true]);
 }
 
 // ---- a layout that grows
 
 /// What a site that is alone answers to a reader and to a gift.
-static ALONE: [(Ask, Told); 2] = [(READ_7, Told::Admitted), (GIVE, Told::NoSite)];
+const ALONE: [(Ask, Told); 2] = [(READ_7, Told::Admitted), (GIVE, Told::NoSite)];
 
 /// What it answers to the gift once it has a second site beside it.
-static GROWN: [(Ask, Told); 1] = [(GIVE, Told::Given)];
+const GROWN: [(Ask, Told); 1] = [(GIVE, Told::Given)];
 
-/// The run of a desk that answers calls so, and its connection.
-fn run_of<S: Alter + Drop>(
-    alloc: Global,
-    connection: Connection<S>,
-    sites: u16,
-    calls: &[(Ask, Told)],
-) -> Option<(Run, Connection<S>)> {
-    let Ok(mut desk) = over(alloc, connection, sites) else {
-        return None;
-    };
-    if answered(&mut desk, calls).1.is_some() {
-        return None;
+/// A desk that answers calls so, and its run.
+#[derive(Drop)]
+struct Answers(&'static [(Ask, Told)]);
+
+impl DeskWork for Answers {
+    type Found = Run;
+
+    fn at<K: Keeper + Drop>(&self, _alloc: Global, desk: Desk<K>) -> Option<(Run, K)> {
+        let mut desk = desk;
+        if answered(&mut desk, self.0).1.is_some() {
+            return None;
+        }
+        let sites = desk.core().layout().sites();
+        let (first, entries, keeper) = desk.into_parts();
+        let run = Run {
+            sites,
+            first,
+            entries,
+        };
+        Some((run, keeper))
     }
-    let sites = desk.core().layout().sites();
-    let (first, entries, keeper) = desk.into_parts();
-    let run = Run {
-        sites,
-        first,
-        entries,
-    };
-    Some((run, keeper.into_connection()))
 }
 
 /// The runs of a desk before and after its layout has grown.
 fn both_runs<S: Alter + Drop>(alloc: Global, empty: Connection<S>) -> Option<(Run, Run)> {
-    let (first, connection) = run_of(alloc, empty, 1, &ALONE)?;
-    match run_of(alloc, connection, 2, &GROWN) {
-        Some((second, _)) => Some((first, second)),
-        None => None,
-    }
+    let (first, connection) = over(alloc, empty, 1, &Answers(&ALONE))?;
+    let (second, _) = over(alloc, connection, 2, &Answers(&GROWN))?;
+    Some((first?, second?))
 }
 
 /// The transcript of one run at site 0.
@@ -210,5 +198,5 @@ fn grown(alloc: Global) -> Option<(u16, usize, u16, usize)> {
 
 #[test]
 fn a_site_goes_on_under_a_layout_that_has_grown(rt: HostRuntime) {
-    assert_eq!(rt; grown(rt.alloc()), Some((1, 2, 2, 1)));
+    assert!(rt; grown(rt.alloc()) == Some((1, 2, 2, 1)));
 }

@@ -1,17 +1,17 @@
 //! A site over files that stop at each call in turn, at its first start and at its second, as a desk and behind its lock:
 //! what is found then is what was answered, or that and the one call in doubt.
-use crate::databases::{closed, crashed, empty_files, files_of, fused, opened};
 use crate::desks::{
-    ENTERS, LEAVE_7, NOTHING, ONE_BACK, ONE_LEFT, ONE_READER, Part, READ_7, READ_8, TWO_READERS,
-    Told, answered, ask, is_part, over,
+    DeskWork, ENTERS, LEAVE_7, NOTHING, ONE_BACK, ONE_LEFT, ONE_READER, Part, READ_7, READ_8,
+    TWO_READERS, Told, answered, ask, is_part, over,
 };
+use crate::files::{Work, closed_after, empty_files, found_after_crash, fused, left_after};
 use crate::sites::{At, run_site};
 use crate::stores::serves_over;
 use admission_core::Ask;
 use desk_log::Desk;
-use site_store::{Keeper, SqlKeeper};
-use sqlite::{Alter, Connection, FileStore, Files};
-use sqlite_disk::{Crash, Memory};
+use site_store::Keeper;
+use sqlite::{Alter, Connection, Files};
+use sqlite_disk::Crash;
 use std::alloc::Global;
 use std::sync::Wait;
 
@@ -82,7 +82,7 @@ static STORIES: [Story; 4] = [
 ];
 
 /// What a start was answered: how many calls were kept, and whether the next one is in doubt.
-#[derive(Clone, Copy, Debug, PartialEq, Eq)]
+#[derive(Clone, Copy, PartialEq, Eq)]
 struct Answered {
     kept: usize,
     in_doubt: bool,
@@ -108,15 +108,17 @@ fn play<K: Keeper>(desk: &mut Desk<K>, story: &Story) -> Option<Answered> {
     Some(Answered { kept, in_doubt })
 }
 
-/// What a desk is answered, and its connection.
-fn played<S: Alter + Drop>(
-    desk: Desk<SqlKeeper<S>>,
-    story: &Story,
-) -> Option<(Answered, Connection<S>)> {
-    let mut desk = desk;
-    match play(&mut desk, story) {
-        Some(answered) => Some((answered, desk.into_keeper().into_connection())),
-        None => None,
+/// What a desk is answered.
+#[derive(Drop)]
+struct AtDesk(&'static Story);
+
+impl DeskWork for AtDesk {
+    type Found = Answered;
+
+    fn at<K: Keeper + Drop>(&self, _alloc: Global, desk: Desk<K>) -> Option<(Answered, K)> {
+        let mut desk = desk;
+        let answered = play(&mut desk, self.0)?;
+        Some((answered, desk.into_keeper()))
     }
 }
 
@@ -124,12 +126,10 @@ fn played<S: Alter + Drop>(
 fn played_by_desk<S: Alter + Drop>(
     alloc: Global,
     connection: Connection<S>,
-    story: &Story,
+    story: &'static Story,
 ) -> Option<(Answered, Connection<S>)> {
-    match over(alloc, connection, 2) {
-        Ok(desk) => played(desk, story),
-        Err(back) => Some((UNOPENED, back)),
-    }
+    let (answered, connection) = over(alloc, connection, 2, &AtDesk(story))?;
+    Some((answered.unwrap_or(UNOPENED), connection))
 }
 
 /// What a site behind its lock is answered, and its connection.
@@ -161,7 +161,7 @@ fn played_over<S: Alter + Drop, R: Wait>(
     rt: &R,
     alloc: Global,
     connection: Connection<S>,
-    story: &Story,
+    story: &'static Story,
 ) -> Option<(Answered, Connection<S>)> {
     if story.by_site {
         played_by_site(rt, alloc, connection, story)
@@ -179,101 +179,112 @@ fn goes_on<K: Keeper>(desk: &mut Desk<K>, story: &Story, calls: usize) -> bool {
 }
 
 /// Whether a desk begins with what was answered, or that and the call in doubt.
-fn is_kept<K: Keeper + Drop>(desk: Desk<K>, story: &Story, answered: Answered) -> bool {
-    let mut desk = desk;
-    goes_on(&mut desk, story, answered.kept)
-        || (answered.in_doubt && goes_on(&mut desk, story, answered.kept.saturating_add(1)))
+fn is_kept<K: Keeper>(desk: &mut Desk<K>, story: &Story, answered: Answered) -> bool {
+    goes_on(desk, story, answered.kept)
+        || (answered.in_doubt && goes_on(desk, story, answered.kept.saturating_add(1)))
 }
 
-/// Whether that is found in a database.
-fn is_found_over<S: Alter + Drop>(
-    alloc: Global,
-    connection: Connection<S>,
-    story: &Story,
+/// A reader enters over an empty database.
+#[derive(Drop)]
+struct EntersFirst;
+
+impl Work for EntersFirst {
+    type Found = bool;
+
+    fn over<S: Alter + Drop, R: Wait>(
+        &self,
+        _rt: &R,
+        alloc: Global,
+        connection: Connection<S>,
+    ) -> Option<(bool, Connection<S>)> {
+        match serves_over(alloc, connection, ENTERS) {
+            Some(connection) => Some((true, connection)),
+            None => None,
+        }
+    }
+}
+
+/// A start, and what it is answered.
+#[derive(Drop)]
+struct Plays(&'static Story);
+
+impl Work for Plays {
+    type Found = Answered;
+
+    fn over<S: Alter + Drop, R: Wait>(
+        &self,
+        rt: &R,
+        alloc: Global,
+        connection: Connection<S>,
+    ) -> Option<(Answered, Connection<S>)> {
+        played_over(rt, alloc, connection, self.0)
+    }
+}
+
+/// Whether what was answered is found in a database.
+#[derive(Drop)]
+struct Finds {
+    story: &'static Story,
     answered: Answered,
-) -> bool {
-    match over(alloc, connection, 2) {
-        Ok(desk) => is_kept(desk, story, answered),
-        Err(_) => false,
+}
+
+impl DeskWork for Finds {
+    type Found = bool;
+
+    fn at<K: Keeper + Drop>(&self, _alloc: Global, desk: Desk<K>) -> Option<(bool, K)> {
+        let mut desk = desk;
+        let found = is_kept(&mut desk, self.story, self.answered);
+        Some((found, desk.into_keeper()))
     }
 }
 
-/// The files of a database over which a reader entered, closed in order.
-fn entered<D: Crash + Drop>(alloc: Global, empty: Connection<FileStore<D>>) -> Option<Files<D>> {
-    match serves_over(alloc, empty, ENTERS) {
-        Some(connection) => closed(connection),
-        None => None,
+impl Work for Finds {
+    type Found = bool;
+
+    fn over<S: Alter + Drop, R: Wait>(
+        &self,
+        _rt: &R,
+        alloc: Global,
+        connection: Connection<S>,
+    ) -> Option<(bool, Connection<S>)> {
+        let (found, connection) = over(alloc, connection, 2, self)?;
+        Some((found.unwrap_or(false), connection))
     }
 }
 
-// What speaks of files hands a database on at once: it is dear to prove here.
-
-fn entered_on<D: Crash + Drop>(alloc: Global, empty: Files<D>) -> Option<Files<D>> {
-    match opened(alloc, empty) {
-        Ok(connection) => entered(alloc, connection),
-        Err(_) => None,
-    }
-}
-
-/// The files that a start begins with.
-fn first_files(alloc: Global, story: &Story) -> Option<Files<Memory>> {
-    let empty = empty_files(alloc);
-    if story.is_second {
-        entered_on(alloc, empty)
-    } else {
-        Some(empty)
-    }
-}
-
-/// Whether what was answered is found in files.
-fn is_found<D: Crash + Drop>(
-    alloc: Global,
-    files: Files<D>,
-    story: &Story,
-    answered: Answered,
-) -> bool {
-    match opened(alloc, files) {
-        Ok(connection) => is_found_over(alloc, connection, story, answered),
-        Err(_) => false,
-    }
-}
-
-/// What is answered over a database, and its files.
-fn played_on<D: Crash + Drop, R: Wait>(
+/// The files that a start begins with, made of empty ones.
+fn first_files<D: Crash + Drop, R: Wait>(
     rt: &R,
     alloc: Global,
-    connection: Connection<FileStore<D>>,
+    empty: Files<D>,
     story: &Story,
-) -> Option<(Answered, Files<D>)> {
-    match played_over(rt, alloc, connection, story) {
-        Some((answered, connection)) => Some((answered, files_of(connection))),
-        None => None,
+) -> Option<Files<D>> {
+    if !story.is_second {
+        return Some(empty);
     }
+    let (_, files) = closed_after(rt, alloc, empty, &EntersFirst)?;
+    Some(files)
 }
 
-/// How many calls are answered over files, which may not open, if that is found once they have crashed.
-fn stopped_on<D: Crash + Drop, R: Wait>(
+/// How many calls are answered over files of which each stops after so many calls, and which may not open, if that is
+/// found once they have crashed.
+fn stopped<R: Wait>(
     rt: &R,
     alloc: Global,
-    files: Files<D>,
-    story: &Story,
+    story: &'static Story,
+    log: u64,
+    db: u64,
 ) -> Option<usize> {
-    let (answered, left) = match opened(alloc, files) {
-        Ok(connection) => played_on(rt, alloc, connection, story)?,
-        Err(left) => (UNOPENED, left),
-    };
-    is_found(alloc, crashed(left), story, answered).then_some(answered.kept)
-}
-
-/// The same over files of which each stops after so many calls.
-fn stopped<R: Wait>(rt: &R, alloc: Global, story: &Story, log: u64, db: u64) -> Option<usize> {
-    let first = first_files(alloc, story)?;
-    stopped_on(rt, alloc, fused(first, log, db), story)
+    let first = fused(first_files(rt, alloc, empty_files(alloc), story)?, log, db);
+    let (answered, left) = left_after(rt, alloc, first, &Plays(story))?;
+    let answered = answered.unwrap_or(UNOPENED);
+    let found = found_after_crash(rt, alloc, left, &Finds { story, answered })?;
+    found.then_some(answered.kept)
 }
 
 /// At how many calls of one file a start was stopped until it ran to its end, if each stop left what was answered, or
 /// that and the call in doubt.
-fn stops<R: Wait>(rt: &R, alloc: Global, story: &Story, of_log: bool) -> Option<u64> {
+fn stops<R: Wait>(rt: &R, alloc: Global, story: &'static Story, of_log: bool) -> Option<u64> {
     for calls in 0..600u64 {
         let (log, db) = if of_log {
             (calls, 10000)
@@ -288,7 +299,7 @@ fn stops<R: Wait>(rt: &R, alloc: Global, story: &Story, of_log: bool) -> Option<
 }
 
 /// The same of both files.
-fn all_stops<R: Wait>(rt: &R, alloc: Global, story: &Story) -> Option<u64> {
+fn all_stops<R: Wait>(rt: &R, alloc: Global, story: &'static Story) -> Option<u64> {
     let of_log = stops(rt, alloc, story, true)?;
     Some(of_log.saturating_add(stops(rt, alloc, story, false)?))
 }

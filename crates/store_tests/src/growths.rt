@@ -1,7 +1,9 @@
 //! Want of memory at each call of a keeper and a desk. These tests are to pass with ample memory and with any one allocation
 //! refused, or any two in a row: what then finds no memory has changed nothing, and goes on after that.
 use crate::databases::in_memory;
-use crate::desks::{ENTERS, NOTHING, ONE_READER, READ_7, Told, ask, is_part, over, over_memory};
+use crate::desks::{
+    DeskWork, ENTERS, NOTHING, ONE_READER, READ_7, Told, ask, is_part, over, over_memory,
+};
 use crate::stores::{At, HERE, Opened, opened_at, serves_over};
 use admission_core::Durable;
 use desk_log::Desk;
@@ -34,11 +36,19 @@ fn keeps<K: Keeper>(alloc: Global, keeper: &mut K, told: Told) -> bool {
 }
 
 /// Whether a desk admits a reader and keeps that, or finds no memory and keeps nothing.
-fn admits_or_keeps_nothing<K: Keeper + Drop>(alloc: Global, desk: Desk<K>) -> bool {
-    let mut desk = desk;
-    let told = ask(&mut desk, READ_7);
-    let mut keeper = desk.into_keeper();
-    keeps(alloc, &mut keeper, told)
+#[derive(Drop)]
+struct AdmitsOrNot;
+
+impl DeskWork for AdmitsOrNot {
+    type Found = bool;
+
+    fn at<K: Keeper + Drop>(&self, alloc: Global, desk: Desk<K>) -> Option<(bool, K)> {
+        let mut desk = desk;
+        let told = ask(&mut desk, READ_7);
+        let mut keeper = desk.into_keeper();
+        let kept = keeps(alloc, &mut keeper, told);
+        Some((kept, keeper))
+    }
 }
 
 /// Whether a connection is opened as a store, or for want of memory not, and is opened then.
@@ -80,14 +90,6 @@ fn finds_reader<S: Alter + Drop>(alloc: Global, empty: Connection<S>, sites: u16
     }
 }
 
-/// Whether a desk over an empty database admits a reader or keeps nothing.
-fn admits_over<S: Alter + Drop>(alloc: Global, empty: Connection<S>) -> Option<bool> {
-    match over(alloc, empty, 2) {
-        Ok(desk) => Some(admits_or_keeps_nothing(alloc, desk)),
-        Err(_) => None,
-    }
-}
-
 fn makes(alloc: Global) -> Option<bool> {
     opens_now_or_then(alloc, in_memory(alloc)?, HERE)
 }
@@ -96,12 +98,9 @@ fn finds(alloc: Global, sites: u16) -> Option<bool> {
     finds_reader(alloc, in_memory(alloc)?, sites)
 }
 
-fn admits_in_memory(alloc: Global) -> Option<bool> {
-    Some(admits_or_keeps_nothing(alloc, over_memory(alloc)?))
-}
-
 fn admits(alloc: Global) -> Option<bool> {
-    admits_over(alloc, in_memory(alloc)?)
+    let (admitted, _) = over(alloc, in_memory(alloc)?, 2, &AdmitsOrNot)?;
+    admitted
 }
 
 // What could not be tried, since one of the refused allocations came before, is tried again.
@@ -126,7 +125,7 @@ fn is_found(alloc: Global, sites: u16) -> bool {
 
 fn is_admitted_in_memory(alloc: Global) -> bool {
     for _ in 0..TRIES {
-        if let Some(admitted) = admits_in_memory(alloc) {
+        if let Some(admitted) = over_memory(alloc, &AdmitsOrNot) {
             return admitted;
         }
     }

@@ -14,6 +14,8 @@ mod desks_kept;
 #[cfg(test)]
 mod desks_stopped;
 #[cfg(test)]
+mod files;
+#[cfg(test)]
 mod growths;
 #[cfg(test)]
 mod layout_lines;

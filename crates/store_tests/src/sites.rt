@@ -1,17 +1,19 @@
 //! Sites behind their locks over stores, with one pass each: how far they come where the store stops, and one whose layout
 //! grows between two openings.
-ghost use Rattle.std.specs.Prelude.{◌≡◌, IfOk};
+ghost use Rattle.std.specs.Prelude.{◌≡◌, ◌<◌};
 ghost use Rattle.admission_core.specs.Kept.{DurableState};
+ghost use Rattle.desk_log.specs.Desk.{IsMadeFor};
 
-use crate::databases::{closed, empty_files, layout, opened};
+use crate::databases::layout;
 use crate::desks::{GIVE, READ_7, Told, told_by};
 use crate::desks_kept::sizes;
+use crate::files::{Work, closed_after, empty_files};
 use admission_core::{Ask, Call};
 use desk_log::Transcript;
+use merge_core::Layout;
 use session_book::{Opening, Pass, Site};
 use site_store::{Keeper, SqlKeeper};
-use sqlite::{Alter, Connection, FileStore, Files};
-use sqlite_disk::Crash;
+use sqlite::{Alter, Connection};
 use std::alloc::Global;
 use std::marker::Brand;
 use std::sync::Wait;
@@ -19,39 +21,11 @@ use std::sync::ledger::Blank;
 
 /// How far a site came: its store was not opened, or it was answered as it was to so many calls, up to the last or up to
 /// one that was answered `StoreFault`.
-#[derive(Clone, Copy, Debug, PartialEq, Eq)]
+#[derive(Clone, Copy, PartialEq, Eq)]
 pub enum At {
     Unopened,
     Served(usize),
     Stopped(usize),
-}
-
-/// A site over a connection, at so many sites, and its pass, or the connection where there is none.
-fn site_over<S: Alter + Drop, L: Opening>(
-    alloc: Global,
-    blank: Blank,
-    connection: Connection<S>,
-    sites: u16,
-) -> Result<(Site<SqlKeeper<S>, L>, Vec<Pass<L>>), Connection<S>>
-    requires name { blank.name ≡ L.name }
-    requires parts { blank.parts ≡ L.parts }
-    requires unknown { (d : DurableState) → ¬ L.kept d }
-    requires one { blank.parts ≡ 1 }
-    ensures { IfOk result (λ p. p.0.passes ≡ L.parts) }
-{
-    let Some(layout) = layout(alloc, sites, 2) else {
-        return Err(connection);
-    };
-    if !connection.is_autocommit() {
-        return Err(connection);
-    }
-    match SqlKeeper::open(alloc, connection, &layout, 0) {
-        Ok(keeper) => match Site::<SqlKeeper<S>, L>::open(alloc, blank, keeper, layout, 0, 1, 16) {
-            Ok(opened) => Ok(opened),
-            Err((_, keeper)) => Err(keeper.into_connection()),
-        },
-        Err((_, back)) => Err(back),
-    }
 }
 
 fn called<K: Keeper, L: Opening, R: Wait>(
@@ -110,20 +84,6 @@ fn come<K: Keeper, L: Opening, R: Wait>(
     }
 }
 
-/// The transcript of a site, and its connection.
-fn left<S: Alter + Drop, L: Opening, R: Wait>(
-    rt: &R,
-    site: Site<SqlKeeper<S>, L>,
-    passes: Vec<Pass<L>>,
-) -> Option<(Transcript, Connection<S>)>
-    requires { site.passes ≡ L.parts }
-{
-    match site.close(rt, passes) {
-        Ok((transcript, keeper)) => Some((transcript, keeper.into_connection())),
-        Err(_) => None,
-    }
-}
-
 /// Whether a transcript of one run has the calls that were answered, and the one that the store did not take.
 fn has_calls(transcript: &Transcript, at: At) -> bool {
     let [run] = transcript.runs.as_slice() else {
@@ -136,30 +96,46 @@ fn has_calls(transcript: &Transcript, at: At) -> bool {
     }
 }
 
-fn run_over<S: Alter + Drop, L: Opening, R: Wait>(
+/// Opens a site over a keeper, makes the calls by its one pass, and closes it.
+fn run_over<K: Keeper + Drop, L: Opening, R: Wait>(
     rt: &R,
     alloc: Global,
     blank: Blank,
-    connection: Connection<S>,
-    sites: u16,
+    keeper: K,
+    layout: Layout,
     calls: &[(Ask, Told)],
-) -> Option<(At, Option<Transcript>, Connection<S>)>
+) -> Option<(At, Option<Transcript>, K)>
     requires name { blank.name ≡ L.name }
     requires parts { blank.parts ≡ L.parts }
-    requires unknown { (d : DurableState) → ¬ L.kept d }
     requires one { blank.parts ≡ 1 }
+    requires made_for { 0 < layout.sites → IsMadeFor K.Keeper keeper layout 0 }
+    requires kept { (d : DurableState) → L.kept d → K.keeps keeper d }
 {
-    let (site, mut passes) = match site_over::<S, L>(alloc, blank, connection, sites) {
+    let (site, mut passes) = match Site::<K, L>::open(alloc, blank, keeper, layout, 0, 1, 16) {
         Ok(opened) => opened,
-        Err(back) => return Some((At::Unopened, None, back)),
+        Err((_, keeper)) => return Some((At::Unopened, None, keeper)),
     };
     let at = come(rt, &site, passes.as_mut_slice(), calls)?;
-    let (transcript, connection) = left(rt, site, passes)?;
+    let Ok((transcript, keeper)) = site.close(rt, passes) else {
+        return None;
+    };
     if has_calls(&transcript, at) {
-        Some((at, Some(transcript), connection))
+        Some((at, Some(transcript), keeper))
     } else {
         None
     }
+}
+
+fn run_keeper<K: Keeper + Drop, R: Wait>(
+    rt: &R,
+    alloc: Global,
+    keeper: K,
+    layout: Layout,
+    calls: &[(Ask, Told)],
+) -> Option<(At, Option<Transcript>, K)>
+    requires { 0 < layout.sites → IsMadeFor K.Keeper keeper layout 0 }
+{
+    run_over::<K, Brand, R>(rt, alloc, Blank::new(1), keeper, layout, calls)
 }
 
 /// Opens a site over a connection, makes the calls by its pass, and closes it: how far it came, its transcript where it
@@ -171,17 +147,26 @@ pub fn run_site<S: Alter + Drop, R: Wait>(
     sites: u16,
     calls: &[(Ask, Told)],
 ) -> Option<(At, Option<Transcript>, Connection<S>)> {
-    let blank = Blank::new(1);
-    run_over::<S, Brand, R>(rt, alloc, blank, connection, sites, calls)
+    let layout = layout(alloc, sites, 2)?;
+    if !connection.is_autocommit() {
+        return Some((At::Unopened, None, connection));
+    }
+    match SqlKeeper::open(alloc, connection, &layout, 0) {
+        Ok(keeper) => {
+            let (at, transcript, keeper) = run_keeper(rt, alloc, keeper, layout, calls)?;
+            Some((at, transcript, keeper.into_connection()))
+        }
+        Err((_, back)) => Some((At::Unopened, None, back)),
+    }
 }
 
 // ---- a site whose layout grows
 
 /// What a site that is alone answers to a reader and to a gift.
-static ALONE: [(Ask, Told); 2] = [(READ_7, Told::Admitted), (GIVE, Told::NoSite)];
+const ALONE: [(Ask, Told); 2] = [(READ_7, Told::Admitted), (GIVE, Told::NoSite)];
 
 /// What it answers once it has a second site beside it.
-static GROWN: [(Ask, Told); 3] = [
+const GROWN: [(Ask, Told); 3] = [
     (READ_7, Told::AlreadyHere),
     (GIVE, Told::Given),
     (GIVE, Told::Other),
@@ -202,44 +187,47 @@ fn served<S: Alter + Drop, R: Wait>(
     }
 }
 
-/// The same, and the files of the database, closed in order.
-fn served_on<D: Crash + Drop, R: Wait>(
-    rt: &R,
-    alloc: Global,
-    connection: Connection<FileStore<D>>,
+/// An opening with these calls at so many sites.
+#[derive(Drop)]
+struct Serves {
     sites: u16,
-    calls: &[(Ask, Told)],
-) -> Option<(Transcript, Files<D>)> {
-    let (transcript, connection) = served(rt, alloc, connection, sites, calls)?;
-    match closed(connection) {
-        Some(files) => Some((transcript, files)),
-        None => None,
+    calls: &'static [(Ask, Told)],
+}
+
+impl Work for Serves {
+    type Found = Transcript;
+
+    fn over<S: Alter + Drop, R: Wait>(
+        &self,
+        rt: &R,
+        alloc: Global,
+        connection: Connection<S>,
+    ) -> Option<(Transcript, Connection<S>)> {
+        served(rt, alloc, connection, self.sites, self.calls)
     }
 }
 
-/// The same over files.
-fn served_in<D: Crash + Drop, R: Wait>(
-    rt: &R,
-    alloc: Global,
-    files: Files<D>,
-    sites: u16,
-    calls: &[(Ask, Told)],
-) -> Option<(Transcript, Files<D>)> {
-    match opened(alloc, files) {
-        Ok(connection) => served_on(rt, alloc, connection, sites, calls),
-        Err(_) => None,
-    }
-}
+/// A site that is alone, and the same beside a second one.
+static OPENINGS: [Serves; 2] = [
+    Serves {
+        sites: 1,
+        calls: &ALONE,
+    },
+    Serves {
+        sites: 2,
+        calls: &GROWN,
+    },
+];
 
 /// The numbers of sites and of entries of the runs of a site that was opened alone, and then beside a second one.
 fn grown<R: Wait>(rt: &R, alloc: Global) -> Option<(u16, usize, u16, usize)> {
-    let (mut all, files) = served_in(rt, alloc, empty_files(alloc), 1, &ALONE)?;
-    let (second, _) = served_in(rt, alloc, files, 2, &GROWN)?;
+    let (mut all, files) = closed_after(rt, alloc, empty_files(alloc), &OPENINGS[0])?;
+    let (second, _) = closed_after(rt, alloc, files, &OPENINGS[1])?;
     all.append(second).ok()?;
     sizes(&all)
 }
 
 #[test]
 fn a_site_is_opened_again_under_a_layout_that_has_grown(rt: HostRuntime) {
-    assert_eq!(rt; grown(&rt, rt.alloc()), Some((1, 2, 2, 3)));
+    assert!(rt; grown(&rt, rt.alloc()) == Some((1, 2, 2, 3)));
 }

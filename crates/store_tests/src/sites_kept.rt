@@ -102,10 +102,10 @@ fn entries_in_store<R: Wait>(rt: &R, alloc: Global) -> Option<usize> {
 
 #[test]
 fn a_site_over_a_keeper_in_memory_leaves_one_entry(rt: HostRuntime) {
-    assert_eq!(rt; entries_in_memory(&rt, rt.alloc()), Some(1));
+    assert!(rt; entries_in_memory(&rt, rt.alloc()) == Some(1));
 }
 
 #[test]
 fn a_site_over_a_store_leaves_one_entry(rt: HostRuntime) {
-    assert_eq!(rt; entries_in_store(&rt, rt.alloc()), Some(1));
+    assert!(rt; entries_in_store(&rt, rt.alloc()) == Some(1));
 }

@@ -1,6 +1,6 @@
 //! What is done with a database that is the store of a site, step by step.
 use crate::databases::{after_texts, in_memory, layout};
-use crate::desks::{Shift, over, serves};
+use crate::desks::{Shift, over};
 use admission_core::{Durable, Phase};
 use site_store::{Keeper, KeeperError, OpenError, SqlKeeper};
 use sqlite::{Alter, Connection};
@@ -22,7 +22,7 @@ pub const HERE: At = At {
 };
 
 /// What an opening comes to.
-#[derive(Clone, Copy, Debug, PartialEq, Eq)]
+#[derive(Clone, Copy, PartialEq, Eq)]
 pub enum Opened {
     Refused(OpenError),
     /// How many counters and sessions the store holds, and whether the first session reads.
@@ -103,12 +103,9 @@ pub fn serves_over<S: Alter + Drop>(
     connection: Connection<S>,
     shift: Shift,
 ) -> Option<Connection<S>> {
-    let Ok(desk) = over(alloc, connection, shift.sites) else {
-        return None;
-    };
-    match serves(alloc, desk, shift) {
-        Some(keeper) => Some(keeper.into_connection()),
-        None => None,
+    match over(alloc, connection, shift.sites, &shift)? {
+        (Some(_), connection) => Some(connection),
+        _ => None,
     }
 }
 

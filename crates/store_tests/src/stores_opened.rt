@@ -1,6 +1,6 @@
 //! Databases that are opened as the store of a site, and those that are not.
-use crate::databases::{COUNTER, FIRST, after_texts, empty_files, layout, opened};
-use crate::desks::over;
+use crate::databases::{COUNTER, FIRST, after_texts, layout};
+use crate::files::{empty_files, opened};
 use crate::stores::{At, EMPTY, HERE, Opened, Step, are_told, held_by};
 use site_store::restart::restart;
 use site_store::{MemoryKeeper, OpenError, SqlKeeper};
@@ -112,19 +112,18 @@ fn first_other(alloc: Global) -> Option<&'static str> {
 
 #[test]
 fn a_store_is_judged_before_it_is_opened(rt: HostRuntime) {
-    assert_eq!(rt; first_other(rt.alloc()), None);
+    assert!(rt; first_other(rt.alloc()) == None);
 }
 
 #[test]
 fn a_new_store_is_its_own(rt: HostRuntime) {
     let alloc = rt.alloc();
-    assert_eq!(rt;
+    assert!(rt;
         [
             are_told(alloc, &IN_TURN),
             are_told(alloc, &BESIDE),
             are_told(alloc, &ONLY_CELLS)
-        ],
-        [true, true, true]
+        ] == [true, true, true]
     );
 }
 
@@ -142,12 +141,13 @@ fn held_in_memory(alloc: Global) -> Option<Opened> {
     }
 }
 
-/// The keeper of a desk over a database.
+/// The keeper of site 0 of two over a database.
 fn keeper_over<S: Alter + Drop>(alloc: Global, connection: Connection<S>) -> Option<SqlKeeper<S>> {
-    match over(alloc, connection, 2) {
-        Ok(desk) => Some(desk.into_keeper()),
-        Err(_) => None,
+    let layout = layout(alloc, 2, 2)?;
+    if !connection.is_autocommit() {
+        return None;
     }
+    SqlKeeper::open(alloc, connection, &layout, 0).ok()
 }
 
 /// A keeper of a store with one counter and one session.
@@ -195,9 +195,6 @@ fn held_over_files(alloc: Global) -> Option<Opened> {
 
 #[test]
 fn a_keeper_is_opened_again_after_a_crash(rt: HostRuntime) {
-    assert_eq!(rt;
-        held_over_files(rt.alloc()),
-        Some(Opened::Holds(1, 1, true))
-    );
-    assert_eq!(rt; held_in_memory(rt.alloc()), Some(EMPTY));
+    assert!(rt; held_over_files(rt.alloc()) == Some(Opened::Holds(1, 1, true)));
+    assert!(rt; held_in_memory(rt.alloc()) == Some(EMPTY));
 }

@@ -1,17 +1,15 @@
 //! Stores with sessions and notices that are opened over files that stop at each call in turn: each is found as it was
 //! before, or with the second version and the layout's own line, and opens then.
-use crate::databases::{
-    FIRST, LAYOUT, SECOND, after_texts, closed, crashed, empty_files, files_of, fused, layout,
-    opened,
-};
+use crate::databases::{FIRST, LAYOUT, SECOND, layout};
 use crate::desks::{Part, is_part};
+use crate::files::{Texts, Work, closed_after, empty_files, found_after_crash, fused, left_after};
 use crate::tables::idle;
 use crate::tables_stopped::{Held, is_held};
 use admission_core::{DurableCell, Phase, Session};
 use site_store::{Keeper, KeeperError, OpenError, SqlKeeper};
-use sqlite::{Alter, Connection, FileStore, Files};
-use sqlite_disk::Crash;
+use sqlite::{Alter, Connection};
 use std::alloc::Global;
+use std::sync::Wait;
 use store_tables::{Stage, StoredCell, StoredNotice, StoredSession, Tables, Version};
 
 /// A reader is inside, and a writer waits.
@@ -138,7 +136,7 @@ static STORIES: [Story; 3] = [
 
 /// What an opening comes to over files that may stop: it is refused for a fault, it is opened and the reading fails, or
 /// the durable part is read.
-#[derive(Clone, Copy, Debug, PartialEq, Eq)]
+#[derive(Clone, Copy, PartialEq, Eq)]
 enum Came {
     Stopped,
     Unread,
@@ -185,82 +183,70 @@ fn is_after<S: Alter>(alloc: Global, story: &Story, tables: &mut Tables<S>) -> O
     is_held(found.as_ref(), Some(&story.before)).then_some(false)
 }
 
-/// The same of a database that opens and is read then.
-fn found_over<S: Alter + Drop>(
-    alloc: Global,
-    story: &Story,
-    connection: Connection<S>,
-) -> Option<bool> {
-    let mut tables = idle(connection)?;
-    let after = is_after(alloc, story, &mut tables)?;
-    let (came, _) = opened_over(alloc, story, tables.into_connection());
-    (came == Came::Read).then_some(after)
-}
+/// What an opening over a database comes to.
+#[derive(Drop)]
+struct Opens(&'static Story);
 
-/// The files of a store that was closed in order.
-fn first_of<D: Crash + Drop>(story: &Story, empty: Connection<FileStore<D>>) -> Option<Files<D>> {
-    match after_texts(empty, story.first) {
-        Some(connection) => closed(connection),
-        None => None,
+impl Work for Opens {
+    type Found = Came;
+
+    fn over<S: Alter + Drop, R: Wait>(
+        &self,
+        _rt: &R,
+        alloc: Global,
+        connection: Connection<S>,
+    ) -> Option<(Came, Connection<S>)> {
+        Some(opened_over(alloc, self.0, connection))
     }
 }
 
-// What speaks of files hands a database on at once: it is dear to prove here.
+/// Whether a database that opens and is read then held what it is to after the opening, or what it did before.
+#[derive(Drop)]
+struct Finds(&'static Story);
 
-fn first_on<D: Crash + Drop>(alloc: Global, story: &Story, empty: Files<D>) -> Option<Files<D>> {
-    match opened(alloc, empty) {
-        Ok(connection) => first_of(story, connection),
-        Err(_) => None,
+impl Work for Finds {
+    type Found = bool;
+
+    fn over<S: Alter + Drop, R: Wait>(
+        &self,
+        _rt: &R,
+        alloc: Global,
+        connection: Connection<S>,
+    ) -> Option<(bool, Connection<S>)> {
+        let mut tables = idle(connection)?;
+        let after = is_after(alloc, self.0, &mut tables)?;
+        match opened_over(alloc, self.0, tables.into_connection()) {
+            (Came::Read, connection) => Some((after, connection)),
+            _ => None,
+        }
     }
 }
 
-/// What is found in files.
-fn found<D: Crash + Drop>(alloc: Global, story: &Story, files: Files<D>) -> Option<bool> {
-    match opened(alloc, files) {
-        Ok(connection) => found_over(alloc, story, connection),
-        Err(_) => None,
-    }
-}
-
-/// What an opening over a database comes to, and its files.
-fn opened_on<D: Crash + Drop>(
+/// What an opening comes to over files of which each stops after so many calls, and whether they hold what they are to
+/// once they have crashed, or what they did.
+fn stopped<R: Wait>(
+    rt: &R,
     alloc: Global,
-    story: &Story,
-    connection: Connection<FileStore<D>>,
-) -> (Came, Files<D>) {
-    let (came, connection) = opened_over(alloc, story, connection);
-    (came, files_of(connection))
-}
-
-/// What an opening over files comes to, and whether they hold what they are to once they have crashed, or what they did.
-fn stopped_on<D: Crash + Drop>(
-    alloc: Global,
-    story: &Story,
-    files: Files<D>,
+    story: &'static Story,
+    log: u64,
+    db: u64,
 ) -> Option<(Came, bool)> {
-    let (came, left) = match opened(alloc, files) {
-        Ok(connection) => opened_on(alloc, story, connection),
-        Err(left) => (Came::Stopped, left),
-    };
-    Some((came, found(alloc, story, crashed(left))?))
-}
-
-/// The same over files of which each stops after so many calls.
-fn stopped(alloc: Global, story: &Story, log: u64, db: u64) -> Option<(Came, bool)> {
-    let first = first_on(alloc, story, empty_files(alloc))?;
-    stopped_on(alloc, story, fused(first, log, db))
+    let (_, first) = closed_after(rt, alloc, empty_files(alloc), &Texts(story.first))?;
+    let (came, left) = left_after(rt, alloc, fused(first, log, db), &Opens(story))?;
+    let found = found_after_crash(rt, alloc, left, &Finds(story))?;
+    Some((came.unwrap_or(Came::Stopped), found))
 }
 
 /// At how many calls of one file an opening was stopped until the store was read, if each stop left the store as it was or
 /// as the opening makes it. A store that was opened is as the opening makes it.
-fn stops(alloc: Global, story: &Story, of_log: bool) -> Option<u64> {
+fn stops<R: Wait>(rt: &R, alloc: Global, story: &'static Story, of_log: bool) -> Option<u64> {
     for calls in 0..400u64 {
         let (log, db) = if of_log {
             (calls, 10000)
         } else {
             (10000, calls)
         };
-        match stopped(alloc, story, log, db)? {
+        match stopped(rt, alloc, story, log, db)? {
             (Came::Read, true) => return Some(calls),
             (Came::Stopped, _) | (Came::Unread, true) => {}
             _ => return None,
@@ -270,10 +256,10 @@ fn stops(alloc: Global, story: &Story, of_log: bool) -> Option<u64> {
 }
 
 /// Whether the opening of a story was stopped at several calls of each file, and each stop left what it may.
-fn survives(alloc: Global, story: usize) -> Option<bool> {
+fn survives<R: Wait>(rt: &R, alloc: Global, story: usize) -> Option<bool> {
     let story = STORIES.get(story)?;
-    let of_log = stops(alloc, story, true)?;
-    let of_file = stops(alloc, story, false)?;
+    let of_log = stops(rt, alloc, story, true)?;
+    let of_file = stops(rt, alloc, story, false)?;
     Some(of_log >= 5 && of_file >= 5)
 }
 
@@ -281,15 +267,15 @@ fn survives(alloc: Global, story: usize) -> Option<bool> {
 
 #[test]
 fn a_migration_with_sessions_survives_each_stop(rt: HostRuntime) {
-    assert!(rt; survives(rt.alloc(), 0) == Some(true));
+    assert!(rt; survives(&rt, rt.alloc(), 0) == Some(true));
 }
 
 #[test]
 fn a_new_layout_line_with_sessions_survives_each_stop(rt: HostRuntime) {
-    assert!(rt; survives(rt.alloc(), 1) == Some(true));
+    assert!(rt; survives(&rt, rt.alloc(), 1) == Some(true));
 }
 
 #[test]
 fn a_migration_to_a_new_layout_line_survives_each_stop(rt: HostRuntime) {
-    assert!(rt; survives(rt.alloc(), 2) == Some(true));
+    assert!(rt; survives(&rt, rt.alloc(), 2) == Some(true));
 }

@@ -92,7 +92,7 @@ pub fn steps_done<S: Alter>(tables: &mut Tables<S>, steps: &[Step]) -> usize {
 }
 
 /// What a look at a database finds.
-#[derive(Clone, Copy, Debug, PartialEq, Eq)]
+#[derive(Clone, Copy, PartialEq, Eq)]
 pub enum Found {
     Blank,
     Store,

@@ -1,13 +1,14 @@
 //! Tables over files that stop at each call in turn: what is found then is what a step left, or what the step in hand
 //! leaves.
-use crate::databases::{
-    COUNTER, FIRST, LAYOUT, NEXT, SECOND, after_texts, crashed, empty_files, files_of, fused,
-    opened,
+use crate::databases::{COUNTER, FIRST, LAYOUT, NEXT, SECOND};
+use crate::files::{
+    Texts, Work, empty_files, found_after_crash, found_over, fused, left_after, opened,
 };
 use crate::tables::{CELL, MADE, NOTICE, READER, Step, idle, sizes, steps_done};
 use sqlite::{Alter, Connection, FileStore, Files, Options};
 use sqlite_disk::Crash;
 use std::alloc::Global;
+use std::sync::Wait;
 use store_tables::restart::restart;
 use store_tables::{Content, StoredCell, StoredNotice, StoredSession, Tables, Version};
 
@@ -106,10 +107,14 @@ pub fn is_held(content: Option<&Content>, held: Option<&Held>) -> bool {
 }
 
 /// The number of steps after which tables hold what they do.
-fn step_found<S: Alter>(alloc: Global, story: &Story, tables: &mut Tables<S>) -> Option<usize> {
+fn step_found<S: Alter>(
+    alloc: Global,
+    left: &[Option<Held>],
+    tables: &mut Tables<S>,
+) -> Option<usize> {
     let found = tables.look(alloc).ok()?;
     let mut step = 0usize;
-    for held in story.left {
+    for held in left {
         if is_held(found.as_ref(), held.as_ref()) {
             return Some(step);
         }
@@ -118,116 +123,118 @@ fn step_found<S: Alter>(alloc: Global, story: &Story, tables: &mut Tables<S>) ->
     None
 }
 
-fn step_in<S: Alter + Drop>(alloc: Global, story: &Story, tables: Tables<S>) -> Option<usize> {
-    let mut tables = tables;
-    step_found(alloc, story, &mut tables)
-}
+/// The step after which a database holds what it does.
+#[derive(Drop)]
+struct Finds(&'static [Option<Held>]);
 
-fn step_over<S: Alter + Drop>(
-    alloc: Global,
-    story: &Story,
-    connection: Connection<S>,
-) -> Option<usize> {
-    step_in(alloc, story, idle(connection)?)
+impl Work for Finds {
+    type Found = usize;
+
+    fn over<S: Alter + Drop, R: Wait>(
+        &self,
+        _rt: &R,
+        alloc: Global,
+        connection: Connection<S>,
+    ) -> Option<(usize, Connection<S>)> {
+        let mut tables = idle(connection)?;
+        let step = step_found(alloc, self.0, &mut tables)?;
+        Some((step, tables.into_connection()))
+    }
 }
 
 /// The steps that are done over a database, and its tables then.
-fn played<S: Alter + Drop>(story: &Story, connection: Connection<S>) -> Option<(usize, Tables<S>)> {
+fn played<S: Alter + Drop>(
+    steps: &[Step],
+    connection: Connection<S>,
+) -> Option<(usize, Tables<S>)> {
     let mut tables = idle(connection)?;
-    let done = steps_done(&mut tables, story.steps);
+    let done = steps_done(&mut tables, steps);
     Some((done, tables))
 }
 
-// What speaks of files hands a database on at once: it is dear to prove here.
-
-/// The step that is found once files have crashed.
-fn after_crash<D: Crash + Drop>(alloc: Global, story: &Story, files: Files<D>) -> Option<usize> {
-    match opened(alloc, crashed(files)) {
-        Ok(connection) => step_over(alloc, story, connection),
-        Err(_) => None,
-    }
-}
-
-/// The same of the files of tables.
-fn restarted<D: Crash + Drop>(
+/// What is found in tables once their files have crashed.
+fn found_again<D: Crash + Drop, W: Work, R: Wait>(
+    rt: &R,
     alloc: Global,
-    story: &Story,
     tables: Tables<FileStore<D>>,
-) -> Option<usize> {
+    work: &W,
+) -> Option<W::Found> {
     match restart(alloc, tables, Options::new(1)) {
-        Ok(again) => step_in(alloc, story, again),
-        Err(left) => after_crash(alloc, story, left),
+        Ok(again) => found_over(rt, alloc, again.into_connection(), work),
+        Err(left) => found_after_crash(rt, alloc, left, work),
     }
 }
 
-/// The steps that are done over a database, and the step that is found after a crash.
-fn played_again<D: Crash + Drop>(
+/// The steps that are done over a database, and what is found after a crash.
+fn played_again<D: Crash + Drop, W: Work, R: Wait>(
+    rt: &R,
     alloc: Global,
-    story: &Story,
     connection: Connection<FileStore<D>>,
-) -> (Option<usize>, Option<usize>) {
-    match played(story, connection) {
-        Some((done, tables)) => (Some(done), restarted(alloc, story, tables)),
-        None => (None, None),
-    }
-}
-
-/// The same over files, which may not open.
-fn played_over<D: Crash + Drop>(
-    alloc: Global,
-    story: &Story,
-    files: Files<D>,
-) -> (Option<usize>, Option<usize>) {
-    match opened(alloc, files) {
-        Ok(connection) => played_again(alloc, story, connection),
-        Err(left) => (Some(0), after_crash(alloc, story, left)),
-    }
-}
-
-/// Empty files after these statements; without one, no database is opened on them.
-fn files_after<D: Crash + Drop>(
-    alloc: Global,
-    empty: Files<D>,
-    texts: &[&str],
-) -> Option<Files<D>> {
-    if texts.is_empty() {
-        return Some(empty);
-    }
-    match opened(alloc, empty) {
-        Ok(connection) => files_with(connection, texts),
-        Err(_) => None,
-    }
-}
-
-fn files_with<D: Crash + Drop>(
-    connection: Connection<FileStore<D>>,
-    texts: &[&str],
-) -> Option<Files<D>> {
-    match after_texts(connection, texts) {
-        Some(connection) => Some(files_of(connection)),
+    steps: &[Step],
+    work: &W,
+) -> Option<(usize, W::Found)> {
+    match played(steps, connection) {
+        Some((done, tables)) => Some((done, found_again(rt, alloc, tables, work)?)),
         None => None,
     }
 }
 
-/// The steps that were done before a file stopped after so many calls, and the step that is found after a crash.
-fn stopped(alloc: Global, story: &Story, log: u64, db: u64) -> Option<(usize, usize)> {
-    let first = files_after(alloc, empty_files(alloc), story.first)?;
-    match played_over(alloc, story, fused(first, log, db)) {
-        (Some(done), Some(found)) => Some((done, found)),
-        _ => None,
+/// The same over files, which may not open.
+fn played_over<D: Crash + Drop, W: Work, R: Wait>(
+    rt: &R,
+    alloc: Global,
+    files: Files<D>,
+    steps: &[Step],
+    work: &W,
+) -> Option<(usize, W::Found)> {
+    match opened(alloc, files) {
+        Ok(connection) => played_again(rt, alloc, connection, steps, work),
+        Err(left) => Some((0, found_after_crash(rt, alloc, left, work)?)),
     }
+}
+
+/// Empty files after these statements; without one, no database is opened on them.
+fn files_after<D: Crash + Drop, R: Wait>(
+    rt: &R,
+    alloc: Global,
+    empty: Files<D>,
+    texts: &'static [&'static str],
+) -> Option<Files<D>> {
+    if texts.is_empty() {
+        return Some(empty);
+    }
+    let (ran, left) = left_after(rt, alloc, empty, &Texts(texts))?;
+    if ran.is_some() { Some(left) } else { None }
+}
+
+/// The steps that were done before a file stopped after so many calls, and the step that is found after a crash.
+fn stopped<R: Wait>(
+    rt: &R,
+    alloc: Global,
+    story: &Story,
+    log: u64,
+    db: u64,
+) -> Option<(usize, usize)> {
+    let first = files_after(rt, alloc, empty_files(alloc), story.first)?;
+    played_over(
+        rt,
+        alloc,
+        fused(first, log, db),
+        story.steps,
+        &Finds(story.left),
+    )
 }
 
 /// At how many calls of one file a story was stopped until it ran to its end, if each stop left what was done, or that
 /// and the step in hand.
-fn stops(alloc: Global, story: &Story, of_log: bool) -> Option<u64> {
+fn stops<R: Wait>(rt: &R, alloc: Global, story: &Story, of_log: bool) -> Option<u64> {
     for calls in 0..400u64 {
         let (log, db) = if of_log {
             (calls, 10000)
         } else {
             (10000, calls)
         };
-        let (done, found) = stopped(alloc, story, log, db)?;
+        let (done, found) = stopped(rt, alloc, story, log, db)?;
         if found != done && found != done.saturating_add(1) {
             return None;
         }
@@ -239,15 +246,15 @@ fn stops(alloc: Global, story: &Story, of_log: bool) -> Option<u64> {
 }
 
 /// The same of both files.
-fn all_stops(alloc: Global, story: usize) -> Option<u64> {
+fn all_stops<R: Wait>(rt: &R, alloc: Global, story: usize) -> Option<u64> {
     let story = STORIES.get(story)?;
-    let of_log = stops(alloc, story, true)?;
-    Some(of_log.saturating_add(stops(alloc, story, false)?))
+    let of_log = stops(rt, alloc, story, true)?;
+    Some(of_log.saturating_add(stops(rt, alloc, story, false)?))
 }
 
 /// Whether a story is stopped often, and each stop leaves what it may.
-fn survives(alloc: Global, story: usize) -> bool {
-    match all_stops(alloc, story) {
+fn survives<R: Wait>(rt: &R, alloc: Global, story: usize) -> bool {
+    match all_stops(rt, alloc, story) {
         Some(count) => count >= 10,
         None => false,
     }
@@ -255,13 +262,13 @@ fn survives(alloc: Global, story: usize) -> bool {
 
 #[test]
 fn a_store_that_is_made_survives_each_stop(rt: HostRuntime) {
-    assert!(rt; survives(rt.alloc(), 0));
+    assert!(rt; survives(&rt, rt.alloc(), 0));
 }
 
 #[test]
 fn a_migration_survives_each_stop(rt: HostRuntime) {
     for story in 1..4usize {
-        assert!(rt; survives(rt.alloc(), story), "{story}");
+        assert!(rt; survives(&rt, rt.alloc(), story), "{story}");
     }
 }
 
@@ -293,76 +300,52 @@ fn rows_of<S: Alter>(connection: &mut Connection<S>, text: &str) -> Option<usize
     Some(rows.len())
 }
 
-fn other_rows<S: Alter + Drop>(connection: Connection<S>) -> Option<[usize; 3]> {
-    let mut connection = connection;
+fn other_rows<S: Alter>(connection: &mut Connection<S>) -> Option<[usize; 3]> {
     let mut found = [0usize; 3];
     for i in 0..3usize {
-        found[i] = rows_of(&mut connection, OTHERS[i])?;
+        found[i] = rows_of(connection, OTHERS[i])?;
     }
     Some(found)
 }
 
 /// How many counters, sessions and notices a store holds, and how many rows the others have.
-fn beside_now<S: Alter + Drop>(
-    alloc: Global,
-    tables: Tables<S>,
-) -> Option<([usize; 3], [usize; 3])> {
-    let mut tables = tables;
-    let held = sizes(alloc, &mut tables)?;
-    Some((held, other_rows(tables.into_connection())?))
-}
+#[derive(Drop)]
+struct Counts;
 
-/// The tables of a store that serves on after other programs used its database.
-fn served_on<S: Alter + Drop>(steps: &[Step], connection: Connection<S>) -> Option<Tables<S>> {
-    let mut tables = idle(connection)?;
-    if steps_done(&mut tables, steps) == steps.len() {
-        Some(tables)
-    } else {
-        None
-    }
-}
+impl Work for Counts {
+    type Found = ([usize; 3], [usize; 3]);
 
-fn beside_again<D: Crash + Drop>(
-    alloc: Global,
-    steps: &[Step],
-    connection: Connection<FileStore<D>>,
-) -> Option<([usize; 3], [usize; 3])> {
-    match restart(alloc, served_on(steps, connection)?, Options::new(1)) {
-        Ok(again) => beside_now(alloc, again),
-        Err(_) => None,
-    }
-}
-
-fn beside_over<D: Crash + Drop>(
-    alloc: Global,
-    steps: &[Step],
-    files: Files<D>,
-) -> Option<([usize; 3], [usize; 3])> {
-    match opened(alloc, files) {
-        Ok(connection) => beside_again(alloc, steps, connection),
-        Err(_) => None,
+    fn over<S: Alter + Drop, R: Wait>(
+        &self,
+        _rt: &R,
+        alloc: Global,
+        connection: Connection<S>,
+    ) -> Option<(([usize; 3], [usize; 3]), Connection<S>)> {
+        let mut tables = idle(connection)?;
+        let held = sizes(alloc, &mut tables)?;
+        let mut connection = tables.into_connection();
+        let others = other_rows(&mut connection)?;
+        Some(((held, others), connection))
     }
 }
 
 /// What a store and the others hold after both have served on and the files have crashed.
-fn beside_after_a_crash(
+fn beside_after_a_crash<R: Wait>(
+    rt: &R,
     alloc: Global,
-    first: &[&str],
+    first: &'static [&'static str],
     steps: &[Step],
 ) -> Option<([usize; 3], [usize; 3])> {
-    let files = files_after(alloc, empty_files(alloc), first)?;
-    beside_over(alloc, steps, files)
+    let files = files_after(rt, alloc, empty_files(alloc), first)?;
+    let (done, found) = played_over(rt, alloc, files, steps, &Counts)?;
+    (done == steps.len()).then_some(found)
 }
 
 #[test]
 fn what_other_programs_make_later_stays(rt: HostRuntime) {
     let wanted = Some(([1, 0, 1], [2, 1, 3]));
-    assert_eq!(rt;
-        beside_after_a_crash(rt.alloc(), &[FIRST, SECOND, LATER], &AFTERWARDS),
-        wanted
+    assert!(rt;
+        beside_after_a_crash(&rt, rt.alloc(), &[FIRST, SECOND, LATER], &AFTERWARDS) == wanted
     );
-    assert_eq!(rt;
-        beside_after_a_crash(rt.alloc(), &[FIRST, LATER], &MIGRATED),
-        wanted
-    );
+    assert!(rt; beside_after_a_crash(&rt, rt.alloc(), &[FIRST, LATER], &MIGRATED) == wanted);
 }

@@ -1,10 +1,12 @@
 //! A site over two files of which one stops at a call: whichever call that is, what was answered is kept, and at most
 //! the call in doubt beside it.
 use super::runs::{NO_LINE, Script, served};
+use crate::files::{Work, closed_after, empty_files, found_after_crash, fused, left_after};
 use exit_status::{Status, StoreRefusal};
-use sqlite::{Alter, Connection, FileStore, Files, Options};
-use sqlite_disk::{Crash, Fuse, Memory};
+use sqlite::{Alter, Connection, Files};
+use sqlite_disk::Crash;
 use std::alloc::Global;
+use std::sync::Wait;
 
 // How a run ended, and what it wrote.
 type Answer = (Status, &'static str);
@@ -80,19 +82,6 @@ static STORIES: [Story; 2] = [
     },
 ];
 
-fn opened<D: Crash + Drop>(
-    alloc: Global,
-    files: Files<D>,
-) -> Result<Connection<FileStore<D>>, Files<D>> {
-    if !files.may_be_used() {
-        return Err(files);
-    }
-    match Connection::open_files(alloc, files, Options::new(1)) {
-        Ok(connection) => Ok(connection),
-        Err((_, left)) => Err(left.into_files()),
-    }
-}
-
 // Which of these answers it is.
 fn place_of(ended: Status, written: &[u8], answers: &[Answer]) -> Option<usize> {
     let mut place = 0usize;
@@ -119,96 +108,83 @@ fn answered<S: Alter + Drop>(
     }
 }
 
-// How many changes are found to be kept in a database.
-fn found_over<S: Alter + Drop>(
-    alloc: Global,
-    connection: Connection<S>,
-    story: &Story,
-) -> Option<usize> {
-    match answered(alloc, connection, READERS, story.found) {
-        Some((found, _)) => Some(found),
-        None => None,
+/// A script is carried out whole.
+#[derive(Drop)]
+struct Serves(Script);
+
+impl Work for Serves {
+    type Found = bool;
+
+    fn over<S: Alter + Drop, R: Wait>(
+        &self,
+        _rt: &R,
+        alloc: Global,
+        connection: Connection<S>,
+    ) -> Option<(bool, Connection<S>)> {
+        let (ended, _, connection) = served(alloc, connection, self.0)?;
+        if ended == Status::Done {
+            Some((true, connection))
+        } else {
+            None
+        }
     }
 }
 
-// The files of a database over which a script was carried out, closed in order.
-fn left_by<D: Crash + Drop>(
-    alloc: Global,
-    empty: Connection<FileStore<D>>,
+/// A script, and which of these answers it comes to.
+#[derive(Drop)]
+struct Answers {
     script: Script,
+    answers: &'static [Answer],
+}
+
+impl Work for Answers {
+    type Found = usize;
+
+    fn over<S: Alter + Drop, R: Wait>(
+        &self,
+        _rt: &R,
+        alloc: Global,
+        connection: Connection<S>,
+    ) -> Option<(usize, Connection<S>)> {
+        answered(alloc, connection, self.script, self.answers)
+    }
+}
+
+// The files that a run begins with, made of empty ones.
+fn first_files<D: Crash + Drop, R: Wait>(
+    rt: &R,
+    alloc: Global,
+    empty: Files<D>,
+    story: &Story,
 ) -> Option<Files<D>> {
-    let (ended, _, connection) = served(alloc, empty, script)?;
-    if ended != Status::Done {
-        return None;
-    }
-    connection.close_files().ok()
-}
-
-// What speaks of files hands a database on at once: it is dear to prove here.
-
-// The files that a run begins with.
-fn first_files(alloc: Global, story: &Story) -> Option<Files<Memory>> {
-    let empty = Files {
-        log: Memory::new(alloc),
-        db: Memory::new(alloc),
+    let Some(script) = story.first else {
+        return Some(empty);
     };
-    match story.first {
-        Some(script) => left_on(alloc, empty, script),
-        None => Some(empty),
-    }
+    let (_, files) = closed_after(rt, alloc, empty, &Serves(script))?;
+    Some(files)
 }
 
-fn left_on<D: Crash + Drop>(alloc: Global, empty: Files<D>, script: Script) -> Option<Files<D>> {
-    match opened(alloc, empty) {
-        Ok(connection) => left_by(alloc, connection, script),
-        Err(_) => None,
-    }
-}
-
-// How many changes are found to be kept in files once they have crashed.
-fn found_on<D: Crash + Drop>(alloc: Global, files: Files<D>, story: &Story) -> Option<usize> {
-    let mut left = files;
-    left.log.crash();
-    left.db.crash();
-    match opened(alloc, left) {
-        Ok(connection) => found_over(alloc, connection, story),
-        Err(_) => None,
-    }
-}
-
-// Which answer it is over a database, and its files, which are not closed in order.
-fn answered_on<D: Crash + Drop>(
+// Which answer it is over files of which each stops after so many calls, and which may not open, and how many changes are
+// found to be kept once they have crashed.
+fn stopped<R: Wait>(
+    rt: &R,
     alloc: Global,
-    connection: Connection<FileStore<D>>,
     story: &Story,
-) -> Option<(usize, Files<D>)> {
-    match answered(alloc, connection, story.script, story.answers) {
-        Some((place, connection)) => Some((place, connection.into_store().close())),
-        None => None,
-    }
-}
-
-// Which answer it is over files, which may not open, and how many changes are found to be kept.
-fn stopped_on<D: Crash + Drop>(
-    alloc: Global,
-    files: Files<D>,
-    story: &Story,
+    log: u64,
+    db: u64,
 ) -> Option<(usize, usize)> {
-    let (answer, left) = match opened(alloc, files) {
-        Ok(connection) => answered_on(alloc, connection, story)?,
-        Err(left) => (story.changes.saturating_add(1), left),
+    let first = fused(first_files(rt, alloc, empty_files(alloc), story)?, log, db);
+    let plays = Answers {
+        script: story.script,
+        answers: story.answers,
     };
-    Some((answer, found_on(alloc, left, story)?))
-}
-
-// Stops two files after so many calls.
-fn stopped(alloc: Global, story: &Story, log: u64, db: u64) -> Option<(usize, usize)> {
-    let first = first_files(alloc, story)?;
-    let files = Files {
-        log: Fuse::new(first.log, log),
-        db: Fuse::new(first.db, db),
+    let (answer, left) = left_after(rt, alloc, first, &plays)?;
+    let finds = Answers {
+        script: READERS,
+        answers: story.found,
     };
-    stopped_on(alloc, files, story)
+    let found = found_after_crash(rt, alloc, left, &finds)?;
+    Some((answer.unwrap_or(story.changes.saturating_add(1)), found))
 }
 
 // Whether what was answered is found, and no more than the call in doubt beside it.
@@ -221,7 +197,7 @@ fn is_kept(story: &Story, answer: usize, found: usize) -> bool {
 
 // At how many calls of one file the device was stopped until the script was carried out whole: where the store was not
 // opened, where none of the changes was kept, and where some were.
-fn stops(alloc: Global, story: &Story, of_log: bool) -> Option<[u64; 3]> {
+fn stops<R: Wait>(rt: &R, alloc: Global, story: &Story, of_log: bool) -> Option<[u64; 3]> {
     let mut unopened = 0u64;
     let mut first = 0u64;
     let mut second = 0u64;
@@ -231,7 +207,7 @@ fn stops(alloc: Global, story: &Story, of_log: bool) -> Option<[u64; 3]> {
         } else {
             (10_000, calls)
         };
-        let (answer, found) = stopped(alloc, story, log, db)?;
+        let (answer, found) = stopped(rt, alloc, story, log, db)?;
         if !is_kept(story, answer, found) {
             return None;
         }
@@ -250,21 +226,21 @@ fn stops(alloc: Global, story: &Story, of_log: bool) -> Option<[u64; 3]> {
 }
 
 // Which of these stops of a story there were.
-fn kinds(alloc: Global, story: usize, of_log: bool) -> Option<[bool; 3]> {
-    let [unopened, first, second] = stops(alloc, STORIES.get(story)?, of_log)?;
+fn kinds<R: Wait>(rt: &R, alloc: Global, story: usize, of_log: bool) -> Option<[bool; 3]> {
+    let [unopened, first, second] = stops(rt, alloc, STORIES.get(story)?, of_log)?;
     Some([unopened >= 1, first >= 1, second >= 1])
 }
 
 #[test]
 fn what_was_answered_is_kept_wherever_the_log_stops(rt: HostRuntime) {
-    assert_eq!(rt; kinds(rt.alloc(), 0, true), Some([true, true, true]));
-    assert_eq!(rt; kinds(rt.alloc(), 1, true), Some([true, true, false]));
+    assert!(rt; kinds(&rt, rt.alloc(), 0, true) == Some([true, true, true]));
+    assert!(rt; kinds(&rt, rt.alloc(), 1, true) == Some([true, true, false]));
 }
 
 #[test]
 fn what_was_answered_is_kept_wherever_the_database_stops(rt: HostRuntime) {
     for story in 0..STORIES.len() {
-        let kinds = kinds(rt.alloc(), story, false);
+        let kinds = kinds(&rt, rt.alloc(), story, false);
         assert!(rt; kinds.map(|kinds| kinds[0]) == Some(true), "{story}");
     }
 }
