@@ -62,61 +62,31 @@ fn push_kept(
         (slots_from r 0 slot_count)) }
 {
     let sites = layout.sites();
-    push_slots(
-        cells,
-        layout,
-        site,
-        book,
-        r,
-        Slots {
-            first: 0,
-            count: sites,
-        },
-    )?;
-    push_slots(
-        cells,
-        layout,
-        site,
-        book,
-        r,
-        Slots {
-            first: SENT,
-            count: sites,
-        },
-    )?;
-    push_slots(
-        cells,
-        layout,
-        site,
-        book,
-        r,
-        Slots {
-            first: 200,
-            count: 3,
-        },
-    )?;
-    push_slots(
-        cells,
-        layout,
-        site,
-        book,
-        r,
-        Slots {
-            first: ANNOUNCED_ELSEWHERE,
-            count: sites,
-        },
-    )?;
-    push_slots(
-        cells,
-        layout,
-        site,
-        book,
-        r,
-        Slots {
-            first: FINISHED_ELSEWHERE,
-            count: sites,
-        },
-    )
+    let given = Slots {
+        first: 0,
+        count: sites,
+    };
+    push_slots(cells, layout, site, book, r, given)?;
+    let sent = Slots {
+        first: SENT,
+        count: sites,
+    };
+    push_slots(cells, layout, site, book, r, sent)?;
+    let own = Slots {
+        first: 200,
+        count: 3,
+    };
+    push_slots(cells, layout, site, book, r, own)?;
+    let announced = Slots {
+        first: ANNOUNCED_ELSEWHERE,
+        count: sites,
+    };
+    push_slots(cells, layout, site, book, r, announced)?;
+    let finished = Slots {
+        first: FINISHED_ELSEWHERE,
+        count: sites,
+    };
+    push_slots(cells, layout, site, book, r, finished)
 }
 
 // Adds those of so many slots from the first one on.
