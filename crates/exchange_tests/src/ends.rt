@@ -24,7 +24,56 @@ pub fn outlet(alloc: Global, gate: TestGate) -> Option<(End<TestGate>, Receiver<
     Some((End::Outlet(sender, gate), receiver))
 }
 
-// Gates that wait at turn 0 until all of them have been asked; half of the ports send, and the others hear nothing.
+// Ends that send, whose gates wait at turn 0 until all of them have been asked, and what is sent.
+fn meeting_ends(
+    alloc: Global,
+    gates: u64,
+    seen: &Shared,
+) -> Option<(Vec<End<TestGate>>, Vec<Receiver<String>>)> {
+    let met: Shared = Arc::new(alloc, AtomicU64::new(0)).ok()?;
+    let mut ends = Vec::new(alloc);
+    let mut held = Vec::new(alloc);
+    for _ in 0..gates {
+        let (end, receiver) = outlet(alloc, meeting_gate(gates, &met, seen)?)?;
+        ends.push(end).ok()?;
+        held.push(receiver).ok()?;
+    }
+    Some((ends, held))
+}
+
+// One of so many gates that wait for one another.
+fn meeting_gate(all: u64, met: &Shared, seen: &Shared) -> Option<TestGate> {
+    let met = Arc::try_clone(met).ok()?;
+    let seen = Arc::try_clone(seen).ok()?;
+    Some(TestGate::Meets { met, all, seen })
+}
+
+// Adds so many ends that hear nothing.
+fn push_inlets<R: Wait>(
+    rt: &R,
+    alloc: Global,
+    ends: &mut Vec<End<TestGate>>,
+    count: u64,
+) -> Option<()> {
+    for _ in 0..count {
+        ends.push(inlet(rt, alloc, &[])?).ok()?;
+    }
+    Some(())
+}
+
+// How many reports tell of a whole run: four texts were sent, or none was heard.
+fn count_whole(reports: &[Report]) -> u64 {
+    let mut whole = 0u64;
+    for report in reports {
+        if matches!(numbers(report), (1, 4, 4, 0) | (2, 0, 0, 0)) {
+            whole = whole.saturating_add(1);
+        }
+    }
+    whole
+}
+
+// How many gates saw that all had been asked, and how many ports ran whole; half of the ports send, and the others hear
+// nothing.
 fn seen_by_gates<R: Threads + Wait + Sync>(
     rt: &R,
     alloc: Global,
@@ -32,30 +81,11 @@ fn seen_by_gates<R: Threads + Wait + Sync>(
     gates: u64,
     inlets: u64,
 ) -> Option<(u64, u64)> {
-    let met: Shared = Arc::new(alloc, AtomicU64::new(0)).ok()?;
     let seen: Shared = Arc::new(alloc, AtomicU64::new(0)).ok()?;
-    let mut ends = Vec::new(alloc);
-    let mut held = Vec::new(alloc);
-    for _ in 0..gates {
-        let gate = TestGate::Meets {
-            met: Arc::try_clone(&met).ok()?,
-            all: gates,
-            seen: Arc::try_clone(&seen).ok()?,
-        };
-        let (end, receiver) = outlet(alloc, gate)?;
-        ends.push(end).ok()?;
-        held.push(receiver).ok()?;
-    }
-    for _ in 0..inlets {
-        ends.push(inlet(rt, alloc, &[])?).ok()?;
-    }
+    let (mut ends, _held) = meeting_ends(alloc, gates, &seen)?;
+    push_inlets(rt, alloc, &mut ends, inlets)?;
     let ended = run_site(rt, alloc, job_of(shape, 0, ends, 4))?;
-    let mut whole = 0u64;
-    for report in ended.reports.as_slice() {
-        if matches!(numbers(report), (1, 4, 4, 0) | (2, 0, 0, 0)) {
-            whole = whole.saturating_add(1);
-        }
-    }
+    let whole = count_whole(ended.reports.as_slice());
     Some((seen.load(Ordering::SeqCst), whole))
 }
 

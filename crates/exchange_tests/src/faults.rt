@@ -25,14 +25,18 @@ fn jobs_left(alloc: Global) -> Option<Vec<Job>> {
 }
 
 // Whether site 0 sent until its peer was gone, and the peer took what it asked for.
-fn ends_early<R: Threads + Wait + Sync>(rt: &R, alloc: Global) -> Option<bool> {
-    let all = run_sites(rt, alloc, jobs_left(alloc)?)?;
+fn are_early(all: &[Option<Outcome>]) -> Option<bool> {
     let stays = all.get(0)?.as_ref()?;
     let leaves = all.get(1)?.as_ref()?;
     let (_, turns, sent, _) = numbers(stays.reports.as_slice().first()?);
     let early = 4 <= sent && sent <= 21 && turns == sent.saturating_add(1);
     let heard = numbers(stays.reports.as_slice().last()?) == (2, 4, 0, 0);
     Some(early && heard && has_reports(leaves, 2, &[(1, 4, 4, 0), (2, 4, 0, 0)]))
+}
+
+fn ends_early<R: Threads + Wait + Sync>(rt: &R, alloc: Global) -> Option<bool> {
+    let all = run_sites(rt, alloc, jobs_left(alloc)?)?;
+    are_early(all.as_slice())
 }
 
 #[test]
@@ -84,12 +88,15 @@ fn entries_of(ended: &Outcome) -> Option<(usize, usize)> {
 }
 
 // Whether both runners ended as the log was full.
-fn fills<R: Threads + Wait + Sync>(rt: &R, alloc: Global) -> Option<bool> {
-    let ended = stopped(rt, alloc, 16, None)?;
+fn is_full(ended: &Outcome) -> Option<bool> {
     let after = matches!(ended.after, Some(Reply::Refused(Refusal::LogFull)));
     let (_, turns, sent, memory) = numbers(ended.reports.as_slice().first()?);
     let early = turns <= 9 && sent <= turns && memory == 0;
-    Some(early && after && ended.marks == (0, 2) && entries_of(&ended)? == (16, 0))
+    Some(early && after && ended.marks == (0, 2) && entries_of(ended)? == (16, 0))
+}
+
+fn fills<R: Threads + Wait + Sync>(rt: &R, alloc: Global) -> Option<bool> {
+    is_full(&stopped(rt, alloc, 16, None)?)
 }
 
 #[test]
@@ -98,8 +105,7 @@ fn a_full_log_ends_all_runs(rt: HostRuntime) {
 }
 
 // Whether both runners ended as the store failed, one of them with its fault.
-fn freezes<R: Threads + Wait + Sync>(rt: &R, alloc: Global) -> Option<bool> {
-    let ended = stopped(rt, alloc, 1024, Some(0))?;
+fn is_frozen(ended: &Outcome) -> Option<bool> {
     let after = matches!(ended.after, Some(Reply::Refused(Refusal::Frozen)));
     let sends = numbers(ended.reports.as_slice().first()?);
     let hears = numbers(ended.reports.as_slice().last()?);
@@ -108,7 +114,11 @@ fn freezes<R: Threads + Wait + Sync>(rt: &R, alloc: Global) -> Option<bool> {
         (2, 1, 0, 0) => sends == (1, 1, 0, 0),
         _ => false,
     };
-    Some(fault && after && ended.marks == (2, 0) && entries_of(&ended)? == (1, 1))
+    Some(fault && after && ended.marks == (2, 0) && entries_of(ended)? == (1, 1))
+}
+
+fn freezes<R: Threads + Wait + Sync>(rt: &R, alloc: Global) -> Option<bool> {
+    is_frozen(&stopped(rt, alloc, 1024, Some(0))?)
 }
 
 #[test]

@@ -10,6 +10,11 @@ use std::alloc::Global;
 use std::sync::Wait;
 use std::thread::Threads;
 
+// The book of three sites before any operation.
+fn fresh(alloc: Global) -> Option<Book> {
+    Book::genesis(alloc, &layout_of(alloc, THREE)?).ok()
+}
+
 // How many counters of a book a delta raises.
 fn join(book: &mut Book, delta: &Delta) -> Option<u64> {
     book.check(delta).ok()?;
@@ -47,22 +52,32 @@ fn join_told(ended: &Outcome, pass: u16, told: &mut Book, known: &mut Book) -> O
     Some(rose)
 }
 
-// How many counters that were told to a site it does not know, and how many it knows of others that nobody told.
-fn unlike(alloc: Global, all: &[Option<Outcome>], site: u16) -> Option<(u64, u64)> {
-    let layout = layout_of(alloc, THREE)?;
-    let mut told = Book::genesis(alloc, &layout).ok()?;
-    let mut known = Book::genesis(alloc, &layout).ok()?;
-    let knows = all.get(usize::from(site))?.as_ref()?.known.as_ref()?;
-    join(&mut known, knows)?;
+// The same of what all others have told to a site.
+fn join_all_told(
+    all: &[Option<Outcome>],
+    site: u16,
+    told: &mut Book,
+    known: &mut Book,
+) -> Option<u64> {
     let mut unknown = 0u64;
     for from in 0..3u16 {
         if from != site {
             let ended = all.get(usize::from(from))?.as_ref()?;
-            let rose = join_told(ended, port_to(from, site), &mut told, &mut known)?;
+            let rose = join_told(ended, port_to(from, site), told, known)?;
             unknown = unknown.saturating_add(rose);
         }
     }
+    Some(unknown)
+}
+
+// How many counters that were told to a site it does not know, and how many it knows of others that nobody told.
+fn unlike(alloc: Global, all: &[Option<Outcome>], site: u16) -> Option<(u64, u64)> {
+    let knows = all.get(usize::from(site))?.as_ref()?.known.as_ref()?;
     let others = foreign(alloc, knows, site)?;
+    let mut told = fresh(alloc)?;
+    let mut known = fresh(alloc)?;
+    join(&mut known, knows)?;
+    let unknown = join_all_told(all, site, &mut told, &mut known)?;
     Some((unknown, join(&mut told, &others)?))
 }
 
