@@ -22,6 +22,7 @@ import join
 EVENTS = 200_000
 SESSIONS = 60_000
 COUNTED = 4_000
+SHARES = (25, 25, 4, 4, 11, 10, 10, 10.9, 0.1)
 
 
 def layout(records, sites, seats):
@@ -33,10 +34,9 @@ def layout(records, sites, seats):
     return f"sites = {sites}\n" + "".join(named)
 
 
-def events(records, sites, holders, count=EVENTS):
+def events(records, sites, holders, count=EVENTS, shares=SHARES):
     """Calls, messages and restarts, in the shares in which a busy store may see them."""
     kinds = ("read", "leave", "announce", "write", "give", "help", "send", "take", "restart")
-    shares = (25, 25, 4, 4, 11, 10, 10, 10.9, 0.1)
     sent = 0
     for kind in random.choices(kinds, shares, k=count):
         site, record = random.randrange(sites), random.randrange(records)

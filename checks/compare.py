@@ -1,8 +1,9 @@
 #!/usr/bin/env python3
-"""Compares `play` and `site` of the built program with the second reading, on random scripts.
+"""Compares `play`, `site` and `judge` of the built program with the second reading, on random scripts and closed logs.
 
     compare.py play PROGRAM [EVENTS] [SEED]    each script: what it writes, and its exit status
     compare.py site PROGRAM [CALLS] [SEED]     each run over a store, and what the store then holds
+    compare.py judge PROGRAM [LOGS] [SEED]     the logs of forged_logs.py, then so many forged ones and some honest ones
 
 Stops at the first difference and leaves its files; else tells how often each reply came. Some runs
 of `site` are killed: the next one goes on behind some call, and behind all that were answered.
@@ -20,11 +21,15 @@ from contextlib import closing
 from itertools import zip_longest
 from pathlib import Path
 
+import forged_logs
+import random_logs as logs
 import random_scripts as scripts
+import second_judge as second
 import second_site as rules
 
 
 NUMBERS = re.compile(r" \d+|(?<=\{).*")
+VERDICTS = re.compile(r" \d+| record \S+| (site|at|origin)(?= )")
 
 
 def compare(what, told, wanted):
@@ -159,8 +164,42 @@ def site(program, calls, rng, folder, counts):
     counts.update(NUMBERS.sub("", it) for it in replies)
 
 
+def judged(program, layout, data, cut, folder):
+    """What the program and the second reading say of closed logs; of consistent ones also that a writer is alone."""
+    Path(f"{folder}/layout.toml").write_text(scripts.toml(layout), "ascii")
+    told, status, replays = second.answer(data, layout, cut)
+    words = [program, "judge", "--layout", f"{folder}/layout.toml"]
+    words += [] if cut is None else ["--cut", ",".join(map(str, cut))]
+    run(words, f"{folder}/logs", data, [f"{told}'' {status}"])
+    verdict = told.split("\n")[-2]
+    if verdict == "consistent" and not second.is_alone(layout, replays):
+        sys.exit(f"{folder}/logs: consistent, and a writer is not alone")
+    return verdict
+
+
+def judge(program, forgeries, rng, folder, counts):
+    for layout, data, cut, verdict in forged_logs.cases():
+        told = judged(program, layout, data, cut, folder)
+        compare(f"{folder}/logs", told, verdict)
+        counts[f"{VERDICTS.sub('', told)} (by hand)"] += 1
+    while counts.total() < forgeries:
+        lies = rng.choice([0, 0, 0.1, 0.5])
+        story = logs.Story(rng, rng.choice([10, 60, 60, 250]), lies)
+        for cut in [None, rng.choice(story.moments)] if not lies else []:
+            data = logs.text_of(rng, story.logs, story.layout).encode()
+            compare(f"{folder}/logs", judged(program, story.layout, data, cut, folder), "consistent")
+            counts["consistent (honest)"] += 1
+        for _ in range(9):
+            told = logs.forged(rng, story) if rng.random() < 0.9 or not lies else story.logs
+            data = logs.text_of(rng, told, story.layout).encode()
+            if rng.random() < 0.1:
+                data = logs.changed_bytes(rng, data)
+            told = judged(program, story.layout, data, logs.a_cut(rng, story, told), folder)
+            counts[f"{VERDICTS.sub('', told)} (forged)"] += 1
+
+
 if __name__ == "__main__":
-    default = {"play": (play, "100000", "1"), "site": (site, "20000", "1")}
+    default = {"play": (play, "100000", "1"), "site": (site, "20000", "1"), "judge": (judge, "10000", "1")}
     if not 3 <= len(sys.argv) <= 5 or sys.argv[1] not in default:
         sys.exit(__doc__)
     command, *numbers = default[sys.argv[1]]

@@ -144,8 +144,8 @@ def text_of(delta):
     return json.dumps(delta, separators=(",", ":"), sort_keys=True)
 
 
-def read(line, layout):
-    """The name of the line's first fault and None, or None and its rows."""
+def decode(line):
+    """The name of the first fault of a text and None, or None and the rows of its delta."""
     if len(line) > TEXT_LIMIT:
         return "TooLong", None
     try:
@@ -158,11 +158,17 @@ def read(line, layout):
         return "NotJson", None
     if not is_delta(value) or text_of(value) != text:
         return "NotCanonical", None
+    return None, value["rows"]
+
+
+def read(line, layout):
+    """The name of the line's first fault and None, or None and its rows."""
+    fault, rows = decode(line)
     for name, fits in (("OtherLayout", is_placed), ("BadRow", is_valid)):
-        for i, row in enumerate(value["rows"]):
+        for i, row in enumerate(rows or []):
             if not fits(layout, row):
                 return f"{name} {i}", None
-    return None, value["rows"]
+    return fault, rows
 
 
 def start(layout, r, s):
