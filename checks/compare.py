@@ -5,7 +5,7 @@
     compare.py site PROGRAM [CALLS] [SEED]     each run over a store, and what the store then holds
     compare.py judge PROGRAM [LOGS] [SEED]     the logs of forged_logs.py, then so many forged ones and some honest ones
 
-Stops at the first difference and leaves its files; else tells how often each reply came. Some runs
+Stops at the first difference and leaves its files; else tells how often each reply or verdict came. Some runs
 of `site` are killed: the next one goes on behind some call, and behind all that were answered.
 """
 import random
@@ -29,6 +29,7 @@ import second_site as rules
 
 
 NUMBERS = re.compile(r" \d+|(?<=\{).*")
+NOT_ALONE = "(forged logs with a writer that is not alone, or more readers than seats)"
 VERDICTS = re.compile(r" \d+| record \S+| (site|at|origin)(?= )")
 
 
@@ -165,37 +166,40 @@ def site(program, calls, rng, folder, counts):
 
 
 def judged(program, layout, data, cut, folder):
-    """What the program and the second reading say of closed logs; of consistent ones also that a writer is alone."""
+    """What the program and the second reading say of closed logs, and whether writers are alone at the cut."""
     Path(f"{folder}/layout.toml").write_text(scripts.toml(layout), "ascii")
     told, status, replays = second.answer(data, layout, cut)
     words = [program, "judge", "--layout", f"{folder}/layout.toml"]
     words += [] if cut is None else ["--cut", ",".join(map(str, cut))]
     run(words, f"{folder}/logs", data, [f"{told}'' {status}"])
-    verdict = told.split("\n")[-2]
-    if verdict == "consistent" and not second.is_alone(layout, replays):
+    verdict, alone = told.split("\n")[-2], not replays or second.is_alone(layout, replays)
+    if verdict == "consistent" and not alone:
         sys.exit(f"{folder}/logs: consistent, and a writer is not alone")
-    return verdict
+    return verdict, alone
 
 
 def judge(program, forgeries, rng, folder, counts):
     for layout, data, cut, verdict in forged_logs.cases():
-        told = judged(program, layout, data, cut, folder)
+        told, _ = judged(program, layout, data, cut, folder)
         compare(f"{folder}/logs", told, verdict)
-        counts[f"{VERDICTS.sub('', told)} (by hand)"] += 1
-    while counts.total() < forgeries:
+        counts[f"{VERDICTS.sub('', told)}, by hand"] += 1
+    forgeries += counts.total()
+    while counts.total() - counts[NOT_ALONE] < forgeries:
         lies = rng.choice([0, 0, 0.1, 0.5])
         story = logs.Story(rng, rng.choice([10, 60, 60, 250]), lies)
         for cut in [None, rng.choice(story.moments)] if not lies else []:
             data = logs.text_of(rng, story.logs, story.layout).encode()
-            compare(f"{folder}/logs", judged(program, story.layout, data, cut, folder), "consistent")
-            counts["consistent (honest)"] += 1
+            compare(f"{folder}/logs", judged(program, story.layout, data, cut, folder)[0], "consistent")
+            counts["consistent, honest"] += 1
+            forgeries += 1
         for _ in range(9):
             told = logs.forged(rng, story) if rng.random() < 0.9 or not lies else story.logs
             data = logs.text_of(rng, told, story.layout).encode()
             if rng.random() < 0.1:
                 data = logs.changed_bytes(rng, data)
-            told = judged(program, story.layout, data, logs.a_cut(rng, story, told), folder)
-            counts[f"{VERDICTS.sub('', told)} (forged)"] += 1
+            verdict, alone = judged(program, story.layout, data, logs.a_cut(rng, story, told), folder)
+            counts[f"{VERDICTS.sub('', verdict)}, forged"] += 1
+            counts[NOT_ALONE] += not alone
 
 
 if __name__ == "__main__":
@@ -208,6 +212,7 @@ if __name__ == "__main__":
     command(sys.argv[2], number, random.Random(seed), folder, counts)
     for name, times in counts.most_common():
         print(f"{times:9,} {name}")
-    replies, seconds = counts.total() - counts["(runs killed)"], time.monotonic() - began
-    print(f"{replies:,} replies in {seconds:.0f} s, all alike")
+    told = counts.total() - counts["(runs killed)"] - counts[NOT_ALONE]
+    noun, seconds = "logs" if command is judge else "replies", time.monotonic() - began
+    print(f"{told:,} {noun} in {seconds:.0f} s, all alike")
     shutil.rmtree(folder)

@@ -204,7 +204,7 @@ def a_cut(rng, story, logs):
         return cut[kind]
     s = rng.randrange(len(most))
     if kind == "short":
-        return rng.choice([most[:-1], [*most, 0], []])
+        return rng.choice([most[:-1] or [0, 0], [*most, 0]])
     add = rng.choice([1, 2**64 - 1 - most[s]]) if kind == "above" else 0
     return [most[s] + add if i == s and add else rng.randint(max(0, n - 3), n) if i == s else n
             for i, n in enumerate(most if add else moment)]

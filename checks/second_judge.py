@@ -132,6 +132,7 @@ class Replay:
 
     def __init__(self, layout, site, runs, cut):
         self.site, self.cut, self.done, self.fault, self.merges = site, cut, 0, None, []
+        self.own, self.inside = [], []
         known = runs[0].first.layout if runs else layout
         self.at = self.tried = rules.Site(known, site)
         self.look()

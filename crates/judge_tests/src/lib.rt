@@ -5,6 +5,8 @@
 #[cfg(test)]
 mod changes;
 #[cfg(test)]
+mod growths;
+#[cfg(test)]
 mod judged;
 #[cfg(test)]
 mod openings;

@@ -33,7 +33,7 @@ static TABLE: &str =
 fn first_other_cut<R: Wait>(rt: &R, alloc: Global) -> Option<(Option<usize>, bool)> {
     let (plan, steps) = story_of(Told::Helped);
     let layout = layout_of(alloc, plan.sites, plan.seats, plan.problem)?;
-    let transcripts = three_closed(rt, alloc, plan, steps)?;
+    let transcripts = three_closed(rt, alloc, plan, (steps, true))?;
     let table = has_table(alloc, transcripts.as_slice(), &[8, 6, 0], TABLE);
     for (k, (cut, wanted)) in CUTS.iter().enumerate() {
         if verdict_at(alloc, &layout, transcripts.as_slice(), cut.as_slice()) != Some(*wanted) {

@@ -116,6 +116,22 @@ fn all_closed<L: Opening, M: Opening, N: Opening, R: Wait>(
     Some(all)
 }
 
+// Goes through the steps. One that can't be gone, for want of memory or of the message that it takes, ends the story where
+// it has to go on, and is left out else.
+fn go_all<L: Opening, M: Opening, N: Opening, R: Wait>(
+    rt: &R,
+    alloc: Global,
+    trio: &mut Trio<L, M, N>,
+    (steps, has_all): (&[Step], bool),
+) -> Option<()> {
+    for step in steps {
+        if go(rt, alloc, trio, *step).is_none() && has_all {
+            return None;
+        }
+    }
+    Some(())
+}
+
 fn trio_over<L: Opening, M: Opening, N: Opening, R: Wait>(
     rt: &R,
     alloc: Global,
@@ -123,7 +139,7 @@ fn trio_over<L: Opening, M: Opening, N: Opening, R: Wait>(
     blank_0: Blank,
     blank_1: Blank,
     blank_2: Blank,
-    steps: &[Step],
+    steps: (&[Step], bool),
 ) -> Option<Vec<Transcript>>
     requires first { (blank_0.name ≡ L.name) × (blank_0.parts ≡ L.parts) × (blank_0.parts ≡ 1) × ((d : DurableState) → ¬ L.kept d) }
     requires second { (blank_1.name ≡ M.name) × (blank_1.parts ≡ M.parts) × (blank_1.parts ≡ 1) × ((d : DurableState) → ¬ M.kept d) }
@@ -142,18 +158,17 @@ fn trio_over<L: Opening, M: Opening, N: Opening, R: Wait>(
         third,
         messages: Vec::new(alloc),
     };
-    for step in steps {
-        go(rt, alloc, &mut trio, *step)?;
-    }
+    go_all(rt, alloc, &mut trio, steps)?;
     all_closed(rt, alloc, trio)
 }
 
-/// The logs that three sites leave of a story whose steps are calls.
+/// The logs that three sites leave of a story whose steps are calls: of all of them, or, without the flag, of those for which
+/// there is memory.
 pub fn three_closed<R: Wait>(
     rt: &R,
     alloc: Global,
     plan: Plan,
-    steps: &[Step],
+    steps: (&[Step], bool),
 ) -> Option<Vec<Transcript>> {
     let blank_0 = Blank::new(1);
     let blank_1 = Blank::new(1);

@@ -20,6 +20,8 @@ mod growths;
 #[cfg(test)]
 mod layout_lines;
 #[cfg(test)]
+mod logs_judged;
+#[cfg(test)]
 mod shells;
 #[cfg(test)]
 mod sites;
