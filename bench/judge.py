@@ -5,7 +5,8 @@ Run it from anywhere, once ./seat_cli has built the program: python3 bench/judge
 FOLDER keeps the inputs; without it they lie in a temporary folder, which is removed. The logs are those of the events of a
 script of `play`, as checks/second_site.py answers them; a restart begins a run. All runs are on one core, and `judge` and `play`
 take turns. Each time is the least of six runs; memory is told by GNU time. Where `valgrind` is there, the last columns have the
-instructions that an entry of the logs and an event of the script take: those of a run over COUNTED events less those of a run over half as many.
+instructions that an entry of the logs takes, those of them that judge it once it is read, and those that an event of the script
+takes: those of a run over COUNTED events less those of a run over half as many.
 """
 import json
 import os
@@ -93,14 +94,14 @@ def lines_in(path):
         return sum(1 for _ in it)
 
 
-def instructions(words, path):
+def instructions(words, path, within=()):
     """The instructions of an entry or event, or nothing without the tool that counts them."""
     if not shutil.which("valgrind"):
         return ""
     counts = []
     for part in ("more", "fewer"):
         with open(path.format(part), "rb") as it:
-            counts.append(play.instructions(words, it.readlines()))
+            counts.append(play.instructions(words, it.readlines(), within))
     return f"{(counts[0] - counts[1]) / (play.COUNTED - play.COUNTED // 2):.0f}"
 
 
@@ -113,7 +114,7 @@ def measure(keep):
     subprocess.run([sys.executable, __file__, "--make", keep], check=True)
     print(f"{os.cpu_count()} cores of {join.processor()}, {time.strftime('%Y-%m-%d')}")
     print(f"times: the least of {join.ROUNDS} runs on one core, in turns")
-    head = ("MB", "lines", "CPU s", "half s", "ratio", "lines/s", "peak MB", "half MB", "play s", "of play", "instr.", "play's")
+    head = ("MB", "lines", "CPU s", "half s", "ratio", "lines/s", "peak MB", "half MB", "play s", "of play", "instr.", "judging", "play's")
     print(f"{'logs':<20}" + "".join(f"{it:>9}" for it in head))
     for number, (name, _, _) in enumerate(LOGS):
         words = [join.PROGRAM, "judge", "--layout", f"{keep}/{number}.toml"]
@@ -127,7 +128,9 @@ def measure(keep):
         figures = (
             f"{os.path.getsize(whole) / 1e6:.2f}", lines, f"{judged:.3f}", f"{part:.3f}", f"{judged / part:.2f}", f"{lines / judged:.0f}",
             f"{join.peak_of(words, whole):.1f}", f"{join.peak_of(words, half):.1f}", f"{played:.3f}", f"{judged / played:.2f}",
-            instructions(words, f"{keep}/{number}_{{}}.logs"), instructions(other, f"{keep}/{number}_{{}}.script"))
+            instructions(words, f"{keep}/{number}_{{}}.logs"),
+            instructions(words, f"{keep}/{number}_{{}}.logs", ["judge_engine::engine::judgement"]),
+            instructions(other, f"{keep}/{number}_{{}}.script"))
         print(f"{name:<20}" + "".join(f"{it:>9}" for it in figures), flush=True)
 
 

@@ -104,12 +104,12 @@ def first(number, lines, count):
     return lines[:count]
 
 
-def instructions(words, lines):
-    """The instructions of a run over these lines."""
+def instructions(words, lines, within=()):
+    """The instructions of a run over these lines, or of its calls of these functions alone."""
     with tempfile.TemporaryFile() as script:
         script.writelines(lines)
         script.seek(0)
-        tool = ["valgrind", "--tool=callgrind", "--callgrind-out-file=/dev/null"]
+        tool = ["valgrind", "--tool=callgrind", "--callgrind-out-file=/dev/null", *(f"--toggle-collect={it}" for it in within)]
         ran = subprocess.run([*tool, *words], stdin=script, stdout=subprocess.DEVNULL, stderr=subprocess.PIPE, check=True)
     return int(re.search(rb"Collected : (\d+)", ran.stderr)[1])
 
