@@ -1,13 +1,16 @@
 #!/usr/bin/env python3
-"""Compares `play`, `site` and `judge` of the built program with the second reading, on random scripts and closed logs.
+"""Compares `play`, `site`, `judge` and `run` of the built program with the second reading, on random scripts and closed logs.
 
     compare.py play PROGRAM [EVENTS] [SEED]    each script: what it writes, and its exit status
     compare.py site PROGRAM [CALLS] [SEED]     each run over a store, and what the store then holds
     compare.py judge PROGRAM [LOGS] [SEED]     the logs of forged_logs.py, then so many forged ones and some honest ones
+    compare.py run PROGRAM [RUNS] [SEED]       each script: its closed logs, and what `judge` says
 
 Stops at the first difference and leaves its files; else tells how often each reply or verdict came. Some runs
-of `site` are killed: the next one goes on behind some call, and behind all that were answered.
+of `site` are killed: the next one goes on behind some call, and behind all that were answered. The
+replies of `run` depend on the schedule: each log is replayed, and has the replies that were written.
 """
+import json
 import random
 import re
 import shutil
@@ -202,8 +205,65 @@ def judge(program, forgeries, rng, folder, counts):
             counts[NOT_ALONE] += not alone
 
 
+def script_of_calls(rng, layout, length):
+    """Calls at random sites; which of them will be refused, only the schedule decides."""
+    world = rules.World(layout, layout["sites"])
+    records, lines = rng.choices(range(len(layout["record"])), k=rng.choice([1, 3, 9])), []
+    for _ in range(length):
+        s = rng.randrange(layout["sites"])
+        lines.append(f"{s} {scripts.call(rng, world.sites[s], records)}".encode())
+        world.answer(lines[-1])
+    return lines
+
+
+def replayed(path, layout, counts):
+    """The replies to each site's caller, and its calls, by a log that is replayed from its start."""
+    callers, at = {}, None
+    for line in Path(path).read_text("ascii").splitlines():
+        entry = json.loads(line)
+        if "book" in entry:
+            s, empty = entry["site"], rules.reader.text_of({"from": entry["site"], "rows": [], "v": 1})
+            start = {"book": empty, "sessions": [], "site": len(callers), "sites": layout["sites"]}
+            compare(path, str(entry), str(start))
+            at, callers[s] = rules.Run(rules.Site(layout, s), layout), []
+            continue
+        call = entry["call"].replace("?65535", "no-such-record")
+        compare(f"{path}: {call}", entry["reply"], at.answer(call.encode()))
+        kind = entry["reply"] if not entry["reply"].startswith("{") else "(delta)"
+        counts[NUMBERS.sub("", kind)] += 1
+        if entry["pass"] == 0:
+            callers[s].append((call, entry["reply"]))
+    return callers
+
+
+def sites_at_once(program, runs, rng, folder, counts):
+    layout_file, log = f"{folder}/layout.toml", f"{folder}/sites.log"
+    for _ in range(runs):
+        layout, _ = scripts.a_layout(rng)
+        Path(layout_file).write_text(scripts.toml(layout), "ascii")
+        lines = script_of_calls(rng, layout, rng.choice([0, 20, 200, 1000]))
+        turns = rng.choice([1, 5, 20, 40] if layout["sites"] < 16 else [1, 2])
+        words = [program, "run", "--turns", str(turns), "--out", log, "--layout", layout_file]
+        Path(f"{folder}/script").write_bytes(b"\n".join(lines))
+        done = subprocess.run(words, input=b"\n".join(lines), capture_output=True, check=False)
+        callers = replayed(log, layout, counts)
+        calls = [(s, call) for s, log_of in callers.items() for call, _ in log_of]
+        asked = [(s, it) for s in range(layout["sites"]) for it in lines_of(lines, s)]
+        compare(f"{folder}/script", "\n".join(map(str, calls)), "\n".join(map(str, asked)))
+        replies = "".join(f"{s}: {it}\n" for s, log_of in callers.items() for _, it in log_of)
+        told = f"{done.stdout.decode()}{done.stderr.decode()!r} {done.returncode}"
+        compare(" ".join(words), told, f"{replies}consistent\n'' 0")
+        done = subprocess.run([program, "judge", "--layout", layout_file], stdin=open(log, "rb"), capture_output=True, check=False)
+        told = f"{len(done.stdout.splitlines())} {done.stdout.splitlines()[-1:]} {done.returncode}"
+        compare(f"judge < {log}", told, f"{layout['sites'] + 2} {[b'consistent']} 0")
+
+
+def lines_of(lines, s):
+    return [it.decode().split(" ", 1)[1] for it in lines if it.startswith(f"{s} ".encode())]
+
+
 if __name__ == "__main__":
-    default = {"play": (play, "100000", "1"), "site": (site, "20000", "1"), "judge": (judge, "10000", "1")}
+    default = {"play": (play, "100000", "1"), "site": (site, "20000", "1"), "judge": (judge, "10000", "1"), "run": (sites_at_once, "200", "1")}
     if not 3 <= len(sys.argv) <= 5 or sys.argv[1] not in default:
         sys.exit(__doc__)
     command, *numbers = default[sys.argv[1]]
