@@ -48,6 +48,9 @@ for _ in $(seq 200); do cat examples/site_1.deltas examples/site_0.deltas; done 
 refused_in_turn examples/joined.txt 0 "$work/many" join --layout examples/three_sites.toml
 refused_in_turn examples/maintenance.txt 0 examples/maintenance.script play --tables --layout examples/three_sites.toml
 refused_in_turn examples/maintenance.verdict 0 examples/maintenance.log judge --layout examples/three_sites.toml
+sed '$s/admitted/admited/' examples/maintenance.log >"$work/logs"
+echo "line $(wc -l <"$work/logs") refused NotTranscript" >"$work/refusal"
+refused_in_turn "$work/refusal" 4 "$work/logs" judge --layout examples/three_sites.toml
 refused_in_turn examples/at_once.txt 0 examples/at_once.script run --turns 1 --layout examples/three_sites.toml
 printf '0 leave a 1\n' >"$work/script"
 printf '0: refused NotHere\nconsistent\n' >"$work/replies"

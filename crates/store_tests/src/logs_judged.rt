@@ -1,15 +1,15 @@
-//! Closed logs of site 0 over stores, judged: its layout grows between two openings, or its store stops at each call in turn.
-//! Site 1 was opened and closed.
-use crate::databases::{crashed, empty_files, files_of, fused, in_memory, layout, opened};
+//! Closed logs of site 0 over stores on files, judged: its layout grows between two openings, or its store stops at each call in
+//! turn. Site 1 was opened and closed.
+use crate::databases::layout;
 use crate::desks::{GIVE, READ_7, READ_8, Told};
+use crate::files::{Work, closed_after, empty_files, found_after_crash, fused, left_after};
 use crate::sites::{At, run_site};
 use admission_core::Ask;
 use desk_log::{Desk, Run, Runs, Transcript};
 use log_judge::{Verdict, are_of_sites, judge};
 use merge_core::Layout;
 use site_store::MemoryKeeper;
-use sqlite::Files;
-use sqlite_disk::Crash;
+use sqlite::{Alter, Connection};
 use std::alloc::Global;
 use std::sync::Wait;
 
@@ -41,18 +41,56 @@ fn verdict_on(alloc: Global, first: Transcript, cut: &[u64]) -> Option<Verdict> 
     judge(alloc, &layout, all.as_slice(), cut).ok()
 }
 
+/// An opening of site 0 with these calls at so many sites: how far it comes, and its log.
+#[derive(Drop)]
+struct Opens {
+    sites: u16,
+    calls: &'static [(Ask, Told)],
+}
+
+impl Work for Opens {
+    type Found = (At, Option<Transcript>);
+
+    fn over<S: Alter + Drop, R: Wait>(
+        &self,
+        rt: &R,
+        alloc: Global,
+        connection: Connection<S>,
+    ) -> Option<((At, Option<Transcript>), Connection<S>)> {
+        let (at, log, connection) = run_site(rt, alloc, connection, self.sites, self.calls)?;
+        Some(((at, log), connection))
+    }
+}
+
+/// A site that is alone answers to a reader and to a gift.
+static ALONE: Opens = Opens {
+    sites: 1,
+    calls: &[(READ_7, Told::Admitted), (GIVE, Told::NoSite)],
+};
+
+/// It has a second site beside it.
+static GROWN: Opens = Opens {
+    sites: 2,
+    calls: &[(GIVE, Told::Given)],
+};
+
+/// Two readers enter.
+static TWO_ENTER: Opens = Opens {
+    sites: 2,
+    calls: &[(READ_7, Told::Admitted), (READ_8, Told::Admitted)],
+};
+
+static NO_CALL: Opens = Opens {
+    sites: 2,
+    calls: &[],
+};
+
 // ---- a layout that grows
-
-/// What a site that is alone answers to a reader and to a gift.
-static ALONE: [(Ask, Told); 2] = [(READ_7, Told::Admitted), (GIVE, Told::NoSite)];
-
-/// What it answers once it has a second site beside it.
-static GROWN: [(Ask, Told); 1] = [(GIVE, Told::Given)];
 
 /// The log of a site that was opened alone, and then beside a second one, over one store.
 fn grown<R: Wait>(rt: &R, alloc: Global) -> Option<Transcript> {
-    let (at, first, connection) = run_site(rt, alloc, in_memory(alloc)?, 1, &ALONE)?;
-    let (then, later, _) = run_site(rt, alloc, connection, 2, &GROWN)?;
+    let ((at, first), files) = closed_after(rt, alloc, empty_files(alloc), &ALONE)?;
+    let ((then, later), _) = closed_after(rt, alloc, files, &GROWN)?;
     let mut all = first?;
     all.append(later?).ok()?;
     (at == At::Served(2) && then == At::Served(1)).then_some(all)
@@ -72,49 +110,25 @@ fn a_site_whose_layout_grows_leaves_a_consistent_log(rt: HostRuntime) {
 
 // ---- a store that stops
 
-/// Two readers enter.
-static TWO_ENTER: [(Ask, Told); 2] = [(READ_7, Told::Admitted), (READ_8, Told::Admitted)];
-
-/// How far a site came over files, its log, and what a crash then leaves of the files.
-fn first_on<D: Crash + Drop, R: Wait>(
-    rt: &R,
-    alloc: Global,
-    files: Files<D>,
-) -> Option<(At, Option<Transcript>, Files<D>)> {
-    match opened(alloc, files) {
-        Ok(connection) => {
-            let (at, log, connection) = run_site(rt, alloc, connection, 2, &TWO_ENTER)?;
-            Some((at, log, crashed(files_of(connection))))
-        }
-        Err(left) => Some((At::Unopened, None, crashed(left))),
-    }
-}
-
-/// The log of an opening without a call.
-fn later_on<D: Crash + Drop, R: Wait>(
-    rt: &R,
-    alloc: Global,
-    files: Files<D>,
-) -> Option<Transcript> {
-    match opened(alloc, files) {
-        Ok(connection) => {
-            let (_, log, _) = run_site(rt, alloc, connection, 2, &[])?;
-            log
-        }
-        Err(_) => None,
-    }
-}
-
-/// How far a site came over files that stop, how many sessions it then began with, and the verdict on both openings.
-fn stopped<R: Wait>(rt: &R, alloc: Global, log: u64, db: u64) -> Option<(At, usize, Verdict)> {
-    let (at, first, files) = first_on(rt, alloc, fused(empty_files(alloc), log, db))?;
-    let Some(mut all) = first else {
-        return Some((at, 0, Verdict::Consistent));
-    };
-    let later = later_on(rt, alloc, files)?;
+/// The log of both openings, how many entries the first one left, and how many sessions the second began with.
+fn both(first: Transcript, later: Transcript) -> Option<(Transcript, u64, usize)> {
+    let mut all = first;
     let entries = all.runs.as_slice().first()?.entries.len() as u64;
     let began_with = later.runs.as_slice().first()?.first.sessions().len();
     all.append(later).ok()?;
+    Some((all, entries, began_with))
+}
+
+/// How far a site came over files that stop after so many calls, how many sessions it then began with, and the verdict on both
+/// openings; without a log of the first one there is nothing to judge.
+fn stopped<R: Wait>(rt: &R, alloc: Global, log: u64, db: u64) -> Option<(At, usize, Verdict)> {
+    let files = fused(empty_files(alloc), log, db);
+    let (first, files) = left_after(rt, alloc, files, &TWO_ENTER)?;
+    let Some((at, Some(first))) = first else {
+        return Some((At::Unopened, 0, Verdict::Consistent));
+    };
+    let (_, later) = found_after_crash(rt, alloc, files, &NO_CALL)?;
+    let (all, entries, began_with) = both(first, later?)?;
     Some((at, began_with, verdict_on(alloc, all, &[entries, 0])?))
 }
 
