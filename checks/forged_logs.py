@@ -147,6 +147,9 @@ CASES = [
     ("the site grows, and gives", TWO, "0/1:\n0:\ngive a 1 1 -> given\n1:\ntake a0 [2,1] -> merged 1", None, "consistent"),
     ("it gives before it grows", TWO, "0/1:\ngive a 1 1 -> given\n0: a0 [2,1]\n1:\ntake a0 [2,1] -> merged 1", None, "bad reply site 0 at 0"),
     ("it knows fewer sites than before", TWO, "0:\n0/1:\n1:\ntake a0 [2,1] -> merged 1", None, "bad joint site 0"),
+    ("it knows more sites than there are", TWO, "0/3:\ntake a0 [2,1] -> merged 1", None, "line 1 refused NotTranscript"),
+    ("it does not know itself", TWO, "0:\n1/1:\ntake a0 [2,1] -> merged 1", None, "line 2 refused NotTranscript"),
+    ("it does not know the home of a record", PAIR, "0/1:\nread a 7 -> admitted", None, "line 1 refused NotTranscript"),
 ]
 
 

@@ -275,7 +275,7 @@ def change_run(rng, story, runs, k):
             runs[k - 1].entries += runs[k].entries
             del runs[k]
         case "sites":
-            known = rng.randint(story.first, story.layout["sites"])
+            known = rng.randint(rng.choice([1, story.first, story.first]), story.layout["sites"])
             if known > first.site:
                 runs[k].first = under(first, known)
         case "counter":
