@@ -13,7 +13,7 @@ rt try --data three_sites.toml="$top/examples/three_sites.toml" -- play --tables
     <"$top/examples/maintenance.script" >"$answer" 2>&1 || { cat "$answer" >&2; exit 1; }
 # Each event beside its reply, then the tables. Behind these, `rt try` tells how the run ended.
 awk -v script="$top/examples/maintenance.script" '
-    /^(checked|run=|rt:)/ { next }
+    /^(checked|races:|run=|rt:)/ { next }
     (getline event < script) > 0 { printf "%-24s%s\n", event, $0; next }
     { print }
 ' "$answer"
