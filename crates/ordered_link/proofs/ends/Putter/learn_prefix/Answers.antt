@@ -1,0 +1,21 @@
+use Rattle.std.proofs.Common.{◌≡◌, ℕ, List, ◌++◌, ap, ◌∙◌}
+use Rattle.crossbeam_channel.specs.Claims.{view}
+use Rattle.ordered_link.specs.declared.rule.Parcel.{Parcel}
+use Rattle.ordered_link.specs.declared.rule.Log.{Log}
+use Rattle.ordered_link.specs.Ends.{TakerState, texts_of}
+use Rattle.ordered_link.proofs.Rules.{merges, texts_append}
+use Rattle.ordered_link.proofs.ends.Putter.learn_prefix.Goals as goal
+
+pub absorb-requires-clause-rule : goal.absorb-requires-clause-rule
+absorb-requires-clause-rule c = merges _ _ _ _ c.self.invariant.1 c.taker.invariant.2
+
+pub returns-clause-prefix : goal.returns-clause-prefix
+returns-clause-prefix c =
+    let items : List Parcel = c.learn_as.ensures.rule.0 in
+    let whole : Log = view c.absorb.new.pass in
+    let taken : texts_of whole.taken ≡ c.args.taker.taken =
+    ap (λ (l : Log). texts_of l.taken) c.absorb.ensures.rule ∙ ap (λ (t : TakerState). t.taken) c.taker.view_is in (
+      texts_of items,
+      ap (λ (l : Log). texts_of l.put) c.learn_as.ensures.channel.2
+          ∙ (ap texts_of c.learn_as.ensures.rule.1 ∙ (texts_append whole.taken items ∙ ap (λ (ts : List (List ℕ)). ts ++ texts_of items) taken)),
+    )

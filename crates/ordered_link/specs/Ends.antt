@@ -1,0 +1,50 @@
+-- The two ends of a link, as contracts see them (this project's own).
+use Rattle.std.specs.Prelude.{◌≡◌, ℕ, true, List, [], ◌∷◌, string_bytes}
+use Rattle.atomic_table.specs.Seated.{TableId}
+use Rattle.atomic_table.specs.declared.badge.Badge.{Badge}
+use Rattle.crossbeam_channel.specs.declared.flavors.array.Key.{Key}
+use Rattle.crossbeam_channel.specs.Claims.{Pass, view}
+use Rattle.ordered_link.specs.declared.rule.Parcel.{Parcel}
+use Rattle.ordered_link.specs.declared.rule.Parcel.TheVariants.{Text, Last}
+use Rattle.ordered_link.specs.declared.rule.Log.{Log}
+
+-- the texts among parcels, in order
+abbrev pub texts_of : List Parcel → List (List ℕ)
+texts_of [] = []
+texts_of (Text s ∷ ps) = string_bytes s ∷ texts_of ps
+texts_of (Last ∷ ps) = texts_of ps
+
+-- what tells one link from another
+abbrev pub LinkId : Type 0
+LinkId = TableId × Badge (Key Parcel)
+
+abbrev pub LinkPass : Type 0
+LinkPass = Pass Parcel Log
+
+-- the link that a pass belongs to
+abbrev pub link_of : LinkPass → LinkId
+link_of p = (p.table_id, p.me.0.of)
+
+-- the texts that a pass has put, and those that it has taken
+abbrev pub put_by : LinkPass → List (List ℕ)
+put_by p = texts_of (view p).put
+
+abbrev pub taken_by : LinkPass → List (List ℕ)
+taken_by p = texts_of (view p).taken
+
+-- the pass is the one that puts, or the one that takes
+abbrev pub MayPut : LinkPass → Type 0
+MayPut p = (view p).puts ≡ true
+
+abbrev pub MayTake : LinkPass → Type 0
+MayTake p = (view p).takes ≡ true
+
+-- an end at which texts are put
+pub record PutterState : Type 0 where
+  pub link : LinkId
+  pub put : List (List ℕ)
+
+-- an end at which texts are taken, or what is left of it
+pub record TakerState : Type 0 where
+  pub link : LinkId
+  pub taken : List (List ℕ)

@@ -1,0 +1,18 @@
+-- The rule of a channel with one pass that puts and one that takes: what was put is what was taken, and then what the
+-- channel holds (this project's own; a first-in first-out queue).
+use Rattle.std.specs.Prelude.{◌≡◌, ℕ, Bool, true, List, ◌++◌}
+use mathlib.Core.Option.{some}
+use lib.ListN.{get_elem?}
+use Rattle.ordered_link.specs.declared.rule.Parcel.{Parcel}
+use Rattle.ordered_link.specs.declared.rule.Log.{Log}
+
+abbrev pub log : Bool → Bool → List Parcel → List Parcel → Log
+log puts takes put taken = record { puts = puts; takes = takes; put = put; taken = taken }
+
+-- a pass that puts has the number of the one that does, and knows what was put; and so of takes
+abbrev pub Fits : ℕ → ℕ → List Parcel → List Parcel → ℕ → Log → Type 0
+Fits putter taker put taken port v = (v.puts ≡ true → (port ≡ putter) × (v.put ≡ put)) × (v.takes ≡ true → (port ≡ taker) × (v.taken ≡ taken))
+
+abbrev pub InOrder : List Parcel → List Log → Type 0
+InOrder items views = (putter : ℕ) × (taker : ℕ) × (put : List Parcel) × (taken : List Parcel) × (put ≡ taken ++ items)
+    × ((port : ℕ) (v : Log) → get_elem? views port ≡ some v → Fits putter taker put taken port v)
