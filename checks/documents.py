@@ -88,6 +88,7 @@ def exported(crate):
 
 
 def first_sentence(text):
+    text = re.sub(r"\[([^\]]*)\]\(\w+::[^)]*\)", r"\1", text)  # links that only rustdoc follows
     return re.split(r"(?<=[.:;])\s", text, maxsplit=1)[0].rstrip(".:;")
 
 
