@@ -2,3 +2,4 @@ pub mod Replies
 pub mod Told
 pub mod Heard
 pub mod Counting
+pub mod Fates

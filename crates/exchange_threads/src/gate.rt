@@ -8,30 +8,14 @@ pub trait Gate {
     fn open(&mut self, turn: u64) -> bool;
 }
 
-/// A gate, and how often it was open.
-#[derive(Drop)]
-pub struct Door<G> {
-    gate: G,
-    pub opened: u64,
-}
-
-impl<G: Gate> Door<G> {
-    /// The gate was not asked yet.
-    pub fn new(gate: G) -> Door<G>
-        ensures { result.opened ≡ 0 }
-    {
-        Door { gate, opened: 0 }
+/// Whether the gate is open at this turn, and how often it was open by now. It is asked, and may wait.
+pub(crate) fn is_open<G: Gate>(gate: &mut G, opened: &mut u64, turn: u64) -> bool
+    requires few { opened.old < 1000000000 }
+    ensures { opened.new ≡ opened.old + (if result then 1 else 0) }
+{
+    let open = gate.open(turn);
+    if open {
+        *opened += 1;
     }
-
-    /// Whether the gate is open at this turn. It is asked, and may wait.
-    pub fn is_open(&mut self, turn: u64) -> bool
-        requires few { self.old.opened < 1000000000 }
-        ensures { self.new.opened ≡ self.old.opened + (if result then 1 else 0) }
-    {
-        let open = self.gate.open(turn);
-        if open {
-            self.opened += 1;
-        }
-        open
-    }
+    open
 }

@@ -1,6 +1,11 @@
-ghost use Rattle.std.specs.Prelude.{◌≡◌, ◌+◌, ◌*◌, ◌<◌, ◌≤◌};
+ghost use Rattle.std.specs.Prelude.{◌≡◌, ◌+◌, ◌*◌, ◌<◌, ◌≤◌, Bool, true, false};
+ghost use Rattle.exchange_threads.specs.Turns.{IsMarked};
+ghost use Rattle.exchange_threads.specs.declared.turn.Turn.TheVariants.{EndsRun};
+ghost use Rattle.exchange_threads.specs.Fates.{HasFate};
 ghost use Rattle.exchange_threads.specs.Inbox.{HearsText, HasHeard, HasRunIn, CanCount, CountsTurn};
 
+use crate::fate::{Fate, merge_fate, unread_fate};
+use crate::inlet::{Inlet, TakeError};
 use crate::report::InReport;
 use crate::turn::Turn;
 use admission_core::Call;
@@ -19,46 +24,86 @@ fn hear_text<K: Keeper, L: Opening, R: Wait>(
     pass: &mut Pass<L>,
     text: &[u8],
     report: &mut InReport,
-) -> Turn
+) -> (Turn, Fate)
     requires room { 0 < report.old.refused.room }
     requires fits { CanCount report.old }
-    ensures hears { HearsText text.now pass.old pass.new report.old report.new result }
+    ensures hears { HearsText text.now pass.old pass.new report.old report.new result.0 }
     ensures counts { CountsTurn report.old report.new }
+    ensures fate { HasFate text.now result.1 pass.old pass.new report.old report.new result.0 }
 {
     report.taken += 1;
+    let place = pass.count();
     match decode(alloc, text) {
         Ok(delta) => {
             let reply = site.call(rt, pass, Call::Merge(delta));
-            report.note_merge(&reply)
+            (report.note_merge(&reply), merge_fate(&reply, place))
         }
         Err(error) => {
             report.note_unread(error);
-            Turn::GoesOn
+            (Turn::GoesOn, unread_fate(error))
         }
     }
 }
 
 // One turn. Room for the name of a refusal is made before a text is taken.
-fn in_turn<K: Keeper, L: Opening, R: Wait>(
+fn in_turn<K: Keeper, L: Opening, I: Inlet, R: Wait>(
     rt: &R,
     alloc: Global,
     site: &Site<K, L>,
     pass: &mut Pass<L>,
-    receiver: &Receiver<String>,
+    inlet: &mut I,
     report: &mut InReport,
 ) -> Turn
     requires fits { CanCount report.old }
+    requires accounts { I.accounts inlet.old pass.old.receipts report.old.taken report.old.memory false }
     ensures heard { HasHeard pass.old pass.new report.old report.new 1 result }
     ensures counts { CountsTurn report.old report.new }
+    ensures accounts { (ended : Bool) × I.accounts inlet.new pass.new.receipts report.new.taken report.new.memory ended × (ended ≡ true → (result ≡ EndsRun) × IsMarked pass.new) }
+    ensures same { I.same inlet.old inlet.new }
 {
     if report.refused.reserve().is_err() {
         report.memory += 1;
         return Turn::IsOver;
     }
-    let Ok(text) = receiver.recv(rt) else {
-        return Turn::EndsRun;
+    let text = match inlet.take(rt) {
+        Ok(text) => text,
+        Err(TakeError::Memory) => {
+            report.memory += 1;
+            return Turn::IsOver;
+        }
+        Err(TakeError::Closed) => return Turn::EndsRun,
     };
-    hear_text(rt, alloc, site, pass, text.as_bytes(), report)
+    let (turn, fate) = hear_text(rt, alloc, site, pass, text.as_bytes(), report);
+    inlet.note(text, fate);
+    turn
+}
+
+/// Runs an inbox of a site for so many turns, of which there are at most 10^9, at any inlet. As [`run_inbox`] does, whose
+/// channel is one. The caller shows that the inlet's account begins with the pass's receipts; afterwards it is right of
+/// what was taken, and where it says that the last text ended the run, the pass has a mark. A take that is refused as
+/// `Closed` ends the run, and one refused as `Memory` the turn.
+pub fn run_inbox_at<K: Keeper, L: Opening, I: Inlet, R: Wait>(
+    rt: &R,
+    alloc: Global,
+    site: &Site<K, L>,
+    pass: &mut Pass<L>,
+    inlet: &mut I,
+    turns: u64,
+) -> InReport
+    requires few { turns ≤ 1000000000 }
+    requires accounts { I.accounts inlet.old pass.old.receipts 0 0 false }
+    ensures ran { HasRunIn pass.old pass.new turns result }
+    ensures accounts { (ended : Bool) × I.accounts inlet.new pass.new.receipts result.taken result.memory ended × (ended ≡ true → IsMarked pass.new) }
+    ensures same { I.same inlet.old inlet.new }
+{
+    let mut report = InReport::new(alloc);
+    'turns: for t in 0..turns {
+        let turn = in_turn(rt, alloc, site, pass, inlet, &mut report);
+        if let Turn::EndsRun = turn {
+            return report;
+        }
+    }
+    report
 }
 
 /// Runs an inbox of a site for so many turns, of which there are at most 10^9. Each turn takes a text, reads it in place,
@@ -81,12 +126,6 @@ pub fn run_inbox<K: Keeper, L: Opening, R: Wait>(
     requires few { turns ≤ 1000000000 }
     ensures { HasRunIn pass.old pass.new turns result }
 {
-    let mut report = InReport::new(alloc);
-    'turns: for t in 0..turns {
-        let turn = in_turn(rt, alloc, site, pass, &receiver, &mut report);
-        if let Turn::EndsRun = turn {
-            return report;
-        }
-    }
-    report
+    let mut inlet = receiver;
+    run_inbox_at(rt, alloc, site, pass, &mut inlet, turns)
 }

@@ -1,13 +1,16 @@
-ghost use Rattle.std.specs.Prelude.{◌≡◌, ◌+◌, ◌<◌, ◌≤◌, length, string_bytes};
+ghost use Rattle.std.specs.Prelude.{◌≡◌, ◌+◌, ◌<◌, ◌≤◌, List, ◌∷◌, ◌++◌, [], Option, None, length};
+ghost use Rattle.merge_core.specs.Delta.{DeltaState};
+ghost use Rattle.session_book.specs.declared.pass.Receipt.{Receipt};
 ghost use Rattle.exchange_threads.specs.declared.turn.Turn.TheVariants.{GoesOn};
-ghost use Rattle.exchange_threads.specs.Outbox.{HasAsked, HasShown, HasTold, HasRunOut, IsOutAt, IsSending, sent_text};
+ghost use Rattle.exchange_threads.specs.Outbox.{HasAsked, HasShown, HasTold, HasRunOut, IsOutAt, IsSending, shown_receipt};
 
-use crate::gate::{Door, Gate};
+use crate::gate::{Gate, is_open};
+use crate::outlet::{Outlet, PutError};
 use crate::report::OutReport;
 use crate::telling::Telling;
 use crate::turn::Turn;
 use admission_core::{Ask, Call, Reply};
-use crossbeam_channel::{SendError, Sender};
+use crossbeam_channel::Sender;
 use durable_keeper::Keeper;
 use merge_core::Delta;
 use session_book::{Opening, Pass, Site};
@@ -33,86 +36,84 @@ fn ask_help<K: Keeper, L: Opening, R: Wait>(
     told.note_help(&reply)
 }
 
-// Hands the text that is due to the channel, and waits until there is room.
-fn put<R: Wait>(
-    rt: &R,
-    sender: &Sender<String>,
-    _told: &Telling,
-    _snapshot: &Delta,
-    text: String,
-) -> Result<(), SendError<String>>
-    requires due { string_bytes text ≡ sent_text _told.now.report.sent _told.now.last _snapshot.now }
-{
-    sender.send(rt, text)
-}
-
-// Sends the text of a snapshot, and keeps the snapshot if that was sent.
-fn send_snapshot<R: Wait>(
+// Puts the text of a snapshot, whose receipt stands at that place of the pass, and keeps the snapshot if that was put.
+fn send_snapshot<O: Outlet, R: Wait>(
     rt: &R,
     alloc: Global,
-    sender: &Sender<String>,
+    place: u64,
     snapshot: Delta,
+    outlet: &mut O,
     told: &mut Telling,
 ) -> Turn
     requires sent { told.old.report.sent < 1000000000 }
     requires memory { told.old.report.memory < 1000000000 }
-    ensures { IsSending snapshot told.old told.new result }
+    ensures sending { IsSending snapshot told.old told.new result }
+    ensures accounts { (rs : List Receipt) → O.accounts outlet.old rs told.old.report.sent told.old.last → place ≡ length rs → O.accounts outlet.new (rs ++ shown_receipt snapshot ∷ []) told.new.report.sent told.new.last }
+    ensures same { O.same outlet.old outlet.new }
 {
     let Ok(text) = told.text(alloc, &snapshot) else {
         told.note_memory();
         return Turn::IsOver;
     };
-    match put(rt, sender, told, &snapshot, text) {
+    match outlet.put(rt, place, text) {
         Ok(()) => {
             told.note_sent(snapshot);
             Turn::GoesOn
         }
-        Err(SendError::OutOfMemory(_)) => {
+        Err(PutError::Memory) => {
             told.note_memory();
             Turn::IsOver
         }
-        Err(SendError::Disconnected(_)) => Turn::EndsRun,
+        Err(PutError::Closed) => Turn::EndsRun,
     }
 }
 
-// Takes a snapshot and sends its text.
-fn tell<K: Keeper, L: Opening, R: Wait>(
+// Takes a snapshot and puts its text.
+fn tell<K: Keeper, L: Opening, O: Outlet, R: Wait>(
     rt: &R,
     alloc: Global,
     site: &Site<K, L>,
     pass: &mut Pass<L>,
-    sender: &Sender<String>,
+    outlet: &mut O,
     told: &mut Telling,
 ) -> Turn
     requires sent { told.old.report.sent < 1000000000 }
     requires memory { told.old.report.memory < 1000000000 }
+    requires accounts { O.accounts outlet.old pass.old.receipts told.old.report.sent told.old.last }
     ensures shown { HasShown pass.old pass.new told.old told.new result }
     ensures turns { told.new.report.turns ≡ told.old.report.turns }
     ensures helped { told.new.report.helped ≡ told.old.report.helped }
     ensures spent { told.new.report.sent + told.new.report.memory ≤ told.old.report.sent + told.old.report.memory + 1 }
+    ensures accounts { O.accounts outlet.new pass.new.receipts told.new.report.sent told.new.last }
+    ensures same { O.same outlet.old outlet.new }
 {
+    let place = pass.count();
     match site.call(rt, pass, Call::Snapshot) {
-        Reply::Snapshot(snapshot) => send_snapshot(rt, alloc, sender, snapshot, told),
+        Reply::Snapshot(snapshot) => send_snapshot(rt, alloc, place, snapshot, outlet, told),
         reply => told.note_unshown(&reply),
     }
 }
 
 // One turn.
-fn out_turn<K: Keeper, L: Opening, G: Gate, R: Wait>(
+fn out_turn<K: Keeper, L: Opening, G: Gate, O: Outlet, R: Wait>(
     rt: &R,
     alloc: Global,
     site: &Site<K, L>,
     pass: &mut Pass<L>,
-    door: &mut Door<G>,
-    sender: &Sender<String>,
+    gate: &mut G,
+    opened: &mut u64,
+    outlet: &mut O,
     told: &mut Telling,
 ) -> Turn
     requires at { IsOutAt told.old.report.turns told.old.report }
     requires few { told.old.report.turns < 1000000000 }
-    requires opened { door.old.opened ≤ told.old.report.turns }
-    ensures told { HasTold (length site.now.layout.records) pass.old pass.new told.old.report told.new.report door.old.opened door.new.opened result }
+    requires opened { opened.old ≤ told.old.report.turns }
+    requires accounts { O.accounts outlet.old pass.old.receipts told.old.report.sent told.old.last }
+    ensures told { HasTold (length site.now.layout.records) pass.old pass.new told.old.report told.new.report opened.old opened.new result }
     ensures at { IsOutAt (told.old.report.turns + 1) told.new.report }
-    ensures opened { door.new.opened ≤ told.old.report.turns + 1 }
+    ensures opened { opened.new ≤ told.old.report.turns + 1 }
+    ensures accounts { O.accounts outlet.new pass.new.receipts told.new.report.sent told.new.last }
+    ensures same { O.same outlet.old outlet.new }
 {
     let number = told.report.turns;
     match ask_help(rt, site, pass, told) {
@@ -120,10 +121,39 @@ fn out_turn<K: Keeper, L: Opening, G: Gate, R: Wait>(
         Turn::IsOver => return Turn::IsOver,
         Turn::EndsRun => return Turn::EndsRun,
     }
-    if !door.is_open(number) {
+    if !is_open(gate, opened, number) {
         return Turn::GoesOn;
     }
-    tell(rt, alloc, site, pass, sender, told)
+    tell(rt, alloc, site, pass, outlet, told)
+}
+
+/// Runs an outbox of a site for so many turns, of which there are at most 10^9, at any outlet. As [`run_outbox`] does,
+/// whose channel is one. The caller shows that the outlet's account begins with the pass's receipts; afterwards it is
+/// right of what was put. A put that is refused as `Closed` ends the run, and one refused as `Memory` the turn.
+pub fn run_outbox_at<K: Keeper, L: Opening, G: Gate, O: Outlet, R: Wait>(
+    rt: &R,
+    alloc: Global,
+    site: &Site<K, L>,
+    pass: &mut Pass<L>,
+    gate: &mut G,
+    outlet: &mut O,
+    turns: u64,
+) -> OutReport
+    requires few { turns ≤ 1000000000 }
+    requires accounts { O.accounts outlet.old pass.old.receipts 0 None }
+    ensures ran { HasRunOut (length site.now.layout.records) pass.old pass.new turns result }
+    ensures accounts { (last : Option DeltaState) × O.accounts outlet.new pass.new.receipts result.sent last }
+    ensures same { O.same outlet.old outlet.new }
+{
+    let mut told = Telling::new();
+    let mut opened = 0;
+    'turns: for _ in 0..turns {
+        let turn = out_turn(rt, alloc, site, pass, gate, &mut opened, outlet, &mut told);
+        if let Turn::EndsRun = turn {
+            return told.report;
+        }
+    }
+    told.report
 }
 
 /// Runs an outbox of a site for so many turns, of which there are at most 10^9. Turn `t` asks the site to help record
@@ -149,13 +179,7 @@ pub fn run_outbox<K: Keeper, L: Opening, G: Gate + Drop, R: Wait>(
     requires few { turns ≤ 1000000000 }
     ensures { HasRunOut (length site.now.layout.records) pass.old pass.new turns result }
 {
-    let mut door = Door::new(gate);
-    let mut told = Telling::new();
-    'turns: for _ in 0..turns {
-        let turn = out_turn(rt, alloc, site, pass, &mut door, &sender, &mut told);
-        if let Turn::EndsRun = turn {
-            return told.report;
-        }
-    }
-    told.report
+    let mut gate = gate;
+    let mut outlet = sender;
+    run_outbox_at(rt, alloc, site, pass, &mut gate, &mut outlet, turns)
 }

@@ -1,5 +1,9 @@
-use Rattle.std.proofs.Common.{◌+◌, inl, inr, refl}
+use Rattle.std.proofs.Common.{◌+◌, inl, inr, refl, sym, subst}
 use Rattle.exchange_threads.specs.declared.report.InReport.{InReport}
+use Rattle.exchange_threads.specs.declared.fate.Fate.{Fate}
+use Rattle.exchange_threads.specs.declared.turn.Turn.TheVariants.{GoesOn}
+use Rattle.exchange_threads.specs.Fates.{HasFate}
+use Rattle.exchange_threads.proofs.Fates.{unread_has_fate}
 use Rattle.exchange_threads.proofs.Replies.{few_raised}
 use Rattle.exchange_threads.proofs.Heard.{TakesText, counts_merge, counts_unread}
 use Rattle.exchange_threads.proofs.inbox.hear_text.Goals as goal
@@ -36,3 +40,8 @@ pub returns-in-Err-clause-counts : goal.returns-in-Err-clause-counts
 returns-in-Err-clause-counts g c =
     let before : InReport = c.args.report.now in
     counts_unread c.in-Err.error before (record before { taken = before.taken + 1 }) c.note_unread.new.self (takes before) c.note_unread.ensures.tells
+
+pub returns-in-Err-clause-fate : goal.returns-in-Err-clause-fate
+returns-in-Err-clause-fate g c =
+    subst (λ (f : Fate). HasFate c.args.text.now f c.args.pass.now c.args.pass.now c.args.report.now c.note_unread.new.self GoesOn) (sym c.unread_fate.ensures)
+    (unread_has_fate c.args.text.now c.in-Err.error c.args.pass.now c.args.report.now c.note_unread.new.self c.in-Err.ensures.exact c.note_unread.ensures.tells)

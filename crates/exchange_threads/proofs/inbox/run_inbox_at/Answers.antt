@@ -1,10 +1,11 @@
-use Rattle.std.proofs.Common.{◌+◌, refl, ap, subst, arith}
+use Rattle.std.proofs.Common.{ℕ, ◌+◌, false, refl, sym, ap, subst, arith}
 use Rattle.exchange_threads.specs.declared.turn.Turn.{Turn}
 use Rattle.exchange_threads.specs.declared.turn.Turn.TheVariants.{GoesOn, EndsRun}
 use Rattle.exchange_threads.specs.Counts.{count_total}
 use Rattle.exchange_threads.specs.Inbox.{HasHeard, nothing_heard}
+use Rattle.exchange_threads.proofs.Fates.{not_ended}
 use Rattle.exchange_threads.proofs.Heard.{heard_same, heard_both, heard_on, counted_on, in_at_more}
-use Rattle.exchange_threads.proofs.inbox.run_inbox.Goals as goal
+use Rattle.exchange_threads.proofs.inbox.run_inbox_at.Goals as goal
 
 pub turns-init : goal.turns-init
 turns-init g c = record {
@@ -14,6 +15,9 @@ turns-init g c = record {
     raised = omega (arith, c.new-report.ensures.raised);
     noted = omega (arith, c.new-report.ensures.memory, ap count_total c.new-report.ensures.refused);
   };
+  accounts = subst (λ (n : ℕ). g.I.Inlet.accounts c.args.inlet.now c.args.pass.now.receipts n c.new-report.result.memory false) (sym c.new-report.ensures.taken)
+      (subst (λ (m : ℕ). g.I.Inlet.accounts c.args.inlet.now c.args.pass.now.receipts 0 m false) (sym c.new-report.ensures.memory) c.requires.accounts);
+  same = g.met.I.Inlet.same_as_itself c.args.inlet.now;
 }
 
 pub turns-preserved : goal.turns-preserved
@@ -23,10 +27,13 @@ turns-preserved g c =
     record {
       heard = heard_on c.args.pass.now c.in_turn-turn.new.pass nothing_heard c.in_turn-turn.new.report (c.turns.t + 1) c.in_turn-turn.result c.in_default.not-EndsRun heard;
       at = counted_on c.turns.t c.turns.report c.in_turn-turn.new.report c.turns.invariant.at c.in_turn-turn.ensures.counts;
+      accounts = not_ended (g.I.Inlet.accounts c.in_turn-turn.new.inlet c.in_turn-turn.new.pass.receipts c.in_turn-turn.new.report.taken c.in_turn-turn.new.report.memory)
+          c.in_turn-turn.ensures.accounts.0 c.in_turn-turn.ensures.accounts.1 c.in_turn-turn.ensures.accounts.2 c.in_default.not-EndsRun;
+      same = g.met.I.Inlet.same_later _ _ _ c.turns.invariant.same c.in_turn-turn.ensures.same;
     }
 
-pub returns-in-EndsRun : goal.returns-in-EndsRun
-returns-in-EndsRun g c =
+pub returns-in-EndsRun-clause-ran : goal.returns-in-EndsRun-clause-ran
+returns-in-EndsRun-clause-ran g c =
     let heard : HasHeard c.args.pass.now c.in_turn-turn.new.pass nothing_heard c.in_turn-turn.new.report (c.turns.t + 1) c.in_turn-turn.result =
     heard_both c.args.pass.now c.turns.pass c.in_turn-turn.new.pass nothing_heard c.turns.report c.in_turn-turn.new.report c.turns.t 1 GoesOn c.in_turn-turn.result refl c.turns.invariant.heard c.in_turn-turn.ensures.heard in
     record {

@@ -1,0 +1,4 @@
+pub mod Sent
+pub mod Heard
+pub mod Growing
+pub mod Pairs

@@ -1,0 +1,79 @@
+-- What the runners of a direction leave, and what its report says (this project's own).
+use Rattle.std.specs.Prelude.{◌≡◌, ◌≢◌, ℕ, Bool, true, List, [], ◌++◌, length, map, string_bytes, Option, Result, Ok, Err}
+use Rattle.merge_core.specs.Delta.{DeltaState}
+use Rattle.session_book.specs.declared.pass.Receipt.{Receipt}
+use Rattle.session_book.specs.Passes.{PassState}
+use Rattle.exchange_threads.specs.declared.report.OutReport.{OutReport}
+use Rattle.exchange_threads.specs.declared.report.InReport.{InReport}
+use Rattle.exchange_threads.specs.Turns.{IsMarked}
+use Rattle.exchange_threads.specs.Outbox.{HasRunOut}
+use Rattle.exchange_threads.specs.Inbox.{HasRunIn}
+use Rattle.ruled_pair.specs.declared.outlet.RuledOutlet.{RuledOutlet}
+use Rattle.ruled_pair.specs.declared.inlet.RuledInlet.{RuledInlet}
+use Rattle.ruled_pair.specs.declared.pair.Direction.{Direction}
+use Rattle.ruled_pair.specs.declared.pair.PairReport.{PairReport}
+use Rattle.ruled_pair.specs.declared.pair.PairError.{PairError}
+use Rattle.ruled_pair.specs.declared.pair.PairError.TheVariants.{NoLink, Memory}
+use Rattle.ruled_pair.specs.Sent.{AreSent}
+use Rattle.ruled_pair.specs.Heard.{AreHeard}
+
+-- nothing was put yet, and the pass has so many receipts
+pub record IsFreshOutlet (e : RuledOutlet) (count : ℕ) : Type 0 where
+  pub first : e.first ≡ count
+  pub put : e.put.items ≡ []
+  pub sent_at : e.sent_at.items ≡ []
+  pub link : e.putter.put ≡ []
+
+-- nothing was taken yet, and the pass has so many receipts
+pub record IsFreshInlet (e : RuledInlet) (count : ℕ) : Type 0 where
+  pub first : e.first ≡ count
+  pub taken : e.taken.items ≡ []
+  pub fates : e.fates.items ≡ []
+  pub link : e.taker.taken ≡ []
+
+-- the report of a sending end is right, and tells what was put
+pub record HasSent (old new : RuledOutlet) (rs : List Receipt) (n : ℕ) : Type 0 where
+  pub first : new.first ≡ old.first
+  pub link : new.putter.link ≡ old.putter.link
+  pub last : Option DeltaState
+  pub sent : AreSent rs new.first new.sent_at.items (map string_bytes new.put.items) n last
+  pub put : new.putter.put ≡ map string_bytes new.put.items
+
+-- the report of a receiving end is right, and tells what was taken
+pub record HasTaken (old new : RuledInlet) (p : PassState) (n m : ℕ) : Type 0 where
+  pub first : new.first ≡ old.first
+  pub link : new.taker.link ≡ old.taker.link
+  pub ended : Bool
+  pub heard : AreHeard p.receipts new.first (map string_bytes new.taken.items) new.fates.items n m ended
+  pub marked : ended ≡ true → IsMarked p
+  pub taken : new.taker.taken ≡ map string_bytes new.taken.items
+
+-- both ends of a new link, for passes that have so many receipts
+pub record IsFresh (d : Direction) (out_count in_count : ℕ) : Type 0 where
+  pub outlet : IsFreshOutlet d.outlet out_count
+  pub inlet : IsFreshInlet d.inlet in_count
+  pub link : d.outlet.putter.link ≡ d.inlet.taker.link
+
+-- both runners of a direction have run
+pub record HasRunBoth (records asked : ℕ) (out_old out_new in_old in_new : PassState) (old new : Direction) (out : OutReport) (got : InReport) : Type 0 where
+  pub ran_out : HasRunOut records out_old out_new asked out
+  pub ran_in : HasRunIn in_old in_new asked got
+  pub sent : HasSent old.outlet new.outlet out_new.receipts out.sent
+  pub taken : HasTaken old.inlet new.inlet in_new got.taken got.memory
+
+-- What was taken is a prefix of what was put, byte for byte; and both runners' reports are right of their passes.
+pub record IsPairReport (records asked : ℕ) (out_old out_new in_old in_new : PassState) (r : PairReport) : Type 0 where
+  pub rest : List (List ℕ)
+  pub link : map string_bytes r.put.items ≡ map string_bytes r.taken.items ++ rest
+  pub ran_out : HasRunOut records out_old out_new asked r.out
+  pub ran_in : HasRunIn in_old in_new asked r.got
+  pub last : Option DeltaState
+  pub sent : AreSent out_new.receipts (length out_old.receipts) r.sent_at.items (map string_bytes r.put.items) r.out.sent last
+  pub ended : Bool
+  pub heard : AreHeard in_new.receipts (length in_old.receipts) (map string_bytes r.taken.items) r.fates.items r.got.taken r.got.memory ended
+  pub marked : ended ≡ true → IsMarked in_new
+
+-- why no runner was started: both sites have one number; or memory ran out, where they have not
+abbrev pub IsRefusal : ℕ → ℕ → PairError → Type 0
+IsRefusal first second NoLink = first ≡ second
+IsRefusal first second Memory = first ≢ second
