@@ -20,7 +20,7 @@ use Rattle.exchange_threads.specs.declared.turn.Turn.{Turn}
 use Rattle.exchange_threads.specs.declared.turn.Turn.TheVariants.{GoesOn, IsOver, EndsRun}
 use Rattle.exchange_threads.specs.declared.telling.Telling.{Telling}
 use Rattle.exchange_threads.specs.Turns.{turn_after, stops_at, lacks_at, IsMarked}
-use Rattle.exchange_threads.specs.Outbox.{OutTurn, no_help, gate_shut, no_snapshot, no_text, text_sent, OutStop, at_help, at_snapshot, at_channel, help_receipt, shown_receipt, turn_receipts, stop_receipts, went_receipts, told_receipts, stops_in, stop_opens, is_sent_turn, is_lacking_turn, is_open_turn, is_snapshot, is_gift, IsTold, IsOutStop, HasTold, HasAsked, HasShown, IsShowing, after_help}
+use Rattle.exchange_threads.specs.Outbox.{OutTurn, no_help, gate_shut, no_snapshot, no_text, text_sent, OutStop, at_help, at_snapshot, at_channel, help_receipt, shown_receipt, turn_receipts, stop_receipts, went_receipts, told_receipts, stops_in, stop_opens, stop_lost, is_sent_turn, is_lacking_turn, is_open_turn, is_snapshot, is_gift, IsTold, IsOutStop, HasTold, HasAsked, HasShown, IsShowing, after_help}
 use Rattle.exchange_threads.proofs.Replies.{IsPlain, reply_kind, unshown_kind}
 
 count_one : {X : Type 0} (p : X → Bool) (x : X) → count_by p (x ∷ []) ≡ cond (p x) 1 0
@@ -357,3 +357,43 @@ shown_went n t (x ∷ xs) = omega (arith, sum_by-cons (λ (y : OutTurn). cond (i
 
 pub shown_told : (n t : ℕ) (went : List OutTurn) (stop : Option OutStop) → count_by is_sent_turn went ≤ count_by is_snapshot (told_receipts n t went stop)
 shown_told n t went stop = omega (arith, shown_went n t went, count_append is_snapshot (went_receipts n t went) (stop_receipts ((t + length went) % n) stop))
+
+-- a snapshot whose text was not sent is counted as want of memory, or its text found the channel closed
+two_shown : (r : ℕ) (reply : Reply) (d : DeltaState) → count_by is_snapshot (help_receipt r reply ∷ (shown_receipt d ∷ [])) ≡ 1
+two_shown r reply d = omega (arith, sum_by-cons (λ (x : Receipt). cond (is_snapshot x) 1 0) (help_receipt r reply) (shown_receipt d ∷ []), count_one is_snapshot (shown_receipt d))
+
+one_asked : (r : ℕ) (reply : Reply) → count_by is_snapshot (help_receipt r reply ∷ []) ≡ 0
+one_asked r reply = count_one is_snapshot (help_receipt r reply)
+
+unsent_turn : (r : ℕ) (x : OutTurn) → count_by is_snapshot (turn_receipts r x) ≤ cond (is_sent_turn x) 1 0 + cond (is_lacking_turn x) 1 0
+unsent_turn r no_help = omega arith
+unsent_turn r (gate_shut reply) = omega (arith, one_asked r reply)
+unsent_turn r (no_snapshot reply) = omega (arith, one_asked r reply)
+unsent_turn r (no_text reply d) = omega (arith, two_shown r reply d)
+unsent_turn r (text_sent reply d) = omega (arith, two_shown r reply d)
+
+unsent_went : (n t : ℕ) (went : List OutTurn) → count_by is_snapshot (went_receipts n t went) ≤ count_by is_sent_turn went + count_by is_lacking_turn went
+unsent_went n t [] = omega arith
+unsent_went n t (x ∷ xs) = omega (
+  arith,
+  sum_by-cons (λ (y : OutTurn). cond (is_sent_turn y) 1 0) x xs,
+  sum_by-cons (λ (y : OutTurn). cond (is_lacking_turn y) 1 0) x xs,
+  count_append is_snapshot (turn_receipts (t % n) x) (went_receipts n (t + 1) xs),
+  unsent_turn (t % n) x,
+  unsent_went n (t + 1) xs,
+)
+
+unsent_stop : (r : ℕ) (stop : Option OutStop) → count_by is_snapshot (stop_receipts r stop) ≡ stop_lost stop
+unsent_stop r None = omega arith
+unsent_stop r (Some at_help) = omega arith
+unsent_stop r (Some (at_snapshot reply)) = one_asked r reply
+unsent_stop r (Some (at_channel reply d)) = two_shown r reply d
+
+pub unsent_told : (n t : ℕ) (went : List OutTurn) (stop : Option OutStop)
+    → count_by is_snapshot (told_receipts n t went stop) ≤ count_by is_sent_turn went + count_by is_lacking_turn went + stop_lost stop
+unsent_told n t went stop = omega (
+  arith,
+  unsent_went n t went,
+  unsent_stop ((t + length went) % n) stop,
+  count_append is_snapshot (went_receipts n t went) (stop_receipts ((t + length went) % n) stop),
+)

@@ -122,6 +122,13 @@ stop_opens (Some at_help) = 0
 stop_opens (Some (at_snapshot reply)) = 1
 stop_opens (Some (at_channel reply d)) = 1
 
+-- how many snapshots it lost: that whose text found the channel closed, which is the last receipt
+abbrev pub stop_lost : Option OutStop → ℕ
+stop_lost None = 0
+stop_lost (Some at_help) = 0
+stop_lost (Some (at_snapshot reply)) = 0
+stop_lost (Some (at_channel reply d)) = 1
+
 abbrev pub is_sent_turn : OutTurn → Bool
 is_sent_turn no_help = false
 is_sent_turn (gate_shut reply) = false
@@ -220,12 +227,14 @@ IsOutEnd EndsRun asked r = r.turns ≤ asked
 IsOutEnd _ asked r = r.turns ≡ asked
 
 -- A whole run of an outbox of a site with so many records, and how its last turn went. It asked for help and for snapshots
--- alone, and sent no more texts than it took snapshots.
+-- alone, sent no more texts than it took snapshots, and sent the text of each snapshot but for those turns that met want of
+-- memory, and the last snapshot where the channel was closed.
 pub record HasRunOut (records : ℕ) (old new : PassState) (asked : ℕ) (r : OutReport) : Type 0 where
   pub last : Turn
   pub opened : ℕ
   pub told : HasTold records old new nothing_told r 0 opened last
   pub kinds : All IsTold (told_receipts records 0 told.went told.stop)
   pub shown : r.sent ≤ count_by is_snapshot (told_receipts records 0 told.went told.stop)
+  pub unsent : count_by is_snapshot (told_receipts records 0 told.went told.stop) ≤ r.sent + r.memory + stop_lost told.stop
   pub within : IsOutAt r.turns r
   pub ending : IsOutEnd last asked r

@@ -4,7 +4,7 @@ use Rattle.exchange_threads.specs.declared.report.OutReport.{OutReport}
 use Rattle.exchange_threads.specs.declared.turn.Turn.{Turn}
 use Rattle.exchange_threads.specs.declared.turn.Turn.TheVariants.{GoesOn, EndsRun}
 use Rattle.exchange_threads.specs.Outbox.{HasTold, IsOutAt, nothing_told}
-use Rattle.exchange_threads.proofs.Told.{told_same, told_both, told_on, kinds_told, shown_told}
+use Rattle.exchange_threads.proofs.Told.{told_same, told_both, told_on, kinds_told, shown_told, unsent_told}
 use Rattle.exchange_threads.proofs.outbox.run_outbox_at.Goals as goal
 
 pub turns-init : goal.turns-init
@@ -48,6 +48,7 @@ returns-in-EndsRun-clause-ran g c =
       told = ended;
       kinds = kinds_told n 0 ended.went ended.stop;
       shown = omega (arith, ended.sent, shown_told n 0 ended.went ended.stop);
+      unsent = omega (arith, ended.sent, ended.memory, unsent_told n 0 ended.went ended.stop);
       within = subst (λ (k : ℕ). IsOutAt k c.out_turn-turn.new.told.report) (sym at.turns) at;
       ending = omega (arith, at.turns, c.turns.invariant.at.turns, c.turns-test.true);
     }
@@ -62,6 +63,7 @@ returns-clause-ran g c =
       told = told;
       kinds = kinds_told n 0 told.went told.stop;
       shown = omega (arith, told.sent, shown_told n 0 told.went told.stop);
+      unsent = omega (arith, told.sent, told.memory, unsent_told n 0 told.went told.stop);
       within = subst (λ (k : ℕ). IsOutAt k c.turns.told.report) (sym c.turns.invariant.at.turns) c.turns.invariant.at;
       ending = omega (arith, c.turns.invariant.at.turns, c.turns-test.false);
     }
