@@ -15,6 +15,8 @@ mod knowledge;
 #[cfg(test)]
 mod nets;
 #[cfg(test)]
+mod pairs;
+#[cfg(test)]
 mod sites;
 #[cfg(test)]
 mod texts;

@@ -76,18 +76,22 @@ fn spec_of(alloc: Global, name: &str, shape: Shape) -> Option<RecordSpec> {
     })
 }
 
-/// The layout of this shape, of one record or two.
+/// The layout of this shape. Its records are a, b, and from there on r2, r3 ..
 pub fn layout_of(alloc: Global, shape: Shape) -> Option<Layout> {
     let mut records = Vec::new(alloc);
     records.push(spec_of(alloc, "a", shape)?).ok()?;
-    if shape.records == 2 {
+    if shape.records >= 2 {
         records.push(spec_of(alloc, "b", shape)?).ok()?;
+    }
+    for r in 2..shape.records {
+        let name = format!(in alloc; "r{r}").ok()?;
+        records.push(spec_of(alloc, name.as_str(), shape)?).ok()?;
     }
     Layout::new(shape.sites, records).ok()
 }
 
-// A site over a new keeper, and its passes.
-fn opened<L: Opening>(
+/// A site over a new keeper, and its passes.
+pub fn opened<L: Opening>(
     alloc: Global,
     blank: Blank,
     job: &Job,
@@ -146,8 +150,8 @@ fn parts_of<L: Opening>(
     Some((passes, reports))
 }
 
-// How many passes have the mark of a stopped site, and how many that of a full log.
-fn marks_of<L: Opening>(passes: &[Pass<L>]) -> (u64, u64) {
+/// How many passes have the mark of a stopped site, and how many that of a full log.
+pub fn marks_of<L: Opening>(passes: &[Pass<L>]) -> (u64, u64) {
     let mut frozen = 0u64;
     let mut full = 0u64;
     for pass in passes {
@@ -157,8 +161,8 @@ fn marks_of<L: Opening>(passes: &[Pass<L>]) -> (u64, u64) {
     (frozen, full)
 }
 
-// What the site answers to an ask, if there is one.
-fn answered<L: Opening, R: Wait>(
+/// What the site answers to an ask, if there is one.
+pub fn answered<L: Opening, R: Wait>(
     rt: &R,
     site: &Site<Fake, L>,
     pass: &mut Pass<L>,
@@ -170,16 +174,20 @@ fn answered<L: Opening, R: Wait>(
     }
 }
 
-// What the site tells.
-fn told<L: Opening, R: Wait>(rt: &R, site: &Site<Fake, L>, pass: &mut Pass<L>) -> Option<Delta> {
+/// What the site tells.
+pub fn told<L: Opening, R: Wait>(
+    rt: &R,
+    site: &Site<Fake, L>,
+    pass: &mut Pass<L>,
+) -> Option<Delta> {
     match site.call(rt, pass, Call::Snapshot) {
         Reply::Snapshot(delta) => Some(delta),
         _ => None,
     }
 }
 
-// Closes a site, again where the first closing found no memory.
-fn closed<L: Opening, R: Wait>(
+/// Closes a site, again where the first closing found no memory.
+pub fn closed<L: Opening, R: Wait>(
     rt: &R,
     site: Site<Fake, L>,
     passes: Vec<Pass<L>>,

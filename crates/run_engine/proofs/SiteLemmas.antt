@@ -1,5 +1,5 @@
 -- From a site that was opened, asked and closed to its run, and from the runs of all jobs to those of all sites.
-use Rattle.std.proofs.Common.{◌≡◌, ℕ, ◌-◌, ◌<◌, List, [], ◌∷◌, ◌++◌, All, map, length, slice_index_or, take, Some, Result, Ok, Err, IfOk, refl, sym, ap, subst, ◌∙◌, arith}
+use Rattle.std.proofs.Common.{◌≡◌, ℕ, zero, suc, ◌-◌, ◌<◌, List, [], ◌∷◌, ◌++◌, All, map, length, slice_index_or, take, true, Some, Result, Ok, Err, IfOk, refl, sym, ap, subst, ◌∙◌, arith}
 use Rattle.std.proofs.lemmas.List.{length-map}
 use Rattle.std.proofs.lemmas.List.Elements.{All-pop}
 use Rattle.std.proofs.Math.ListN.{get_or-map}
@@ -16,9 +16,10 @@ use Rattle.session_book.specs.Passes.{PassState, new_pass, receipts_of}
 use Rattle.session_book.specs.Sites.{SiteState, IsClosed, BearsOut}
 use Rattle.run_engine.specs.declared.script.Asked.{Asked}
 use Rattle.run_engine.specs.declared.sites.Job.{Job}
+use Rattle.run_engine.specs.declared.tasks.Caller.{Caller}
 use Rattle.run_engine.specs.declared.tasks.Task.{Task}
 use Rattle.run_engine.specs.declared.tasks.Task.TheVariants.{Calls, Link}
-use Rattle.run_engine.specs.Tasks.{EndsInCaller, EndsInCalled, HasRunTask, IsCaller, IsCalled}
+use Rattle.run_engine.specs.Tasks.{EndsInCaller, EndsInCalled, HasCalled, HasRunTask, IsCaller, IsCalled}
 use Rattle.run_engine.specs.Scripts.{asks_of}
 use Rattle.run_engine.specs.Callers.{HasAsked, ask_calls, calls_in}
 use Rattle.run_engine.specs.Runs.{AreAnswers, AreJobs, AreSiteRuns, IsClosedWith, IsJob, IsOpenedFor, IsSiteRun}
@@ -122,3 +123,28 @@ if_ok (Err e) P Q f p = p
 -- a list whose front was replaced by one as long as itself
 pub replaced : {A : Type 0} (n : ℕ) (front rest : List A) → n ≡ length front → take n (front ++ rest) ≡ front
 replaced n front rest is = subst (λ (k : ℕ). take k (front ++ rest) ≡ front) (sym is) (take-append_seam front rest)
+
+-- the runs of both sites of a layout
+two_at : (layout : LayoutState) (asked : List Asked) (t u : Transcript) → IsSiteRun layout 0 (asks_of 0 asked) t → IsSiteRun layout 1 (asks_of 1 asked) u
+    → (i : ℕ) (d : Transcript) → i < 2 → IsSiteRun layout i (asks_of i asked) (slice_index_or (t ∷ (u ∷ [])) i d)
+two_at layout asked t u first second zero d below = first
+two_at layout asked t u first second (suc zero) d below = second
+two_at layout asked t u first second (suc (suc i)) d below = absurd (omega (arith, below))
+
+pub two_runs : (layout : LayoutState) (asked : List Asked) (t u : Transcript) (ts : List Transcript) → layout.sites ≡ 2 → ts ≡ t ∷ (u ∷ [])
+    → IsSiteRun layout 0 (asks_of 0 asked) t → IsSiteRun layout 1 (asks_of 1 asked) u → AreSiteRuns layout asked ts
+two_runs layout asked t u ts two is first second = record {
+  number = ap length is ∙ sym two;
+  each = λ i d below.
+      subst (λ (xs : List Transcript). IsSiteRun layout i (asks_of i asked) (slice_index_or xs i d)) (sym is)
+      (two_at layout asked t u first second i d (omega (arith, below, ap length is)));
+}
+
+-- a site that was opened over nothing, asked by a caller, and closed
+pub work_run : {L : Type 0} (layout copy : LayoutState) (i passes : ℕ) (asks : List Ask) (s : SiteState) (ps : List PassState) (old new : Caller L) (t : Transcript)
+    → copy ≡ layout → IsOpenedFor copy i passes s ps → old.pass ≡ new_pass 0 → old.asks.items ≡ asks → HasCalled old new → new.answered ≡ true → IsClosedWith s new.pass t
+    → IsSiteRun layout i asks t
+work_run layout copy i passes asks s ps old new t is opened pass are called answered closed =
+    site_run layout i passes asks s ps new.pass t (subst (λ (l : LayoutState). IsOpenedFor l i passes s ps) is opened)
+    (subst (λ (p : PassState). HasAsked asks p new.pass) pass (subst (λ (xs : List Ask). HasAsked xs old.pass new.pass) are (called.asked answered)))
+    closed

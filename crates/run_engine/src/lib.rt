@@ -9,6 +9,7 @@ mod callers;
 mod engine;
 mod links;
 mod logs;
+mod pairs;
 mod replies;
 mod script;
 mod sites;

@@ -10,6 +10,7 @@ ghost use Rattle.run_engine.specs.Callers.{HasAsked};
 ghost use Rattle.run_engine.specs.Runs.{AreAnswers, AreJobs, AreSiteRuns, IsClosedWith, IsOpenedFor, IsSiteRun};
 
 use crate::links::{Ends, ends_of};
+use crate::pairs::run_two;
 use crate::script::Asked;
 use crate::tasks::{Caller, Task, run_tasks};
 use admission_core::Ask;
@@ -50,6 +51,9 @@ pub fn run_sites<R: Threads + Wait + Sync>(
     requires few { turns ≤ 1000000000 }
     ensures { IfOk result (λ transcripts. AreSiteRuns layout.now asked.now transcripts.items) }
 {
+    if layout.sites() == 2 {
+        return run_two(rt, alloc, layout, turns, asked);
+    }
     let jobs = jobs_of(alloc, layout, asked)?;
     let answers = thread::map_vec(
         rt,
@@ -82,8 +86,8 @@ fn jobs_of(alloc: Global, layout: &Layout, asked: &[Asked]) -> Result<Vec<Job>, 
     Ok(jobs)
 }
 
-// What a script asks of a site.
-fn asks_of(alloc: Global, site: u16, asked: &[Asked]) -> Result<Vec<Ask>, AllocError>
+/// What a script asks of a site.
+pub fn asks_of(alloc: Global, site: u16, asked: &[Asked]) -> Result<Vec<Ask>, AllocError>
     ensures { IfOk result (λ asks. asks.items ≡ asks_of site asked.now) }
 {
     let mut asks = Vec::new(alloc);
@@ -161,8 +165,8 @@ fn run_over<L: Opening + Send + Sync, R: Threads + Wait + Sync>(
     closed(rt, alloc, site, pass, tasks)
 }
 
-// A site over a new keeper in memory, and its passes.
-fn opened<L: Opening>(
+/// A site over a new keeper in memory, and its passes.
+pub fn opened<L: Opening>(
     alloc: Global,
     blank: Blank,
     layout: Layout,

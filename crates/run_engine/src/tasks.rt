@@ -38,8 +38,8 @@ pub enum Task<L: Ledger> {
     Link(Port<L, AlwaysOpen>),
 }
 
-// Makes a caller's calls.
-fn run_caller<K: Keeper, L: Opening, R: Wait>(rt: &R, site: &Site<K, L>, caller: &mut Caller<L>)
+/// Makes a caller's calls. May wait, for the site's lock.
+pub fn run_caller<K: Keeper, L: Opening, R: Wait>(rt: &R, site: &Site<K, L>, caller: &mut Caller<L>)
     ensures { HasCalled caller.old caller.new }
 {
     let Caller {

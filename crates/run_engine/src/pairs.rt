@@ -1,0 +1,191 @@
+//! Two sites at work with links that keep their order between them: one function opens, runs and closes both.
+ghost use Rattle.std.specs.Prelude.{◌≡◌, ◌≤◌, true, [], ◌∷◌, IfOk, OnOk, List};
+ghost use denote.Param.Send.{IsSend, IsSync};
+ghost use Rattle.admission_core.specs.Kept.{DurableState};
+ghost use Rattle.session_book.specs.Passes.{new_pass};
+ghost use Rattle.session_book.specs.Sites.{new_passes};
+ghost use Rattle.run_engine.specs.Tasks.{HasCalled};
+ghost use Rattle.run_engine.specs.Runs.{AreSiteRuns, IsClosedWith};
+
+use crate::script::Asked;
+use crate::sites::{asks_of, opened};
+use crate::tasks::{AlwaysOpen, Caller, run_caller};
+use admission_core::Ask;
+use durable_keeper::{Keeper, MemoryKeeper};
+use merge_core::Layout;
+use ruled_pair::{RuledEnd, run_ruled_pair};
+use session_book::{Opening, Pass, Site, Transcript};
+use std::alloc::{AllocError, Global};
+use std::marker::Brand;
+use std::sync::Wait;
+use std::sync::ledger::{Blank, Ledger};
+use std::thread::{Threads, join_mut};
+
+// The passes of a site: its caller's, and those of its two runners.
+const PASSES: u16 = 3;
+
+/// What works at one of two sites: its caller, and both ends of its links.
+#[derive(Drop)]
+pub struct Work<L: Ledger> {
+    caller: Caller<L>,
+    end: RuledEnd<L, AlwaysOpen>,
+}
+
+/// As [`crate::sites::run_sites`] does, at the two sites of a layout. What arrives at one is a prefix of what the other sent.
+pub fn run_two<R: Threads + Wait + Sync>(
+    rt: &R,
+    alloc: Global,
+    layout: &Layout,
+    turns: u64,
+    asked: &[Asked],
+) -> Result<Vec<Transcript>, AllocError>
+    requires two { layout.now.sites ≡ 2 }
+    requires few { turns ≤ 1000000000 }
+    ensures { IfOk result (λ transcripts. AreSiteRuns layout.now asked.now transcripts.items) }
+{
+    let one = Blank::new(u64::from(PASSES));
+    let other = Blank::new(u64::from(PASSES));
+    run_two_over::<Brand, Brand, R>(rt, alloc, one, other, layout, turns, asked)
+}
+
+// The same over the ledgers of both openings.
+fn run_two_over<L: Opening + Send + Sync, M: Opening + Send + Sync, R: Threads + Wait + Sync>(
+    rt: &R,
+    alloc: Global,
+    one: Blank,
+    other: Blank,
+    layout: &Layout,
+    turns: u64,
+    asked: &[Asked],
+) -> Result<Vec<Transcript>, AllocError>
+    requires name { one.name ≡ L.name }
+    requires parts { one.parts ≡ L.parts }
+    requires unknown { (d : DurableState) → ¬ L.kept d }
+    requires one_each { one.parts ≡ 3 }
+    requires other_name { other.name ≡ M.name }
+    requires other_parts { other.parts ≡ M.parts }
+    requires other_unknown { (d : DurableState) → ¬ M.kept d }
+    requires other_each { other.parts ≡ 3 }
+    requires two { layout.now.sites ≡ 2 }
+    requires few { turns ≤ 1000000000 }
+    ensures { IfOk result (λ transcripts. AreSiteRuns layout.now asked.now transcripts.items) }
+{
+    let (site, passes) = opened::<L>(alloc, one, layout.try_copy(alloc)?, 0, PASSES)?;
+    let mut work = work_of(passes, asks_of(alloc, 0, asked)?)?;
+    let (peer, passes) = opened::<M>(alloc, other, layout.try_copy(alloc)?, 1, PASSES)?;
+    let mut peer_work = work_of(passes, asks_of(alloc, 1, asked)?)?;
+    work_both(rt, alloc, &site, &peer, &mut work, &mut peer_work, turns)?;
+    let first = close_work(rt, alloc, site, work)?;
+    let second = close_work(rt, alloc, peer, peer_work)?;
+    let mut transcripts = Vec::new(alloc);
+    transcripts.push(first)?;
+    transcripts.push(second)?;
+    Ok(transcripts)
+}
+
+// What is to work with the passes of a site: its caller with pass 0, and the ends of its links.
+fn work_of<L: Opening>(passes: Vec<Pass<L>>, asks: Vec<Ask>) -> Result<Work<L>, AllocError>
+    requires { passes.items ≡ new_passes 3 }
+    ensures pass { IfOk result (λ work. work.caller.pass ≡ new_pass 0) }
+    ensures asks { IfOk result (λ work. work.caller.asks ≡ asks) }
+{
+    let mut passes = passes;
+    let (Some(in_pass), Some(out_pass), Some(pass)) = (passes.pop(), passes.pop(), passes.pop())
+    else {
+        return Err(AllocError);
+    };
+    Ok(Work {
+        caller: Caller {
+            pass,
+            asks,
+            answered: false,
+        },
+        end: RuledEnd {
+            out_pass,
+            in_pass,
+            gate: AlwaysOpen,
+        },
+    })
+}
+
+// Runs the callers of both sites and both links, a thread for each. `Err` where memory was refused before a link was there.
+fn work_both<
+    K: Keeper + Send,
+    L: Opening + Send + Sync,
+    N: Keeper + Send,
+    M: Opening + Send + Sync,
+    R: Threads + Wait + Sync,
+>(
+    rt: &R,
+    alloc: Global,
+    site: &Site<K, L>,
+    peer: &Site<N, M>,
+    work: &mut Work<L>,
+    peer_work: &mut Work<M>,
+    turns: u64,
+) -> Result<(), AllocError>
+    requires few { turns ≤ 1000000000 }
+    ensures called { HasCalled work.old.caller work.new.caller }
+    ensures peer_called { HasCalled peer_work.old.caller peer_work.new.caller }
+{
+    let Work { caller, end } = work;
+    let Work {
+        caller: peer_caller,
+        end: peer_end,
+    } = peer_work;
+    let (linked, ()) = join_mut(
+        rt,
+        &mut || -> bool
+            requires { IsSend K.row × IsSend L.row × IsSync L.row × IsSend N.row × IsSend M.row × IsSync M.row × IsSync R.row × (turns ≤ 1000000000) }
+        { run_ruled_pair(rt, alloc, site, peer, end, peer_end, turns).is_ok() },
+        &mut || -> ()
+            requires { IsSend K.row × IsSend L.row × IsSync L.row × IsSend N.row × IsSend M.row × IsSync M.row × IsSync R.row }
+        { call_both(rt, site, peer, caller, peer_caller) },
+    );
+    if !linked {
+        return Err(AllocError);
+    }
+    Ok(())
+}
+
+// Runs the callers of both sites, a thread for each.
+fn call_both<
+    K: Keeper + Send,
+    L: Opening + Send + Sync,
+    N: Keeper + Send,
+    M: Opening + Send + Sync,
+    R: Threads + Wait + Sync,
+>(rt: &R, site: &Site<K, L>, peer: &Site<N, M>, caller: &mut Caller<L>, peer_caller: &mut Caller<M>)
+    ensures called { HasCalled caller.old caller.new }
+    ensures peer_called { HasCalled peer_caller.old peer_caller.new }
+{
+    join_mut(
+        rt,
+        &mut || run_caller(rt, site, caller),
+        &mut || run_caller(rt, peer, peer_caller),
+    );
+}
+
+// Closes a site, where each of its caller's replies was logged: what it leaves.
+fn close_work<L: Opening, R: Wait>(
+    rt: &R,
+    alloc: Global,
+    site: Site<MemoryKeeper, L>,
+    work: Work<L>,
+) -> Result<Transcript, AllocError>
+    ensures closed { IfOk result (IsClosedWith site work.caller.pass) }
+    ensures answered { OnOk result (work.caller.answered ≡ true) }
+{
+    let Work { caller, end } = work;
+    if !caller.answered {
+        return Err(AllocError);
+    }
+    let mut passes = Vec::with_capacity(alloc, 3)?;
+    passes.push(end.out_pass)?;
+    passes.push(end.in_pass)?;
+    passes.push(caller.pass)?;
+    match site.close(rt, passes) {
+        Ok((transcript, _keeper)) => Ok(transcript),
+        Err(_) => Err(AllocError),
+    }
+}
