@@ -9,7 +9,7 @@ use crate::verdicts::full_verdict;
 use admission_core::{Ask, Refusal, Reply};
 use exchange_threads::Fate;
 use log_judge::Verdict;
-use ruled_pair::{PairError, PairReport, RuledEnd, run_ruled_pair};
+use ruled_pair::{PairReport, RuledEnd, run_ruled_pair};
 use session_book::{Opening, Pass, Site};
 use std::alloc::Global;
 use std::marker::Brand;
@@ -359,4 +359,40 @@ fn links_itself<R: Threads + Wait + Sync>(rt: &R, alloc: Global) -> Option<bool>
 #[test]
 fn a_site_is_not_linked_to_itself(rt: HostRuntime) {
     assert!(rt; links_itself(&rt, rt.alloc()) == Some(true));
+}
+
+// The turns without memory of both directions, if all that both reports say fits: what was taken is what was put first, and
+// each text has its place or its fate.
+fn lacks_of(ended: &PairOutcome) -> Option<u64> {
+    let PairOutcome {
+        first: _,
+        second: _,
+        there,
+        back,
+    } = ended;
+    if !is_prefix(there) || !is_prefix(back) {
+        return None;
+    }
+    let there_lacks = there.out.memory.saturating_add(there.got.memory);
+    let back_lacks = back.out.memory.saturating_add(back.got.memory);
+    Some(there_lacks.saturating_add(back_lacks))
+}
+
+// The turns without memory of a run of two sites.
+fn counted_once<R: Threads + Wait + Sync>(rt: &R, alloc: Global) -> Option<u64> {
+    let (first, mut second) = pair_jobs(alloc, TWO, 8);
+    second.before = Some(Ask::Announce { r: 0, h: 5 });
+    let gates = (TestGate::Always, TestGate::Always);
+    lacks_of(&run_pair(rt, alloc, (&first, &second), gates)?)
+}
+
+// At most one allocation is refused: before the runners start there is no outcome, and another run, which meets none, has no
+// such turn; later at most one turn is counted.
+#[test]
+fn refused_growths_of_a_pair_are_counted(rt: HostRuntime) {
+    let lacks = match counted_once(&rt, rt.alloc()) {
+        Some(lacks) => Some(lacks),
+        None => counted_once(&rt, rt.alloc()),
+    };
+    assert!(rt; matches!(lacks, Some(0 | 1)), "{lacks:?}");
 }
