@@ -133,11 +133,13 @@ fn run_direction<
     ensures { HasRunBoth (length from.now.layout.records) turns out_pass.old out_pass.new in_pass.old in_pass.new direction.old direction.new result.0 result.1 }
 {
     let Direction { outlet, inlet } = direction;
-    join_mut(
+    // the second runs on this thread, and first where no other can be started: then a few texts need no taker
+    let (got, out) = join_mut(
         rt,
-        &mut || send_texts(rt, alloc, from, out_pass, gate, outlet, turns),
         &mut || take_texts(rt, alloc, to, in_pass, inlet, turns),
-    )
+        &mut || send_texts(rt, alloc, from, out_pass, gate, outlet, turns),
+    );
+    (out, got)
 }
 
 // The report of a direction whose runners have ended.
