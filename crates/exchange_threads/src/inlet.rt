@@ -37,7 +37,8 @@ pub trait Inlet {
     /// Notes what came of the text in hand. The caller shows that it is. Takes no memory.
     fn note(&mut self, text: String, fate: Fate)
         requires in_hand { (rs : List Receipt) × (n : ℕ) × (m : ℕ) × holds self.old (string_bytes text) rs n m }
-        ensures noted { (rs added : List Receipt) (n m : ℕ) → holds self.old (string_bytes text) rs n m → IsFateOf (string_bytes text) fate (length rs) added → accounts self.new (rs ++ added) (n + 1) (m + fate_lacks fate) (is_ended fate) }
+        ensures noted { (rs added : List Receipt) (n m : ℕ) → holds self.old (string_bytes text) rs n m
+            → IsFateOf (string_bytes text) fate (length rs) added → accounts self.new (rs ++ added) (n + 1) (m + fate_lacks fate) (is_ended fate) }
         ensures same { same self.old self.new };
 
     ghost same_as_itself: { (e : Self) → same e e };

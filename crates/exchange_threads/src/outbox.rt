@@ -48,7 +48,8 @@ fn send_snapshot<O: Outlet, R: Wait>(
     requires sent { told.old.report.sent < 1000000000 }
     requires memory { told.old.report.memory < 1000000000 }
     ensures sending { IsSending snapshot told.old told.new result }
-    ensures accounts { (rs : List Receipt) → O.accounts outlet.old rs told.old.report.sent told.old.last → place ≡ length rs → O.accounts outlet.new (rs ++ shown_receipt snapshot ∷ []) told.new.report.sent told.new.last }
+    ensures accounts { (rs : List Receipt) → O.accounts outlet.old rs told.old.report.sent told.old.last → place ≡ length rs
+        → O.accounts outlet.new (rs ++ shown_receipt snapshot ∷ []) told.new.report.sent told.new.last }
     ensures same { O.same outlet.old outlet.new }
 {
     let Ok(text) = told.text(alloc, &snapshot) else {

@@ -29,7 +29,8 @@ pub trait Outlet {
     /// Puts the text that is due of a snapshot. The snapshot's receipt stands at that place of the pass, from 0, as its
     /// last. A text that is not put is lost. May wait.
     fn put<R: Wait>(&mut self, rt: &R, place: u64, text: String) -> Result<(), PutError>
-        ensures put { (rs : List Receipt) (n : ℕ) (last : Option DeltaState) (d : DeltaState) → accounts self.old rs n last → place ≡ length rs → string_bytes text ≡ sent_text n last d → OnOk result (accounts self.new (rs ++ shown_receipt d ∷ []) (n + 1) (Some d)) }
+        ensures put { (rs : List Receipt) (n : ℕ) (last : Option DeltaState) (d : DeltaState) → accounts self.old rs n last → place ≡ length rs
+            → string_bytes text ≡ sent_text n last d → OnOk result (accounts self.new (rs ++ shown_receipt d ∷ []) (n + 1) (Some d)) }
         ensures same { same self.old self.new }
         ensures kept { (rs : List Receipt) (n : ℕ) (last : Option DeltaState) → accounts self.old rs n last → OnErr result (accounts self.new rs n last) };
 

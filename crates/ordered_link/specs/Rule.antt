@@ -1,5 +1,5 @@
--- The rule of a channel with one pass that puts and one that takes: what was put is what was taken, and then what the
--- channel holds (this project's own; a first-in first-out queue).
+-- The rule of a channel with one pass that puts and one that takes: the parcels put so far are those taken so far, and
+-- behind them those that it still holds (this project's own; a first-in first-out queue).
 use Rattle.std.specs.Prelude.{◌≡◌, ℕ, Bool, true, List, ◌++◌}
 use mathlib.Core.Option.{some}
 use lib.ListN.{get_elem?}

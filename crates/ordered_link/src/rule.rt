@@ -1,4 +1,4 @@
-// The rule of the channel: what was put is what was taken, and then what the channel holds.
+// The rule of the channel: the parcels put so far are those taken so far, and behind them those that it still holds.
 ghost use Rattle.std.specs.Prelude.{◌≡◌, ⊤, true, false, [], ◌∷◌, ◌++◌};
 ghost use Rattle.ordered_link.specs.Rule.{log, InOrder};
 

@@ -23,7 +23,8 @@ shown_grows rs more first [] (d ∷ ds) shown = absurd shown
 shown_grows rs more first (at ∷ ats) [] shown = absurd shown
 shown_grows rs more first (at ∷ ats) (d ∷ ds) shown = (shown.0, get_append rs more at (shown_receipt d) shown.1, shown_grows rs more (at + 1) ats ds shown.2)
 
-pub sent_grows : {first : ℕ} {ats : List ℕ} {texts : List (List ℕ)} {n : ℕ} {last : Option DeltaState} (rs more : List Receipt) → AreSent rs first ats texts n last → AreSent (rs ++ more) first ats texts n last
+pub sent_grows : {first : ℕ} {ats : List ℕ} {texts : List (List ℕ)} {n : ℕ} {last : Option DeltaState} (rs more : List Receipt) → AreSent rs first ats texts n last
+    → AreSent (rs ++ more) first ats texts n last
 sent_grows {first} {ats} rs more sent = record {
   begun = omega (arith, sent.begun, length-append rs more);
   snapshots = sent.snapshots;
@@ -33,7 +34,8 @@ sent_grows {first} {ats} rs more sent = record {
   latest = sent.latest;
 }
 
-pub heard_lacks : {first : ℕ} {texts : List (List ℕ)} {fates : List Fate} {n : ℕ} (rs : List Receipt) (m k : ℕ) (ended : Bool) → AreHeard rs first texts fates n m ended → AreHeard rs first texts fates n (m + k) ended
+pub heard_lacks : {first : ℕ} {texts : List (List ℕ)} {fates : List Fate} {n : ℕ} (rs : List Receipt) (m k : ℕ) (ended : Bool) → AreHeard rs first texts fates n m ended
+    → AreHeard rs first texts fates n (m + k) ended
 heard_lacks rs m k ended heard = record {
   begun = heard.begun;
   fated = heard.fated;

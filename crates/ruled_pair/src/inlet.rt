@@ -56,7 +56,8 @@ impl Inlet for RuledInlet {
 
     ghost accounts = { λ e rs n m ended. AreHeard rs e.first (map string_bytes e.taken.items) e.fates.items n m ended × (e.taker.taken ≡ map string_bytes e.taken.items) };
 
-    ghost holds = { λ e text rs n m. AreHeard rs e.first (map string_bytes e.taken.items) e.fates.items n m false × (e.taker.taken ≡ map string_bytes e.taken.items ++ text ∷ []) × (vec_len e.taken < vec_capacity e.taken) × (vec_len e.fates < vec_capacity e.fates) };
+    ghost holds = { λ e text rs n m. AreHeard rs e.first (map string_bytes e.taken.items) e.fates.items n m false
+        × (e.taker.taken ≡ map string_bytes e.taken.items ++ text ∷ []) × (vec_len e.taken < vec_capacity e.taken) × (vec_len e.fates < vec_capacity e.fates) };
 
     ghost same = { λ a b. (b.first ≡ a.first) × (b.taker.link ≡ a.taker.link) };
 

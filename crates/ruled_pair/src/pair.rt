@@ -180,8 +180,8 @@ fn report_of(direction: Direction, out: OutReport, got: InReport) -> PairReport
 /// Runs two links between two sites, one each way, for so many turns, at most 10^9: at each site an outbox and an inbox, each
 /// on a thread of its own, as [`exchange_threads::run_outbox`] and [`exchange_threads::run_inbox`] do. Each link holds at
 /// most 16 texts. What happened from the first site to the second, and from the second to the first, once all four
-/// runners have ended. A runner makes room in its report before it puts or takes a text, so that nothing is put or taken
-/// that the report lacks. Refused, before any runner starts, in this order: `NoLink`; `Memory`. Where a thread can't be
+/// runners have ended. A runner first reserves memory in its report, so that the report lacks no text that was put or taken.
+/// Refused, before any runner starts, in this order: `NoLink`; `Memory`. Where a thread can't be
 /// started, runners run in turn, and then may wait for ever for one another. May wait.
 ///
 /// That what is taken is a prefix of what was put goes by a rule that the channel keeps under every schedule.
@@ -204,8 +204,10 @@ pub fn run_ruled_pair<
 ) -> Result<(PairReport, PairReport), PairError>
     requires few { turns ≤ 1000000000 }
     ensures ran { IfOk result (λ reports.
-        IsPairReport (length first.now.layout.records) turns first_end.old.out_pass first_end.new.out_pass second_end.old.in_pass second_end.new.in_pass reports.0
-        × IsPairReport (length second.now.layout.records) turns second_end.old.out_pass second_end.new.out_pass first_end.old.in_pass first_end.new.in_pass reports.1) }
+        IsPairReport (length first.now.layout.records) turns
+        first_end.old.out_pass first_end.new.out_pass second_end.old.in_pass second_end.new.in_pass reports.0
+        × IsPairReport (length second.now.layout.records) turns
+        second_end.old.out_pass second_end.new.out_pass first_end.old.in_pass first_end.new.in_pass reports.1) }
     ensures refused { IfErr result (IsRefusal first.now.site second.now.site) }
     ensures first_stays { OnErr result (first_end.new ≡ first_end.old) }
     ensures second_stays { OnErr result (second_end.new ≡ second_end.old) }
@@ -259,8 +261,10 @@ fn run_both<
     requires few { turns ≤ 1000000000 }
     requires there { IsFresh there.old (length first_end.old.out_pass.receipts) (length second_end.old.in_pass.receipts) }
     requires back { IsFresh back.old (length second_end.old.out_pass.receipts) (length first_end.old.in_pass.receipts) }
-    ensures there { HasRunBoth (length first.now.layout.records) turns first_end.old.out_pass first_end.new.out_pass second_end.old.in_pass second_end.new.in_pass there.old there.new result.0.0 result.0.1 }
-    ensures back { HasRunBoth (length second.now.layout.records) turns second_end.old.out_pass second_end.new.out_pass first_end.old.in_pass first_end.new.in_pass back.old back.new result.1.0 result.1.1 }
+    ensures there { HasRunBoth (length first.now.layout.records) turns
+        first_end.old.out_pass first_end.new.out_pass second_end.old.in_pass second_end.new.in_pass there.old there.new result.0.0 result.0.1 }
+    ensures back { HasRunBoth (length second.now.layout.records) turns
+        second_end.old.out_pass second_end.new.out_pass first_end.old.in_pass first_end.new.in_pass back.old back.new result.1.0 result.1.1 }
 {
     let RuledEnd {
         out_pass: first_out,
@@ -275,14 +279,16 @@ fn run_both<
     join_mut(
         rt,
         &mut || -> (OutReport, InReport)
-            requires { IsSend K.row × IsSend L.row × IsSync L.row × IsSend G.row × IsSend N.row × IsSend M.row × IsSync M.row × IsSync R.row × (turns ≤ 1000000000) × IsFresh there.now (length first_out.now.receipts) (length second_in.now.receipts) }
+            requires { IsSend K.row × IsSend L.row × IsSync L.row × IsSend G.row × IsSend N.row × IsSend M.row × IsSync M.row × IsSync R.row
+                × (turns ≤ 1000000000) × IsFresh there.now (length first_out.now.receipts) (length second_in.now.receipts) }
         {
             run_direction(
                 rt, alloc, first, first_out, first_gate, second, second_in, there, turns,
             )
         },
         &mut || -> (OutReport, InReport)
-            requires { IsSend K.row × IsSend L.row × IsSync L.row × IsSend H.row × IsSend N.row × IsSend M.row × IsSync M.row × IsSync R.row × (turns ≤ 1000000000) × IsFresh back.now (length second_out.now.receipts) (length first_in.now.receipts) }
+            requires { IsSend K.row × IsSend L.row × IsSync L.row × IsSend H.row × IsSend N.row × IsSend M.row × IsSync M.row × IsSync R.row
+                × (turns ≤ 1000000000) × IsFresh back.now (length second_out.now.receipts) (length first_in.now.receipts) }
         {
             run_direction(
                 rt,
