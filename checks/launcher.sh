@@ -57,6 +57,10 @@ checks/guide.py >"$work/output" 2>&1 && [ "$(builds)" = 0 ]
 tell $? "the guide's commands print what it shows: $(tail -1 "$work/output")"
 printf 'read a 7\nsend\n' | ./seat_cli site --site 0 --store "$work/site_0.db" >"$work/output" 2>&1 && [ "$(head -1 "$work/output")" = admitted ]
 tell $? "the README's third command makes a store and lets a reader in"
+./seat_cli run --out "$work/sites.log" --layout examples/three_sites.toml <examples/at_once.script 2>"$work/errors" | cmp -s - examples/at_once.txt
+tell $? "the README's fourth command runs three sites at once"
+./seat_cli judge --layout examples/three_sites.toml <"$work/sites.log" 2>"$work/errors" | tail -1 | grep -q '^consistent$' && [ "$(builds)" = 0 ]
+tell $? "the README's fifth command judges their logs"
 cat examples/site_1.deltas examples/site_0.deltas | joins && [ ! -s "$work/errors" ] && [ "$(builds)" = 0 ]
 tell $? "the deltas of the examples join to examples/joined.txt, without a build"
 cat examples/site_0.deltas examples/site_1.deltas examples/site_0.deltas | joins && [ ! -s "$work/errors" ] && [ "$(builds)" = 0 ]
