@@ -1,0 +1,4 @@
+pub mod GivenLemmas
+pub mod WalkLemmas
+pub mod PlaceLemmas
+pub mod CallLemmas
