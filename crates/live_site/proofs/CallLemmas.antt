@@ -14,7 +14,6 @@ use Rattle.admission_core.specs.Core.{Core, IsCore, Stands, SameContent, core_vi
 use Rattle.admission_core.specs.Kept.{durable_of}
 use Rattle.admission_core.proofs.CoreLemmas.{is_core, shows_account}
 use Rattle.admission_core.proofs.ReadyLemmas.{stands_along, view_along}
-use Rattle.script_text.specs.Replies.{reply_text}
 use Rattle.durable_keeper.specs.declared.keeper.Keeper.{Ghosts}
 use Rattle.durable_keeper.specs.declared.error.KeeperError.{KeeperError}
 use Rattle.durable_keeper.specs.declared.error.KeeperError.TheVariants as keeping
@@ -27,7 +26,7 @@ use Rattle.live_site.specs.declared.live_site.Outcome.{Outcome}
 use Rattle.live_site.specs.declared.live_site.Outcome.TheVariants.{Answered, TooManySeats, Memory, StoreFault, Frozen, LogFailed}
 use Rattle.live_site.specs.Entries.{entry_of}
 use Rattle.live_site.specs.Overfull.{overfull_in}
-use Rattle.live_site.specs.Live.{LiveState, Enters, Stays, IsLive, WasAnswered, WasTooMany, WasUnserved, WasDoubted, WasUnlogged, IsLiveStep, freezes}
+use Rattle.live_site.specs.Live.{LiveState, Enters, Stays, IsLive, WasAnswered, WasTooMany, WasUnserved, WasDoubted, WasUnlogged, IsLiveStep, freezes, line_of}
 use Rattle.live_site.specs.Steps.{IsNotKept, TakesBack, unlogged}
 
 -- a core of which only the room changed
@@ -40,14 +39,15 @@ view_told a c d same stands = view_along c d same ∙ shows_account a c stands
 
 module _ {K L : Type 0} (g : Ghosts K) (h : LogGhosts L) (a : Account) (c : Core) (stands : Stands a c) (call : Call) where
   -- too many rights would be given
-  pub too_many : (d : Core) (k : K) (log : L) (r : ℕ) → SameContent c d → (reason (core_view d) call ≡ None) × (overfull_in (core_view d) call ≡ Some r)
-      → WasTooMany a c d k k log log call r
-  too_many d k log r same is = record {
+  pub too_many : (d : Core) (k : K) (log : L) (text : List ℕ) (r : ℕ) → SameContent c d → (reason (core_view d) call ≡ None) × (overfull_in (core_view d) call ≡ Some r)
+      → WasTooMany a c d k k log log call text text r
+  too_many d k log text r same is = record {
     free = sym (ap (λ (v : View). reason v call) (view_told a c d same stands)) ∙ is.0;
     overfull = sym (ap (λ (v : View). overfull_in v call) (view_told a c d same stands)) ∙ is.1;
     core = same;
     keeper = refl;
     unlogged = refl;
+    untold = refl;
   }
 
   -- the log took nothing
@@ -106,12 +106,12 @@ module _ {K L : Type 0} (g : Ghosts K) (h : LogGhosts L) (a : Account) (c : Core
   -- the call was carried out
   pub call_done : (d new : Core) (k l : K) (log log_after : L) (text text_after : List ℕ) (reply : Reply) → SameContent c d
       → (reason (core_view d) call ≡ None → overfull_in (core_view d) call ≡ None)
-      → IsAnswered g a c new k l call reply → text_after ≡ text ++ reply_text reply → Enters h log log_after call reply
+      → IsAnswered g a c new k l call reply → text_after ≡ text ++ line_of reply → Enters h log log_after call reply
       → WasAnswered g h a c new k l log log_after call text text_after
   call_done d new k l log log_after text text_after reply same fits answered told logged = record {
     answered = subst (λ (r : Reply). IsAnswered g a c new k l call r) answered.model answered;
     fits = fits_told d same fits;
-    told = told ∙ ap (λ (r : Reply). text ++ reply_text r) answered.model;
+    told = told ∙ ap (λ (r : Reply). text ++ line_of r) answered.model;
     logged = subst (λ (r : Reply). Enters h log log_after call r) answered.model logged;
   }
 

@@ -1,5 +1,5 @@
 -- A site at work, as contracts see it, and what a call leaves.
-use Rattle.std.specs.Prelude.{◌≡◌, ℕ, ◌<◌, Bool, true, false, List, [], ◌∷◌, ◌++◌, Option, Some, None, Result, Ok, Err}
+use Rattle.std.specs.Prelude.{◌≡◌, ℕ, ◌<◌, Bool, true, false, List, [], ◌∷◌, ◌++◌, codes, Option, Some, None, Result, Ok, Err}
 use Rattle.merge_core.specs.Layout.{LayoutState, IsLayout}
 use Rattle.admission_model.specs.declared.ask.Call.{Call}
 use Rattle.admission_model.specs.declared.reply.Refusal.TheVariants.{OwnRowAhead, StoreFault as NoStore}
@@ -29,6 +29,10 @@ pub record LiveState (K : Type 0) : Type 0 where
   pub core : Core
   pub keeper : K
   pub frozen : Bool
+
+-- a reply as a line
+abbrev pub line_of : Reply → List ℕ
+line_of reply = reply_text reply ++ codes "\n"
 
 -- A delta that tells more of the site's own row than the site did shows that its store is older than what others have
 -- seen: behind it the site serves no more.
@@ -95,21 +99,22 @@ module _ {K : Type 0} where
 
 -- what a call leaves at a core, its keeper and a log, by the outcome, at an account for which the core stands
 module _ {K L : Type 0} where
-  -- it was answered: the text got the model's reply, the log was handed both, the change is kept, the core is the one
+  -- it was answered: the text got the model's reply and LF, the log was handed both, the change is kept, the core is the one
   -- after the call
   pub record WasAnswered (g : Ghosts K) (h : LogGhosts L) (a : Account) (c d : Core) (old new : K) (log log_after : L) (call : Call) (text text_after : List ℕ) : Type 0 where
     pub answered : IsAnswered g a c d old new call (reply_of (view_of a) call)
     pub fits : reason (view_of a) call ≡ None → overfull_in (view_of a) call ≡ None
-    pub told : text_after ≡ text ++ reply_text (reply_of (view_of a) call)
+    pub told : text_after ≡ text ++ line_of (reply_of (view_of a) call)
     pub logged : Enters h log log_after call (reply_of (view_of a) call)
 
   -- it would give more rights than there are seats: nothing changed
-  pub record WasTooMany (a : Account) (c d : Core) (old new : K) (log log_after : L) (call : Call) (r : ℕ) : Type 0 where
+  pub record WasTooMany (a : Account) (c d : Core) (old new : K) (log log_after : L) (call : Call) (text text_after : List ℕ) (r : ℕ) : Type 0 where
     pub free : reason (view_of a) call ≡ None
     pub overfull : overfull_in (view_of a) call ≡ Some r
     pub core : SameContent c d
     pub keeper : new ≡ old
     pub unlogged : log_after ≡ log
+    pub untold : text_after ≡ text
 
   -- it found no memory: nothing changed, and the log took nothing
   pub record WasUnserved (g : Ghosts K) (h : LogGhosts L) (a : Account) (c d : Core) (old new : K) (log log_after : L) : Type 0 where
@@ -133,7 +138,7 @@ module _ {K L : Type 0} where
 
   abbrev pub IsLiveStep : Ghosts K → LogGhosts L → Account → Core → Core → K → K → L → L → Call → List ℕ → List ℕ → Outcome → Type 0
   IsLiveStep g h a c d old new log log_after call text text_after Answered = WasAnswered g h a c d old new log log_after call text text_after
-  IsLiveStep g h a c d old new log log_after call text text_after (TooManySeats r) = WasTooMany a c d old new log log_after call r
+  IsLiveStep g h a c d old new log log_after call text text_after (TooManySeats r) = WasTooMany a c d old new log log_after call text text_after r
   IsLiveStep g h a c d old new log log_after call text text_after Memory = WasUnserved g h a c d old new log log_after
   IsLiveStep g h a c d old new log log_after call text text_after StoreFault = WasDoubted g h a c d old new log log_after call
   IsLiveStep g h a c d old new log log_after call text text_after LogFailed = WasUnlogged g h a c d old new log log_after

@@ -95,7 +95,7 @@ impl<K: Keeper> LiveSite<K> {
         self.frozen
     }
 
-    /// Serves a call and writes the reply's text behind a text. The reply is written and the log is handed call and
+    /// Serves a call and writes the reply and LF behind a text. The reply is written and the log is handed call and
     /// reply before the change is kept, and the call is carried out behind that. After want of memory the text may have
     /// a part of the reply.
     pub fn serve<L: CallLog>(&mut self, call: &Call, text: &mut String, log: &mut L) -> Outcome

@@ -1,5 +1,5 @@
 //! One call at a core, its keeper and a log.
-ghost use Rattle.std.specs.Prelude.{◌≡◌, MatchOption, None, Some, false, string_bytes};
+ghost use Rattle.std.specs.Prelude.{◌≡◌, ◌++◌, IfOk, MatchOption, None, Some, false, string_bytes};
 ghost use Rattle.admission_model.specs.declared.reply.Refusal.{Refusal};
 ghost use Rattle.admission_model.specs.declared.reply.Reply.TheVariants.{Refused};
 ghost use Rattle.admission_model.specs.Account.{Account};
@@ -8,7 +8,7 @@ ghost use Rattle.admission_core.specs.Core.{IsCore, Stands, core_view, is_memory
 ghost use Rattle.durable_keeper.specs.Keeping.{IsChange};
 ghost use Rattle.desk_log.specs.Desk.{IsMadeFor, KeepsChange};
 ghost use Rattle.live_site.specs.Overfull.{overfull_in};
-ghost use Rattle.live_site.specs.Live.{IsLiveStep, freezes, is_outdated};
+ghost use Rattle.live_site.specs.Live.{IsLiveStep, freezes, is_outdated, line_of};
 ghost use Rattle.live_site.specs.Steps.{IsNotKept, is_refused, unlogged};
 
 use crate::call_log::{CallLog, LogFault};
@@ -17,6 +17,7 @@ use crate::overfull::overfull_in;
 use admission_core::{Call, Change, Refusal, Reply, SiteCore};
 use durable_keeper::{Keeper, KeeperError};
 use script_text::push_reply;
+use std::alloc::AllocError;
 
 // The reply is want of memory.
 fn is_memory(reply: &Reply) -> bool
@@ -93,7 +94,15 @@ fn not_kept<L: CallLog>(log: &mut L, error: KeeperError) -> Outcome
     Outcome::LogFailed
 }
 
-/// Answers a call, writes the reply behind the text, hands both to the log, has the change kept, and only then carries
+// Writes a reply and LF.
+fn push_line(text: &mut String, reply: &Reply) -> Result<(), AllocError>
+    ensures { IfOk result (λ _. string_bytes text.new ≡ string_bytes text.old ++ line_of reply.now) }
+{
+    push_reply(text, reply)?;
+    text.push_str("\n")
+}
+
+/// Answers a call, writes the reply and LF behind the text, hands both to the log, has the change kept, and only then carries
 /// the call out.
 pub(crate) fn step<K: Keeper, L: CallLog>(
     core: &mut SiteCore,
@@ -120,7 +129,7 @@ pub(crate) fn step<K: Keeper, L: CallLog>(
     if let Some(r) = overfull_at(core, call, prepared.reply()) {
         return Outcome::TooManySeats(r);
     }
-    if push_reply(text, prepared.reply()).is_err() {
+    if push_line(text, prepared.reply()).is_err() {
         return Outcome::Memory;
     }
     if let Err(fault) = log.enter(core.layout(), call, prepared.reply()) {

@@ -7,10 +7,9 @@ use Rattle.admission_core.specs.Core.{is_memory}
 use Rattle.admission_core.specs.Kept.{ChangeState}
 use Rattle.desk_log.specs.Desk.{HasKept, HasNotKept, MayHaveKept, KeepsChange}
 use Rattle.desk_log.proofs.StepLemmas.{may_be_told, carried_out, store_memory, store_fault}
-use Rattle.script_text.specs.Replies.{reply_text}
 use Rattle.durable_keeper.specs.declared.error.KeeperError.{KeeperError}
 use Rattle.live_site.specs.declared.live_site.Outcome.{Outcome}
-use Rattle.live_site.specs.Live.{Enters, IsLiveStep}
+use Rattle.live_site.specs.Live.{Enters, IsLiveStep, line_of}
 use Rattle.live_site.proofs.CallLemmas.{core_along, too_many, log_refused, change_lost, call_done}
 use Rattle.live_site.proofs.step.step.Goals as goal
 
@@ -19,15 +18,15 @@ overfull_at-requires-clause-core g c = core_along c.args.core.now c.prepare-prep
 
 pub returns-in-Some-clause-step : goal.returns-in-Some-clause-step
 returns-in-Some-clause-step g c = λ a stands.
-    too_many g.K.Keeper g.L.CallLog a c.args.core.now stands c.args.call.now c.prepare-prepared.new.self c.args.keeper.now c.args.log.now c.in-Some.r c.prepare-prepared.ensures.content c.in-Some.ensures
+    too_many g.K.Keeper g.L.CallLog a c.args.core.now stands c.args.call.now c.prepare-prepared.new.self c.args.keeper.now c.args.log.now (string_bytes c.args.text.now) c.in-Some.r c.prepare-prepared.ensures.content c.in-Some.ensures
 
 pub returns-in-Err-clause-step : goal.returns-in-Err-clause-step
 returns-in-Err-clause-step g c = λ a stands.
     let e = c.prepare-prepared.ensures in
     subst (λ (o : Outcome). IsLiveStep g.K.Keeper g.L.CallLog a c.args.core.now c.prepare-prepared.new.self c.args.keeper.now c.args.keeper.now c.args.log.now c.enter.new.self c.args.call.now
-    (string_bytes c.args.text.now) (string_bytes c.push_reply.new.text) o) (sym c.unlogged.ensures)
+    (string_bytes c.args.text.now) (string_bytes c.push_line.new.text) o) (sym c.unlogged.ensures)
     (log_refused g.K.Keeper g.L.CallLog a c.args.core.now stands c.args.call.now c.prepare-prepared.new.self c.args.keeper.now c.args.log.now c.enter.new.self
-    (string_bytes c.args.text.now) (string_bytes c.push_reply.new.text) c.in-Err.fault e.content c.requires.no_fault
+    (string_bytes c.args.text.now) (string_bytes c.push_line.new.text) c.in-Err.fault e.content c.requires.no_fault
     (λ first before took is. c.in-Err.ensures.memory first before took (ap Err is)) (λ is. c.in-Err.ensures.failed (ap Err is)))
 
 pub keep-requires-clause-change : goal.keep-requires-clause-change
@@ -54,7 +53,7 @@ returns-in-Err-keep-clause-step g c = λ a stands.
     subst (λ (r : Reply). Enters g.L.CallLog c.args.log.now c.enter.new.self c.args.call.now r) (c.reply-4.ensures ∙ e.reply there a stands)
     (λ first before took. c.in_default-enter.ensures.entered first before took) in
     change_lost g.K.Keeper g.L.CallLog a old stands c.args.call.now mid k l c.args.log.now c.enter.new.self c.not_kept.new.log
-    (string_bytes c.args.text.now) (string_bytes c.push_reply.new.text) c.in-Err-keep.error c.not_kept.result e.content c.in_default.ensures logged
+    (string_bytes c.args.text.now) (string_bytes c.push_line.new.text) c.in-Err-keep.error c.not_kept.result e.content c.in_default.ensures logged
     (λ is. store_memory old mid c.args.call.now p c.requires.core e.content e.ready e.change g.K.Keeper k l there
     (subst (λ (x : KeeperError). KeepsChange g.K.Keeper k l p.change (Err x)) is kept) a stands)
     (λ is. store_fault old mid c.args.call.now p c.requires.core e.content e.ready e.change g.K.Keeper k l there
@@ -73,9 +72,9 @@ returns-clause-step g c = λ a stands.
     let logged : Enters g.L.CallLog c.args.log.now c.enter.new.self c.args.call.now p.reply =
     subst (λ (r : Reply). Enters g.L.CallLog c.args.log.now c.enter.new.self c.args.call.now r) c.reply-4.ensures
     (λ first before took. c.in_default-enter.ensures.entered first before took) in
-    let written : string_bytes c.push_reply.new.text ≡ string_bytes c.args.text.now ++ reply_text c.reply-3.result.now = search rules in
+    let written : string_bytes c.push_line.new.text ≡ string_bytes c.args.text.now ++ line_of c.reply-3.result.now = search rules in
     call_done g.K.Keeper g.L.CallLog a old stands c.args.call.now mid c.apply-reply.new.self c.args.keeper.now c.keep.new.keeper c.args.log.now c.enter.new.self
-    (string_bytes c.args.text.now) (string_bytes c.push_reply.new.text) p.reply e.content c.in_default.ensures
+    (string_bytes c.args.text.now) (string_bytes c.push_line.new.text) p.reply e.content c.in_default.ensures
     (carried_out old mid c.args.call.now p c.requires.core e.content e.ready e.change g.K.Keeper c.args.keeper.now c.keep.new.keeper
     c.apply-reply.new.self p.reply there kept refl c.apply-reply.ensures.account c.apply-reply.ensures.unchanged a stands)
-    (written ∙ ap (λ (r : Reply). string_bytes c.args.text.now ++ reply_text r) c.reply-3.ensures) logged
+    (written ∙ ap (λ (r : Reply). string_bytes c.args.text.now ++ line_of r) c.reply-3.ensures) logged
