@@ -1,0 +1,4 @@
+pub mod TextLemmas
+pub mod CountLemmas
+pub mod ExchangeLemmas
+pub mod TurnLemmas

@@ -25,20 +25,19 @@ frozen_line = line_of (Refused Frozen)
 abbrev pub fault_line : List ℕ
 fault_line = line_of (Refused StoreFault)
 
+-- a number behind a word
+abbrev pub field : List ℕ → ℕ → List ℕ
+field word n = word ++ decimal n
+
 -- a delta that would give the site more rights to record r than it has seats
 abbrev pub too_many_line : ℕ → List ℕ
-too_many_line r = codes "refused TooManySeats " ++ (decimal r ++ codes "\n")
-
--- a number behind a word
-abbrev pub counted : List ℕ → ℕ → List ℕ → List ℕ
-counted word n rest = word ++ (decimal n ++ rest)
+too_many_line r = field (codes "refused TooManySeats ") r ++ codes "\n"
 
 -- the counts of a record: the site's rights, the seats inside, and the writers that have not finished
 abbrev pub counts_line : Account → ℕ → List ℕ
 counts_line a r =
-    counted (codes "rights ") (rights_of (view_of a) r) (
-    counted (codes " inside ") (inside a r) (
-    counted (codes " unfinished ") (writers_here a r) (codes "\n")))
+    ((field (codes "rights ") (rights_of (view_of a) r) ++ field (codes " inside ") (inside a r))
+    ++ field (codes " unfinished ") (writers_here a r)) ++ codes "\n"
 
 abbrev pub show_line : Account → ℕ → List ℕ
 show_line a r = if nat_lt r (length (layout_of a).records) then counts_line a r else line_of (Refused NoRecord)
