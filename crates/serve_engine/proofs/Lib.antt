@@ -2,3 +2,4 @@ pub mod TextLemmas
 pub mod CountLemmas
 pub mod ExchangeLemmas
 pub mod TurnLemmas
+pub mod EndLemmas

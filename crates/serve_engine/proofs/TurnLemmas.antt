@@ -16,7 +16,7 @@ use Rattle.serve_engine.specs.declared.turns.Turned.{Turned}
 use Rattle.serve_engine.specs.declared.turns.Turned.TheVariants as turned
 use Rattle.serve_engine.specs.Exchanges.{Exchange, turns_of, Answers, Stops, IsIdle, Serves, ServesUpTo, AreIdle, HasServed}
 use Rattle.serve_engine.specs.Ending.{EndsIn}
-use Rattle.serve_engine.specs.Steps.{Hands, ServesOn, StopsServing, StaysIdle, Exchanges, ExchangesAs, LosesLog, Tells, StandsBehind, Works, Fails, TurnsTo, exchange_of}
+use Rattle.serve_engine.specs.Steps.{AnswersHeard, Hands, ServesOn, StopsServing, StaysIdle, Exchanges, ExchangesAs, LosesLog, Tells, StandsBehind, Works, Fails, TurnsTo, exchange_of}
 
 -- one exchange more
 turns_more : (xs : List Exchange) (x : Exchange) → turns_of (xs ++ x ∷ []) ≡ (turns_of xs ++ Heard x.line ∷ []) ++ Told x.told ∷ []
@@ -205,3 +205,15 @@ module _ {K C L : Type 0} (g : Ghosts K) (c : TalkGhosts C) (h : LogGhosts L) (r
     site = lost g h records a first keeper old new log_now xs es st it;
     why = inr it.failed;
   }
+
+  -- the line that is kept was answered
+  pub line_turn : (old new : LiveState K) (heard now : C) (log log_now : L) (line : List ℕ) (xs : List Exchange) (es : List Entry) (n : ℕ) (turn : Turned)
+      → c.took_place talk (turns_of xs ++ Heard (Whole line) ∷ []) heard → h.took began es log → length xs ≡ n
+      → (st : StandsBehind g records a first keeper old xs es) → AnswersHeard g c h records st.account old new heard now log log_now line turn
+      → TurnsTo g c h records a first keeper new talk now began log_now n turn
+  line_turn old new heard now log log_now line xs es n turn took logged counted st (inl (text, ex, tells)) =
+      told_turn old new heard now log log_now xs es (exchange_of line text) n turn took logged counted st ex tells
+  line_turn old new heard now log log_now line xs es n turn took logged counted st (inr (it, same, is)) =
+      subst (λ (t : Turned). TurnsTo g c h records a first keeper new talk now began log_now n t) (sym is)
+      (subst (λ (x : C). Fails g c h records a first keeper new talk x began log_now) (sym same)
+      (lost_turn old new heard log log_now xs es (Whole line) took st it))
