@@ -1,5 +1,5 @@
 -- Reading one line, part by part.
-use Rattle.std.proofs.Common.{◌≡◌, ℕ, ◌≤◌, ◌<◌, ◌⊎◌, inl, inr, Bool, true, false, List, [], ◌∷◌, ◌++◌, length, refl, sym, ap, subst, ◌∙◌, append_assoc, append-nil, arith}
+use Rattle.std.proofs.Common.{◌≡◌, ℕ, ◌≤◌, ◌<◌, inl, inr, Bool, true, false, List, [], ◌∷◌, ◌++◌, length, refl, sym, ap, subst, ◌∙◌, append_assoc, append-nil, arith}
 use Rattle.std.specs.Prelude.{IsTrue, ◌↔◌, not}
 use Rattle.std.specs.Io.KnownBytes.{Consumes, IsAtEnd, Keeps}
 use Rattle.std.proofs.KnownBytes.{Consumes-kept, Consumes-trans}
@@ -10,7 +10,7 @@ use Rattle.line_conversation.specs.declared.conversation.Next.{Next}
 use Rattle.line_conversation.specs.declared.conversation.Next.TheVariants as next
 use Rattle.line_conversation.specs.declared.held.Fate.{Fate}
 use Rattle.line_conversation.specs.declared.held.Fate.TheVariants as fate
-use Rattle.line_conversation.specs.Stream.{HeldState, Holds, HoldsAs, Takes, next_of, CutsLine, Cuts, MayFail, ReadsLine, ReadsSoFar}
+use Rattle.line_conversation.specs.Stream.{HeldState, Holds, HoldsAs, Takes, next_of, CutsLine, Cuts, ReadsLine, ReadsSoFar}
 use Rattle.line_conversation.specs.Begins.{nothing_lost}
 
 -- a line begins

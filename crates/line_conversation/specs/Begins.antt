@@ -1,5 +1,5 @@
 -- The conversation with a reader and a writer before any turn.
-use Rattle.std.proofs.Common.{◌≡◌, ℕ, List, [], Option, Some, None, refl, sym, append-nil}
+use Rattle.std.proofs.Common.{ℕ, List, [], Option, Some, None, refl, sym, append-nil}
 use Rattle.std.specs.Io.KnownBytes.{Appends, Consumes}
 use Rattle.line_conversation.specs.Stream.{StreamState, TookPlace}
 

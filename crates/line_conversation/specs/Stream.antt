@@ -1,6 +1,6 @@
 -- The conversation with a reader and a writer: what was read ahead, what is kept of a line, and how the bytes of the
 -- reader are cut into the lines that were heard.
-use Rattle.std.specs.Prelude.{◌≡◌, ◌≢◌, ℕ, ◌≤◌, ◌<◌, ◌⊎◌, Bool, true, false, List, [], ◌∷◌, ◌++◌, length, Option, None}
+use Rattle.std.specs.Prelude.{◌≡◌, ℕ, ◌≤◌, ◌<◌, ◌⊎◌, Bool, true, false, List, [], ◌∷◌, ◌++◌, length, None}
 use Rattle.std.specs.Io.KnownBytes.{Appends, Consumes, IsAtEnd}
 use Rattle.text_input.specs.Lines.{HasNoLf}
 use Rattle.text_input.specs.Source.{HasFault, SourceState}

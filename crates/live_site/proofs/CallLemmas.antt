@@ -1,7 +1,6 @@
 -- What one call leaves at a site at work, exit by exit.
-use Rattle.std.proofs.Common.{◌≡◌, ℕ, ◌⊎◌, inl, inr, Bool, true, false, List, [], ◌∷◌, ◌++◌, Option, Some, None, refl, sym, ap, subst, ◌∙◌, Err}
-use Rattle.std.specs.Prelude.{MatchOption}
-use Rattle.merge_core.specs.Layout.{LayoutState, IsLayout}
+use Rattle.std.proofs.Common.{◌≡◌, ℕ, inl, inr, Bool, true, false, List, ◌++◌, Some, None, refl, sym, ap, subst, ◌∙◌}
+use Rattle.merge_core.specs.Layout.{IsLayout}
 use Rattle.admission_model.specs.declared.ask.Call.{Call}
 use Rattle.admission_model.specs.declared.reply.Refusal.TheVariants.{StoreFault as NoStore}
 use Rattle.admission_model.specs.declared.reply.Reply.{Reply}
@@ -11,7 +10,6 @@ use Rattle.admission_model.specs.View.{View, view_of}
 use Rattle.admission_model.specs.Serving.{after, reason, reply_of}
 use Rattle.admission_model.proofs.ServingLemmas.{origin_after, sites_after}
 use Rattle.admission_core.specs.Core.{Core, IsCore, Stands, SameContent, core_view}
-use Rattle.admission_core.specs.Kept.{durable_of}
 use Rattle.admission_core.proofs.CoreLemmas.{is_core, shows_account}
 use Rattle.admission_core.proofs.ReadyLemmas.{stands_along, view_along}
 use Rattle.durable_keeper.specs.declared.keeper.Keeper.{Ghosts}
@@ -26,8 +24,8 @@ use Rattle.live_site.specs.declared.live_site.Outcome.{Outcome}
 use Rattle.live_site.specs.declared.live_site.Outcome.TheVariants.{Answered, TooManySeats, Memory, StoreFault, Frozen, LogFailed}
 use Rattle.live_site.specs.Entries.{entry_of}
 use Rattle.live_site.specs.Overfull.{overfull_in}
-use Rattle.live_site.specs.Live.{LiveState, Enters, Stays, IsLive, WasAnswered, WasTooMany, WasUnserved, WasDoubted, WasUnlogged, IsLiveStep, freezes, line_of}
-use Rattle.live_site.specs.Steps.{IsNotKept, TakesBack, unlogged}
+use Rattle.live_site.specs.Live.{LiveState, Enters, IsLive, WasAnswered, WasTooMany, IsLiveStep, freezes, line_of}
+use Rattle.live_site.specs.Steps.{IsNotKept, unlogged}
 
 -- a core of which only the room changed
 pub core_along : (c d : Core) → SameContent c d → IsCore c → IsCore d

@@ -2,3 +2,4 @@ pub mod GivenLemmas
 pub mod WalkLemmas
 pub mod PlaceLemmas
 pub mod CallLemmas
+pub mod LawLemmas

@@ -1,12 +1,11 @@
 -- The rows of a delta that a core takes, and the walk over them.
-use Rattle.std.proofs.Common.{◌≡◌, ℕ, suc, ◌+◌, ◌-◌, ◌<◌, ◌≤◌, true, cond, ltb, min, List, [], ◌∷◌, length, get_or, drop, Some, None, refl, sym, ap, subst, ◌∙◌, arith, drop-cons, add-one}
+use Rattle.std.proofs.Common.{◌≡◌, ℕ, suc, ◌<◌, ◌≤◌, true, ltb, min, List, [], ◌∷◌, length, get_or, drop, Some, None, sym, ap, ◌∙◌, arith, drop-cons}
 use Rattle.std.specs.List.{AllByRecursion}
 use Rattle.std.proofs.lemmas.Bool.{cond-true, lt-ltb}
 use Rattle.std.proofs.lemmas.List.{drop_all}
 use Rattle.std.proofs.lemmas.List.Elements.{recursion_from_All}
 use Rattle.merge_core.specs.declared.delta.Row.{Row}
 use Rattle.merge_core.specs.Book.{book_shape}
-use Rattle.merge_core.specs.Check.{IsChecked}
 use Rattle.merge_core.specs.Delta.{DeltaState, IsDelta}
 use Rattle.merge_core.specs.Layout.{Shape, shape_of, record_shape}
 use Rattle.merge_core.specs.Tests.{is_placed}
@@ -16,7 +15,7 @@ use Rattle.admission_model.specs.declared.ask.Call.TheVariants.{Merge}
 use Rattle.admission_model.specs.Serving.{reason}
 use Rattle.admission_model.specs.View.{View}
 use Rattle.admission_core.specs.Core.{Core, IsCore, core_view}
-use Rattle.admission_core.proofs.JoiningLemmas.{HasJoinedBook, joined_book, reason-accepted}
+use Rattle.admission_core.proofs.JoiningLemmas.{joined_book, reason-accepted}
 use Rattle.live_site.specs.Overfull.{lacking, first_overfull}
 use Rattle.live_site.specs.Walk.{given_with, walk}
 use Rattle.live_site.proofs.WalkLemmas.{HasPlace, walk_all}

@@ -1,5 +1,5 @@
 -- A site at work, as contracts see it, and what a call leaves.
-use Rattle.std.specs.Prelude.{◌≡◌, ℕ, ◌<◌, Bool, true, false, List, [], ◌∷◌, ◌++◌, codes, Option, Some, None, Result, Ok, Err}
+use Rattle.std.specs.Prelude.{◌≡◌, ℕ, ◌<◌, Bool, true, false, List, [], ◌∷◌, ◌++◌, codes, Some, None, Result, Ok, Err}
 use Rattle.merge_core.specs.Layout.{LayoutState, IsLayout}
 use Rattle.admission_model.specs.declared.ask.Call.{Call}
 use Rattle.admission_model.specs.declared.reply.Refusal.TheVariants.{OwnRowAhead, StoreFault as NoStore}
@@ -7,7 +7,7 @@ use Rattle.admission_model.specs.declared.reply.Reply.{Reply}
 use Rattle.admission_model.specs.declared.reply.Reply.TheVariants.{Refused}
 use Rattle.admission_model.specs.Account.{Account}
 use Rattle.admission_model.specs.View.{view_of}
-use Rattle.admission_model.specs.Serving.{after, reason, reply_of}
+use Rattle.admission_model.specs.Serving.{reason, reply_of}
 use Rattle.admission_model.specs.Restoring.{AreCells, AreSessions}
 use Rattle.admission_core.specs.Core.{Core, IsCore, Stands, SameContent}
 use Rattle.admission_core.specs.Kept.{DurableState, durable_of}
@@ -22,7 +22,7 @@ use Rattle.live_site.specs.declared.call_log.CallLog.{Ghosts as LogGhosts}
 use Rattle.live_site.specs.declared.live_site.Outcome.{Outcome}
 use Rattle.live_site.specs.declared.live_site.Outcome.TheVariants.{Answered, TooManySeats, Memory, StoreFault, Frozen, LogFailed}
 use Rattle.live_site.specs.Entries.{entry_of}
-use Rattle.live_site.specs.Overfull.{overfull_in}
+use Rattle.live_site.specs.Overfull.{Fits, overfull_in}
 
 -- a site at work: its core, what keeps its durable part, and whether it serves no more
 pub record LiveState (K : Type 0) : Type 0 where
@@ -103,7 +103,7 @@ module _ {K L : Type 0} where
   -- after the call
   pub record WasAnswered (g : Ghosts K) (h : LogGhosts L) (a : Account) (c d : Core) (old new : K) (log log_after : L) (call : Call) (text text_after : List ℕ) : Type 0 where
     pub answered : IsAnswered g a c d old new call (reply_of (view_of a) call)
-    pub fits : reason (view_of a) call ≡ None → overfull_in (view_of a) call ≡ None
+    pub fits : Fits a call
     pub told : text_after ≡ text ++ line_of (reply_of (view_of a) call)
     pub logged : Enters h log log_after call (reply_of (view_of a) call)
 
@@ -126,7 +126,7 @@ module _ {K L : Type 0} where
   -- the store failed: the log was handed the call and the model's reply, and what is kept is the old or the new
   pub record WasDoubted (g : Ghosts K) (h : LogGhosts L) (a : Account) (c d : Core) (old new : K) (log log_after : L) (call : Call) : Type 0 where
     pub doubted : IsDoubted g a c d old new call (Refused NoStore)
-    pub fits : reason (view_of a) call ≡ None → overfull_in (view_of a) call ≡ None
+    pub fits : Fits a call
     pub logged : Enters h log log_after call (reply_of (view_of a) call)
 
   -- the log failed: nothing changed

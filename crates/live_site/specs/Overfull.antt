@@ -1,6 +1,6 @@
 -- Deltas that give a site more rights to a record than the record has seats (this project's own rule): where each site
 -- tells what it did, no delta does; one from elsewhere may.
-use Rattle.std.specs.Prelude.{ℕ, ◌-◌, Bool, nat_lt, List, length, Option, None}
+use Rattle.std.specs.Prelude.{◌≡◌, ℕ, ◌-◌, Bool, nat_lt, List, length, Option, None}
 use Rattle.merge_core.specs.declared.cell.Cell.TheVariants.{Out}
 use Rattle.merge_core.specs.declared.delta.Row.{Row}
 use Rattle.merge_core.specs.Layout.{shape_of}
@@ -8,8 +8,9 @@ use Rattle.merge_core.specs.Naming.{shown_by}
 use Rattle.merge_core.specs.Sums.{total, least_below}
 use Rattle.admission_model.specs.declared.ask.Call.{Call}
 use Rattle.admission_model.specs.declared.ask.Call.TheVariants.{Ask, Merge, Snapshot}
-use Rattle.admission_model.specs.Account.{seats_in}
-use Rattle.admission_model.specs.View.{View, rights_of}
+use Rattle.admission_model.specs.Account.{Account, seats_in}
+use Rattle.admission_model.specs.Serving.{reason}
+use Rattle.admission_model.specs.View.{View, rights_of, view_of}
 
 -- the rights to record r that rows give to the site: how much more each site's row shows as moved to it than is known
 abbrev pub given : View → List Row → ℕ → ℕ
@@ -32,3 +33,7 @@ abbrev pub overfull_in : View → Call → Option ℕ
 overfull_in v (Ask ask) = None
 overfull_in v (Merge delta) = first_overfull v delta.rows
 overfull_in v Snapshot = None
+
+-- a call that nothing else refuses gives no more rights to a record than it has seats
+abbrev pub Fits : Account → Call → Type 0
+Fits a call = reason (view_of a) call ≡ None → overfull_in (view_of a) call ≡ None

@@ -6,6 +6,7 @@ pub use call_log::{CallLog, LogFault, NoLog};
 pub use live_site::{LiveSite, Outcome};
 
 mod call_log;
+pub mod laws;
 mod live_site;
 mod overfull;
 mod step;

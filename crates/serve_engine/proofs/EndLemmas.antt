@@ -1,14 +1,12 @@
 -- From the opening of a site to the end of the service.
-use Rattle.std.proofs.Common.{◌≡◌, ℕ, ◌<◌, ◌≤◌, ◌⊎◌, inl, inr, Bool, true, false, List, [], length, refl, sym, ap, subst, ◌∙◌, arith}
+use Rattle.std.proofs.Common.{◌≡◌, ℕ, ◌<◌, ◌≤◌, ◌⊎◌, inl, inr, Bool, true, false, List, [], length, refl, sym, ap, subst, arith}
 use Rattle.merge_core.specs.declared.layout.RecordSpec.{RecordSpec}
-use Rattle.merge_core.specs.Layout.{LayoutState, Shape, shape_of}
-use Rattle.merge_core.specs.Book.{book_shape}
+use Rattle.merge_core.specs.Layout.{LayoutState, Shape}
 use Rattle.admission_model.specs.Account.{Account}
 use Rattle.admission_core.specs.Core.{Stands}
 use Rattle.admission_core.specs.Kept.{DurableState, durable_of}
 use Rattle.durable_keeper.specs.declared.keeper.Keeper.{Ghosts}
 use Rattle.desk_log.specs.Log.{begun}
-use Rattle.desk_log.specs.Desk.{Leaves}
 use Rattle.desk_log.proofs.KeptLemmas.{durable_begun}
 use Rattle.exit_status.specs.declared.status.Status.{Status}
 use Rattle.exit_status.specs.declared.status.Status.TheVariants.{Done, Usage, NoLayout, NoStore, Fault, Refused, Memory, Io}

@@ -11,23 +11,23 @@ use Rattle.admission_model.specs.declared.reply.Reply.{Reply}
 use Rattle.admission_model.specs.declared.reply.Reply.TheVariants.{Refused}
 use Rattle.admission_model.specs.Account.{Account}
 use Rattle.admission_model.specs.View.{view_of}
-use Rattle.admission_model.specs.Serving.{advanced, after, reason, reply_of, unless_refused}
+use Rattle.admission_model.specs.Serving.{advanced, after, reply_of, unless_refused}
 use Rattle.admission_model.proofs.ReasonLemmas.{reason_told}
 use Rattle.admission_core.specs.Core.{Stands}
 use Rattle.admission_core.specs.Kept.{durable_of}
 use Rattle.admission_core.proofs.ReadyLemmas.{stands_along}
 use Rattle.durable_keeper.specs.declared.keeper.Keeper.{Ghosts}
 use Rattle.desk_log.specs.declared.entry.Entry.{Entry}
-use Rattle.line_conversation.specs.Turns.{Line, Whole}
+use Rattle.line_conversation.specs.Turns.{Whole}
 use Rattle.live_site.specs.declared.call_log.CallLog.{Ghosts as LogGhosts}
 use Rattle.live_site.specs.declared.live_site.Outcome.{Outcome}
 use Rattle.live_site.specs.declared.live_site.Outcome.TheVariants as outcome
 use Rattle.live_site.specs.Entries.{entry_of}
 use Rattle.live_site.specs.Live.{LiveState, IsIdle as IsIdleSite, IsServingSite, WasAnswered, is_outdated, line_of}
 use Rattle.serve_engine.specs.declared.answering.Told.{Told}
-use Rattle.serve_engine.specs.declared.answering.Told.TheVariants.{Text, BadWord, Memory, StoreFault, Frozen, LogFailed}
+use Rattle.serve_engine.specs.declared.answering.Told.TheVariants.{Text, Memory}
 use Rattle.serve_engine.specs.declared.request.Request.{Request}
-use Rattle.serve_engine.specs.declared.request.Request.TheVariants.{Asked, Unread, Show, Sessions}
+use Rattle.serve_engine.specs.declared.request.Request.TheVariants.{Asked}
 use Rattle.serve_engine.specs.Requests.{Asks}
 use Rattle.serve_engine.specs.Answers.{bad_word_line, fault_line, frozen_line, memory_line, too_many_line}
 use Rattle.serve_engine.specs.Exchanges.{Exchange, Answers, told_no_memory, told_bad_word, told_too_many, told_reply, Stops, stops_outdated, stops_failed, IsIdle, still_no_memory, still_bad_word, still_frozen, reaches_site}

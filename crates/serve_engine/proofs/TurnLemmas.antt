@@ -1,10 +1,9 @@
 -- Exchanges, one behind the other.
-use Rattle.std.proofs.Common.{◌≡◌, ℕ, ◌+◌, ◌⊎◌, inl, inr, Bool, true, false, List, [], ◌∷◌, ◌++◌, length, refl, sym, ap, subst, ◌∙◌, append_assoc, append-nil, length-append, arith}
+use Rattle.std.proofs.Common.{◌≡◌, ℕ, ◌+◌, ◌⊎◌, inl, inr, Bool, true, false, List, [], ◌∷◌, ◌++◌, length, refl, sym, ap, subst, ◌∙◌, append_assoc, append-nil, length-append}
 use Rattle.std.proofs.lemmas.Bool.{cases_Bool}
 use Rattle.merge_core.specs.declared.layout.RecordSpec.{RecordSpec}
 use Rattle.admission_model.specs.Account.{Account}
-use Rattle.admission_core.specs.Core.{Stands}
-use Rattle.admission_core.specs.Kept.{DurableState, durable_of}
+use Rattle.admission_core.specs.Kept.{DurableState}
 use Rattle.durable_keeper.specs.declared.keeper.Keeper.{Ghosts}
 use Rattle.desk_log.specs.declared.entry.Entry.{Entry}
 use Rattle.desk_log.specs.Desk.{Leaves}
@@ -14,9 +13,8 @@ use Rattle.live_site.specs.declared.call_log.CallLog.{Ghosts as LogGhosts}
 use Rattle.live_site.specs.Live.{LiveState}
 use Rattle.serve_engine.specs.declared.turns.Turned.{Turned}
 use Rattle.serve_engine.specs.declared.turns.Turned.TheVariants as turned
-use Rattle.serve_engine.specs.Exchanges.{Exchange, turns_of, Answers, Stops, IsIdle, Serves, ServesUpTo, AreIdle, HasServed}
-use Rattle.serve_engine.specs.Ending.{EndsIn}
-use Rattle.serve_engine.specs.Steps.{AnswersHeard, Hands, ServesOn, StopsServing, StaysIdle, Exchanges, ExchangesAs, LosesLog, Tells, StandsBehind, Works, Fails, TurnsTo, exchange_of}
+use Rattle.serve_engine.specs.Exchanges.{Exchange, turns_of, Answers, IsIdle, Serves, ServesUpTo, AreIdle, HasServed}
+use Rattle.serve_engine.specs.Steps.{AnswersHeard, Hands, ServesOn, StopsServing, StaysIdle, Exchanges, ExchangesAs, LosesLog, Tells, StandsBehind, Fails, TurnsTo, exchange_of}
 
 -- one exchange more
 turns_more : (xs : List Exchange) (x : Exchange) → turns_of (xs ++ x ∷ []) ≡ (turns_of xs ++ Heard x.line ∷ []) ++ Told x.told ∷ []
@@ -81,18 +79,18 @@ module _ {K L : Type 0} (g : Ghosts K) (h : LogGhosts L) (records : List RecordS
         account = b;
         tried = it.tried;
         served = subst (λ (f : Bool). HasServed records f a (xs ++ x ∷ []) (es ++ it.entries) it.fault b it.tried) (sym it.frozen) (record {
-              before = xs;
-              line = it.line;
-              told = x.told;
-              behind = [];
-              split = ap (λ (l : Line). xs ++ record { line = l; told = x.told } ∷ []) it.whole;
-              first = es;
-              last = it.entries;
-              handed = refl;
-              served = served;
-              stopped = it.stops;
-              idle = tt;
-            });
+          before = xs;
+          line = it.line;
+          told = x.told;
+          behind = [];
+          split = ap (λ (l : Line). xs ++ record { line = l; told = x.told } ∷ []) it.whole;
+          first = es;
+          last = it.entries;
+          handed = refl;
+          served = served;
+          stopped = it.stops;
+          idle = tt;
+        });
         stands = it.stands;
         kept = λ first_kept. it.kept (subst (λ (f : Bool). Leaves g f old.keeper b tried) none (kept first_kept));
       };
@@ -104,14 +102,14 @@ module _ {K L : Type 0} (g : Ghosts K) (h : LogGhosts L) (records : List RecordS
     idle st frozen it = record {
       more = [];
       site = subst (λ (s : LiveState K). StandsBehind g records a first keeper s (xs ++ x ∷ []) (es ++ [])) (sym it.site) (record {
-            fault = st.fault;
-            account = st.account;
-            tried = st.tried;
-            served = subst (λ (f : Bool). HasServed records f a (xs ++ x ∷ []) (es ++ []) st.fault st.account st.tried) (sym frozen) (longer
-                (subst (λ (f : Bool). HasServed records f a xs es st.fault st.account st.tried) frozen st.served));
-            stands = st.stands;
-            kept = st.kept;
-          });
+        fault = st.fault;
+        account = st.account;
+        tried = st.tried;
+        served = subst (λ (f : Bool). HasServed records f a (xs ++ x ∷ []) (es ++ []) st.fault st.account st.tried) (sym frozen) (longer
+            (subst (λ (f : Bool). HasServed records f a xs es st.fault st.account st.tried) frozen st.served));
+        stands = st.stands;
+        kept = st.kept;
+      });
       handed = subst (λ (l : L). Hands h log l []) (sym it.unlogged) (λ from before took. subst (λ (l : List Entry). h.took from l log) (sym (append-nil before)) took);
     }
       where

@@ -1,5 +1,5 @@
 -- A line and its answer, one after the other.
-use Rattle.std.specs.Prelude.{◌≡◌, ℕ, Bool, true, false, List, [], ◌∷◌, ◌++◌, Option, Some, None}
+use Rattle.std.specs.Prelude.{◌≡◌, ℕ, Bool, true, false, List, [], ◌∷◌, ◌++◌, Some, None}
 use Rattle.merge_core.specs.declared.layout.RecordSpec.{RecordSpec}
 use Rattle.admission_model.specs.declared.ask.Call.{Call}
 use Rattle.admission_model.specs.Account.{Account}
@@ -12,7 +12,7 @@ use Rattle.desk_log.specs.declared.entry.Entry.{Entry}
 use Rattle.line_conversation.specs.Turns.{Line, Whole, TooLong, NoRoom, Turn, Heard, Told}
 use Rattle.live_site.specs.Entries.{entry_of}
 use Rattle.live_site.specs.Live.{is_outdated, line_of}
-use Rattle.live_site.specs.Overfull.{overfull_in}
+use Rattle.live_site.specs.Overfull.{Fits, overfull_in}
 use Rattle.serve_engine.specs.declared.request.Request.{Request}
 use Rattle.serve_engine.specs.declared.request.Request.TheVariants.{Asked, Unread, Show, Sessions}
 use Rattle.serve_engine.specs.Requests.{Asks}
@@ -27,10 +27,6 @@ pub record Exchange : Type 0 where
 abbrev pub turns_of : List Exchange → List Turn
 turns_of [] = []
 turns_of (x ∷ xs) = Heard x.line ∷ (Told x.told ∷ turns_of xs)
-
--- a delta that nothing else refuses gives no more rights to a record than it has seats
-abbrev pub Fits : Account → Call → Type 0
-Fits a call = reason (view_of a) call ≡ None → overfull_in (view_of a) call ≡ None
 
 -- what a line is answered by a site that serves, at an account, the account behind it, and what the log is handed: a
 -- line that is too long, without memory, or asks for nothing, and a text that is no delta's, are told, and change

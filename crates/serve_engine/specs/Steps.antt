@@ -1,10 +1,10 @@
 -- One exchange, and exchanges so far. For private clauses.
-use Rattle.std.specs.Prelude.{◌≡◌, ◌≢◌, ℕ, ◌+◌, ◌⊎◌, Bool, true, false, List, [], ◌∷◌, ◌++◌, length, string_bytes}
+use Rattle.std.specs.Prelude.{◌≡◌, ℕ, ◌+◌, ◌⊎◌, Bool, true, false, List, [], ◌∷◌, ◌++◌, length}
 use Rattle.std.specs.Prelude.{Result, Ok, Err}
 use Rattle.std.specs.declared.alloc.AllocError.{AllocError}
 use Rattle.merge_core.specs.declared.layout.RecordSpec.{RecordSpec}
 use Rattle.admission_model.specs.Account.{Account}
-use Rattle.admission_core.specs.Core.{Core, Stands}
+use Rattle.admission_core.specs.Core.{Stands}
 use Rattle.admission_core.specs.Kept.{DurableState, durable_of}
 use Rattle.durable_keeper.specs.declared.keeper.Keeper.{Ghosts}
 use Rattle.desk_log.specs.declared.entry.Entry.{Entry}
@@ -15,7 +15,7 @@ use Rattle.layout_file.specs.declared.fault.LayoutFault.TheVariants.{NoSite}
 use Rattle.exit_status.specs.declared.store_refusal.StoreRefusal.TheVariants.{WrongCounters, WrongSessions, StoreFault as NoStoreFault}
 use Rattle.exit_status.specs.declared.status.Status.{Status}
 use Rattle.exit_status.specs.declared.status.Status.TheVariants as status
-use Rattle.line_conversation.specs.Turns.{Line, Whole, Turn, Heard, Told as Tell}
+use Rattle.line_conversation.specs.Turns.{Whole, Turn, Told as Tell}
 use Rattle.line_conversation.specs.declared.conversation.Conversation.{Ghosts as TalkGhosts}
 use Rattle.live_site.specs.declared.call_log.CallLog.{Ghosts as LogGhosts}
 use Rattle.live_site.specs.Live.{LiveState}

@@ -62,12 +62,7 @@ fn push_each(text: &mut String, r: u16, sessions: &[Session]) -> Result<(), Allo
 ghost use Rattle.serve_engine.specs.Looks.{session_part, still_first};
 
 // Writes a session where it is at the record. Whether none was written yet.
-fn push_at(
-    text: &mut String,
-    r: u16,
-    first: bool,
-    session: Session,
-) -> Result<bool, AllocError>
+fn push_at(text: &mut String, r: u16, first: bool, session: Session) -> Result<bool, AllocError>
     ensures text { IfOk result (λ _. string_bytes text.new ≡ string_bytes text.old ++ session_part r first session) }
     ensures first { IfOk result (λ still. still ≡ still_first r first session) }
 {

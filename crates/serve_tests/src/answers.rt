@@ -80,7 +80,11 @@ static LINES: [Story; 8] = [
             Status::Done,
             "admitted\nadmitted\nrefused NoSeat 0\n",
         ),
-        (b"leave a 7\nread a 9", Status::Done, "left reader\nadmitted\n"),
+        (
+            b"leave a 7\nread a 9",
+            Status::Done,
+            "left reader\nadmitted\n",
+        ),
     ),
     (
         TWO_SITES,
@@ -104,13 +108,25 @@ static LINES: [Story; 8] = [
             Status::Done,
             "announced 1\nadmitted\n1 5 writer\nrefused NoSeat 0\nleft writer\nrights 2 inside 0 unfinished 0\n",
         ),
-        (b"show b\nsessions b\nread b 7\n", Status::Done, "refused NoRecord\nrefused NoRecord\nrefused NoRecord\n"),
+        (
+            b"show b\nsessions b\nread b 7\n",
+            Status::Done,
+            "refused NoRecord\nrefused NoRecord\nrefused NoRecord\n",
+        ),
     ),
     (
         TWO_SITES,
         0,
-        (b"give a 1 1\nsend\n", Status::Done, "given\n{\"from\":0,\"rows\":[{\"ann\":0,\"fin\":0,\"out\":[2,1],\"r\":0,\"s\":0,\"taken\":0}],\"v\":1}\n"),
-        (b"show a\nhelp a\n", Status::Done, "rights 1 inside 0 unfinished 0\nrefused NoPlan\n"),
+        (
+            b"give a 1 1\nsend\n",
+            Status::Done,
+            "given\n{\"from\":0,\"rows\":[{\"ann\":0,\"fin\":0,\"out\":[2,1],\"r\":0,\"s\":0,\"taken\":0}],\"v\":1}\n",
+        ),
+        (
+            b"show a\nhelp a\n",
+            Status::Done,
+            "rights 1 inside 0 unfinished 0\nrefused NoPlan\n",
+        ),
     ),
     (
         TWO_SITES,
@@ -140,7 +156,11 @@ static LINES: [Story; 8] = [
             Status::Done,
             "admitted\nmerged 1\nrefused WriterAnnounced 1\ngave 1 2\n",
         ),
-        (b"leave a 1\nhelp a\nshow a\n", Status::Done, "left reader\ngave 1 1\nrights 0 inside 0 unfinished 0\n"),
+        (
+            b"leave a 1\nhelp a\nshow a\n",
+            Status::Done,
+            "left reader\ngave 1 1\nrights 0 inside 0 unfinished 0\n",
+        ),
     ),
 ];
 
@@ -211,7 +231,11 @@ static OLDER_STORES: [Story; 2] = [
             Status::Fault,
             "admitted\nrefused OwnRowAhead 0\nrefused Frozen\nrefused Frozen\nrefused Frozen\nrefused Frozen\nrefused Frozen\nrefused NotJson\nrefused BadWord\n",
         ),
-        (b"sessions a\nread a 8\n", Status::Done, "1 7 reader\nadmitted\n"),
+        (
+            b"sessions a\nread a 8\n",
+            Status::Done,
+            "1 7 reader\nadmitted\n",
+        ),
     ),
     (
         TWO_SITES,

@@ -143,7 +143,14 @@ type Logged = (u64, LogFault, u64, Status, &'static str, u64);
 static LOGS: [Logged; 6] = [
     (9, LogFault::Failed, 9, Status::Done, FIVE_ANSWERS, 5),
     (0, LogFault::Failed, 9, Status::Io, "", 0),
-    (2, LogFault::Failed, 9, Status::Io, "admitted\nadmitted\n", 2),
+    (
+        2,
+        LogFault::Failed,
+        9,
+        Status::Io,
+        "admitted\nadmitted\n",
+        2,
+    ),
     (
         1,
         LogFault::Memory,

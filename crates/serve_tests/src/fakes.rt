@@ -1,11 +1,10 @@
 //! A keeper, a conversation and a log whose faults the test chooses.
 ghost use Rattle.std.specs.Prelude.{◌≡◌, IfOk, IfSome, if◌then◌else◌};
 
-use admission_core::{Change, Durable};
+use admission_core::{Call, Change, Durable, Reply};
 use durable_keeper::{Keeper, KeeperError, MemoryKeeper};
 use line_conversation::{Conversation, Next};
 use live_site::{CallLog, LogFault};
-use admission_core::{Call, Reply};
 use merge_core::Layout;
 use std::alloc::{AllocError, Global};
 

@@ -47,7 +47,13 @@ type Long = (&'static [u8], usize, &'static [u8], usize, &'static str);
 
 static LONG_LINES: [Long; 8] = [
     // a line at the limit, and one past it; with and without an LF behind it
-    (b"read a 7\n", LINE_LIMIT, b"\nread a 8\n", NEVER, "admitted\nrefused BadWord\nadmitted\n"),
+    (
+        b"read a 7\n",
+        LINE_LIMIT,
+        b"\nread a 8\n",
+        NEVER,
+        "admitted\nrefused BadWord\nadmitted\n",
+    ),
     (
         b"read a 7\n",
         LINE_LIMIT + 1,
@@ -55,15 +61,51 @@ static LONG_LINES: [Long; 8] = [
         NEVER,
         "admitted\nrefused TooLong\nadmitted\n",
     ),
-    (b"read a 7\n", LINE_LIMIT, b"", 5_000, "admitted\nrefused BadWord\n"),
-    (b"read a 7\n", LINE_LIMIT + 1, b"", 5_000, "admitted\nrefused TooLong\n"),
+    (
+        b"read a 7\n",
+        LINE_LIMIT,
+        b"",
+        5_000,
+        "admitted\nrefused BadWord\n",
+    ),
+    (
+        b"read a 7\n",
+        LINE_LIMIT + 1,
+        b"",
+        5_000,
+        "admitted\nrefused TooLong\n",
+    ),
     // much past it
-    (b"", 20_000_000, b"\nread a 8", 40_000, "refused TooLong\nadmitted\n"),
+    (
+        b"",
+        20_000_000,
+        b"\nread a 8",
+        40_000,
+        "refused TooLong\nadmitted\n",
+    ),
     // a text at its own limit, and one past it, which is a line past the limit
-    (b"take ", 2_097_152, b"\nread a 8\n", NEVER, "refused NotJson\nadmitted\n"),
-    (b"take ", 2_097_153, b"\nread a 8\n", 65_536, "refused TooLong\nadmitted\n"),
+    (
+        b"take ",
+        2_097_152,
+        b"\nread a 8\n",
+        NEVER,
+        "refused NotJson\nadmitted\n",
+    ),
+    (
+        b"take ",
+        2_097_153,
+        b"\nread a 8\n",
+        65_536,
+        "refused TooLong\nadmitted\n",
+    ),
     // lines that come one byte at a call
-    (b"read a 7\nread a 8\n\n", 3, b"\nsend\n", 1, "admitted\nadmitted\nrefused BadWord\nrefused BadWord\n{\"from\":0,\"rows\":[{\"ann\":0,\"fin\":0,\"out\":[2,0],\"r\":0,\"s\":0,\"taken\":2}],\"v\":1}\n"),
+    (
+        b"read a 7\nread a 8\n\n",
+        3,
+        b"\nsend\n",
+        1,
+        "admitted\nadmitted\nrefused BadWord\nrefused BadWord\n{\"from\":0,\"rows\":[{\"ann\":0,\"fin\":0,\"out\":[2,0],\"r\":0,\"s\":0,\"taken\":2}],\"v\":1}\n",
+    ),
 ];
 
 fn is_told(alloc: Global, row: &Long) -> Option<bool> {

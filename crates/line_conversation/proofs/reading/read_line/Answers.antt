@@ -1,4 +1,4 @@
-use Rattle.std.proofs.Common.{◌≡◌, ◌≤◌, ◌∙◌, List, ℕ, refl, sym, ap, subst, arith}
+use Rattle.std.proofs.Common.{◌≤◌, ◌∙◌, refl, sym, subst, arith}
 use Rattle.line_conversation.specs.Stream.{HeldState, ReadsSoFar}
 use Rattle.line_conversation.proofs.AheadLemmas.{case_true, case_false}
 use Rattle.line_conversation.proofs.LineSteps.{line_begins, line_ends, more_came, last_line, read_more, uncounted}

@@ -1,11 +1,6 @@
-use Rattle.std.proofs.Common.{◌≡◌, ℕ, ◌+◌, ◌<◌, ◌∙◌, true, List, Some, None, drop, get_or, length, refl, sym, ap, arith}
-use Rattle.std.proofs.lemmas.List.{drop_all}
-use Rattle.merge_core.specs.declared.delta.Row.{Row}
-use Rattle.merge_core.specs.Tests.{is_placed}
-use Rattle.merge_core.specs.Book.{book_shape}
+use Rattle.std.proofs.Common.{◌∙◌, sym, arith}
 use Rattle.admission_core.specs.Core.{core_view}
 use Rattle.admission_core.proofs.JoiningLemmas.{placed_at}
-use Rattle.live_site.specs.Walk.{walk}
 use Rattle.live_site.proofs.PlaceLemmas.{row_record, walk_core, walk_stops, walk_ends}
 use Rattle.live_site.proofs.overfull.first_overfull.Goals as goal
 

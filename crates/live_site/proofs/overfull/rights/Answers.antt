@@ -1,4 +1,3 @@
-use Rattle.std.proofs.Common.{◌∙◌, sym, ap}
 use Rattle.admission_core.proofs.CoreLemmas.{rights_shown}
 use Rattle.live_site.proofs.overfull.rights.Goals as goal
 

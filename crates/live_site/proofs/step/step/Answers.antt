@@ -1,11 +1,11 @@
-use Rattle.std.proofs.Common.{rules, ◌≡◌, ◌++◌, false, Err, None, refl, sym, ap, subst, ◌∙◌}
+use Rattle.std.proofs.Common.{rules, ◌≡◌, ◌++◌, false, Err, refl, sym, ap, subst, ◌∙◌}
 use Rattle.std.specs.Prelude.{string_bytes}
 use Rattle.admission_model.specs.declared.reply.Reply.{Reply}
 use Rattle.admission_model.specs.View.{view_of}
 use Rattle.admission_model.specs.Serving.{reply_of}
 use Rattle.admission_core.specs.Core.{is_memory}
 use Rattle.admission_core.specs.Kept.{ChangeState}
-use Rattle.desk_log.specs.Desk.{HasKept, HasNotKept, MayHaveKept, KeepsChange}
+use Rattle.desk_log.specs.Desk.{HasKept, KeepsChange}
 use Rattle.desk_log.proofs.StepLemmas.{may_be_told, carried_out, store_memory, store_fault}
 use Rattle.durable_keeper.specs.declared.error.KeeperError.{KeeperError}
 use Rattle.live_site.specs.declared.live_site.Outcome.{Outcome}

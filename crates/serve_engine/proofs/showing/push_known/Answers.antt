@@ -1,4 +1,4 @@
-use Rattle.std.proofs.Common.{◌∙◌, ◌++◌, ℕ, List, ap}
+use Rattle.std.proofs.Common.{◌∙◌, ◌++◌, ℕ, ap}
 use Rattle.std.specs.Prelude.{codes, string_bytes}
 use Rattle.admission_model.specs.Account.{Account, inside, writers_here}
 use Rattle.admission_model.specs.View.{view_of, rights_of}
