@@ -8,6 +8,8 @@ mod endings;
 #[cfg(test)]
 mod fakes;
 #[cfg(test)]
+mod growths;
+#[cfg(test)]
 mod long_lines;
 #[cfg(test)]
 mod order;
