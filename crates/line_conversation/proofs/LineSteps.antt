@@ -1,0 +1,155 @@
+-- Reading one line, part by part.
+use Rattle.std.proofs.Common.{◌≡◌, ℕ, ◌≤◌, ◌<◌, inl, inr, Bool, true, false, List, [], ◌∷◌, ◌++◌, length, refl, sym, ap, subst, ◌∙◌, append_assoc, append-nil, arith}
+use Rattle.std.specs.Prelude.{IsTrue, ◌↔◌, not}
+use Rattle.std.specs.Io.KnownBytes.{Consumes, IsAtEnd, Keeps}
+use Rattle.std.proofs.KnownBytes.{Consumes-kept, Consumes-trans}
+use Rattle.text_input.specs.Lines.{HasNoLf}
+use Rattle.text_input.specs.Source.{HasFault, SourceState}
+use Rattle.text_input.proofs.LineLemmas.{no_lf_behind}
+use Rattle.line_conversation.specs.declared.conversation.Next.{Next}
+use Rattle.line_conversation.specs.declared.conversation.Next.TheVariants as next
+use Rattle.line_conversation.specs.declared.held.Fate.{Fate}
+use Rattle.line_conversation.specs.declared.held.Fate.TheVariants as fate
+use Rattle.line_conversation.specs.Stream.{HeldState, Holds, HoldsAs, Takes, next_of, CutsLine, Cuts, ReadsLine, ReadsSoFar}
+use Rattle.line_conversation.specs.Begins.{nothing_lost}
+
+-- a line begins
+pub line_begins : (source : SourceState) (ahead : List ℕ) (limit : ℕ) (ended : Bool)
+    → ReadsSoFar source source ahead ahead (record { bytes = []; limit = limit; fate = fate.Kept }) ended ended
+line_begins source ahead limit ended = record {
+  lost = [];
+  line = [];
+  consumed = nothing_lost source.remaining;
+  split = append-nil ahead;
+  plain = λ i within. absurd (omega (arith, within));
+  holds = (refl, omega arith);
+  closed = λ closed. (refl, closed);
+  at_end = λ was now. was now;
+}
+
+-- a line that came whole is told by what became of it
+cuts_by : (f : Fate) (limit : ℕ) (line bytes kept rest : List ℕ) (ended : Bool) → HoldsAs f limit line kept → CutsLine ended bytes line rest
+    → Cuts (next_of f) ended bytes kept limit rest
+cuts_by fate.Kept limit line bytes kept rest ended holds cut =
+    (subst (λ (xs : List ℕ). CutsLine ended bytes xs rest) (sym holds.0) cut, subst (λ (xs : List ℕ). length xs ≤ limit) (sym holds.0) holds.1)
+cuts_by fate.TooLong limit line bytes kept rest ended holds cut = (line, cut, holds.1)
+cuts_by fate.NoRoom limit line bytes kept rest ended holds cut = (line, cut)
+
+never_fails : (f : Fate) → next_of f ≡ next.Failed → ⊥
+never_fails fate.Kept e = cc
+never_fails fate.TooLong e = cc
+never_fails fate.NoRoom e = cc
+
+-- a line on the way
+module _ (source now : SourceState) (ahead ahead_now : List ℕ) (held : HeldState) (ended ended_now : Bool) (so_far : ReadsSoFar source now ahead ahead_now held ended ended_now) where
+  -- its LF came
+  pub line_ends : (part rest : List ℕ) (after : HeldState) (reads : ℕ) (told : Next) → ahead_now ≡ part ++ 10 ∷ rest → HasNoLf part → Takes part held after → told ≡ next_of after.fate
+      → ReadsLine source now ahead rest after ended ended_now reads told
+  line_ends part rest after reads told split plain takes is = record {
+    lost = so_far.lost;
+    consumed = so_far.consumed;
+    closed = so_far.closed;
+    at_end = so_far.at_end;
+    cut = subst (λ (n : Next). Cuts n ended_now (ahead ++ so_far.lost) after.bytes after.limit rest) (sym is)
+        (cuts_by after.fate after.limit (so_far.line ++ part) (ahead ++ so_far.lost) after.bytes rest ended_now (takes so_far.line so_far.holds)
+        (no_lf_behind so_far.line part so_far.plain plain, inl (so_far.split ∙ (ap (λ (xs : List ℕ). so_far.line ++ xs) split ∙ sym (append_assoc so_far.line part (10 ∷ rest))))));
+    failed = λ e. absurd (never_fails after.fate (sym is ∙ e));
+  }
+
+  -- all that was read ahead came
+  pub more_came : (rest : List ℕ) (after : HeldState) → HasNoLf ahead_now → rest ≡ [] → Takes ahead_now held after
+      → ReadsSoFar source now ahead rest after ended ended_now
+  more_came rest after plain none takes = record {
+    lost = so_far.lost;
+    line = so_far.line ++ ahead_now;
+    consumed = so_far.consumed;
+    split = so_far.split ∙ (sym (append-nil (so_far.line ++ ahead_now)) ∙ ap (λ (xs : List ℕ). (so_far.line ++ ahead_now) ++ xs) (sym none));
+    plain = no_lf_behind so_far.line ahead_now so_far.plain plain;
+    holds = takes so_far.line so_far.holds;
+    closed = so_far.closed;
+    at_end = so_far.at_end;
+  }
+
+some_byte : (bs : List ℕ) → (bs ≡ [] → ⊥) → 0 < length bs
+some_byte [] some = absurd (some refl)
+some_byte (b ∷ bs) some = omega arith
+
+-- nothing is ahead
+module _ (source now : SourceState) (ahead ahead_now : List ℕ) (held : HeldState) (ended ended_now : Bool) (so_far : ReadsSoFar source now ahead ahead_now held ended ended_now) (none : ahead_now ≡ []) where
+  all_came : ahead ++ so_far.lost ≡ so_far.line
+  all_came = so_far.split ∙ (ap (λ (xs : List ℕ). so_far.line ++ xs) none ∙ append-nil so_far.line)
+
+  -- the source had told its end, and no byte of a line came
+  pub no_line : (empty : Bool) (reads : ℕ) → ended_now ≡ true → ((line : List ℕ) → Holds line held → (IsTrue empty ↔ (line ≡ []))) → empty ≡ true
+      → ReadsLine source now ahead ahead_now held ended ended_now reads next.End
+  no_line empty reads closed tells is = record {
+    lost = so_far.lost;
+    consumed = so_far.consumed;
+    closed = so_far.closed;
+    at_end = so_far.at_end;
+    cut = (closed, all_came ∙ (tells so_far.line so_far.holds).0 is, none);
+    failed = λ e. absurd (cc);
+  }
+
+  -- or some did
+  pub last_line : (empty : Bool) (reads : ℕ) (told : Next) → ended_now ≡ true → ((line : List ℕ) → Holds line held → (IsTrue empty ↔ (line ≡ []))) → empty ≡ false → told ≡ next_of held.fate
+      → ReadsLine source now ahead ahead_now held ended ended_now reads told
+  last_line empty reads told closed tells is told_is = record {
+    lost = so_far.lost;
+    consumed = so_far.consumed;
+    closed = so_far.closed;
+    at_end = so_far.at_end;
+    cut = subst (λ (n : Next). Cuts n ended_now (ahead ++ so_far.lost) held.bytes held.limit ahead_now) (sym told_is)
+        (cuts_by held.fate held.limit so_far.line (ahead ++ so_far.lost) held.bytes ahead_now ended_now so_far.holds
+        (so_far.plain, inr (closed, some_byte so_far.line some, all_came, none)));
+    failed = λ e. absurd (never_fails held.fate (sym told_is ∙ e));
+  }
+    where
+      some : so_far.line ≡ [] → ⊥
+      some nothing = let both : true ≡ false = sym ((tells so_far.line so_far.holds).1 nothing) ∙ is in cc
+
+  -- the source is read once more
+  pub read_more : (later : SourceState) (read : List ℕ) (came ended_then : Bool) → ended_now ≡ false → Consumes now.remaining later.remaining read → (came ≡ false → IsAtEnd later.remaining) → ended_then ≡ not came
+      → ReadsSoFar source later ahead read held ended ended_then
+  read_more later read came ended_then going consumed at_end is = record {
+    lost = so_far.lost ++ read;
+    line = so_far.line;
+    consumed = Consumes-trans source.remaining now.remaining later.remaining so_far.lost read so_far.consumed consumed;
+    split = sym (append_assoc ahead so_far.lost read) ∙ ap (λ (xs : List ℕ). xs ++ read) all_came;
+    plain = so_far.plain;
+    holds = so_far.holds;
+    closed = λ closed. absurd (both closed);
+    at_end = λ was end. at_end (not_came came (sym is ∙ end));
+  }
+    where
+      both : ended ≡ true → ⊥
+      both closed = let clash : true ≡ false = sym (so_far.closed closed).1 ∙ going in cc
+
+      not_came : (b : Bool) → not b ≡ true → b ≡ false
+      not_came true e = absurd (cc)
+      not_came false e = refl
+
+  -- the source fails
+  pub read_fails : (later : SourceState) (left : List ℕ) (reads : ℕ) → ended_now ≡ false → Keeps now.remaining later.remaining → HasFault later.fault
+      → ReadsLine source later ahead left held ended ended_now reads next.Failed
+  read_fails later left reads going keeps fault = record {
+    lost = so_far.lost;
+    consumed = Consumes-kept source.remaining now.remaining later.remaining so_far.lost so_far.consumed keeps;
+    closed = so_far.closed;
+    at_end = λ was end. let clash : false ≡ true = sym going ∙ end in absurd (cc);
+    cut = tt;
+    failed = λ e. inl fault;
+  }
+
+-- no more reads are counted
+pub uncounted : (source now : SourceState) (ahead ahead_now : List ℕ) (held : HeldState) (ended ended_now : Bool) (reads : ℕ)
+    → ReadsSoFar source now ahead ahead_now held ended ended_now → 18446744073709551615 ≤ reads
+    → ReadsLine source now ahead ahead_now held ended ended_now reads next.Failed
+uncounted source now ahead ahead_now held ended ended_now reads so_far is = record {
+  lost = so_far.lost;
+  consumed = so_far.consumed;
+  closed = so_far.closed;
+  at_end = so_far.at_end;
+  cut = tt;
+  failed = λ e. inr is;
+}

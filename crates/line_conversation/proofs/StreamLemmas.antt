@@ -1,0 +1,133 @@
+-- Turns of a conversation with a reader and a writer.
+use Rattle.std.proofs.Common.{◌≡◌, ℕ, ◌<◌, ◌⊎◌, inl, inr, Bool, true, false, List, [], ◌∷◌, ◌++◌, length, refl, sym, ap, subst, ◌∙◌, append_assoc, append-nil}
+use Rattle.std.specs.Io.KnownBytes.{Appends, Consumes}
+use Rattle.std.specs.Prelude.{is_some}
+use Rattle.std.proofs.KnownBytes.{Appends-trans, Consumes-trans}
+use Rattle.text_input.specs.Source.{HasFault}
+use Rattle.text_input.specs.Sink.{SinkState, Writes}
+use Rattle.line_conversation.specs.declared.conversation.Next.{Next}
+use Rattle.line_conversation.specs.declared.conversation.Next.TheVariants as next
+use Rattle.line_conversation.specs.Turns.{Line, Whole, TooLong, NoRoom, Turn, Heard, Told, told_in, heard_by}
+use Rattle.line_conversation.specs.Stream.{CutsLine, Cuts, CutsTurns, HeldState, Hears, ReadsLine, StreamState, TookPlace}
+
+-- bytes that come behind what is left, where the input had not ended
+more_left : (limit : ℕ) (ended : Bool) (bytes : List ℕ) (turns : List Turn) (rest more : List ℕ) → CutsTurns limit false bytes turns rest
+    → CutsTurns limit ended (bytes ++ more) turns (rest ++ more)
+more_left limit ended bytes [] rest more same = ap (λ (xs : List ℕ). xs ++ more) same
+more_left limit ended bytes (Told text ∷ turns) rest more cut = more_left limit ended bytes turns rest more cut
+more_left limit ended bytes (Heard heard ∷ turns) rest more (line, behind, cut, hears, later) =
+    (line, behind ++ more, (cut.0, longer cut.1), hears, more_left limit ended behind turns rest more later)
+  where
+    longer : (bytes ≡ line ++ 10 ∷ behind) ⊎ ((false ≡ true) × (0 < length line) × (bytes ≡ line) × (behind ≡ []))
+        → (bytes ++ more ≡ line ++ 10 ∷ (behind ++ more)) ⊎ ((ended ≡ true) × (0 < length line) × (bytes ++ more ≡ line) × (behind ++ more ≡ []))
+    longer (inl split) = inl (ap (λ (xs : List ℕ). xs ++ more) split ∙ append_assoc line (10 ∷ behind) more)
+    longer (inr (never, some, whole, none)) = absurd (cc)
+
+-- one more line is cut off
+cut_more : (limit : ℕ) (ended : Bool) (bytes : List ℕ) (turns : List Turn) (rest line more : List ℕ) (heard : Line) → CutsTurns limit ended bytes turns rest
+    → CutsLine ended rest line more → Hears limit line heard → CutsTurns limit ended bytes (turns ++ Heard heard ∷ []) more
+cut_more limit ended bytes [] rest line more heard same cut hears =
+    (line, more, subst (λ (xs : List ℕ). CutsLine ended xs line more) (sym same) cut, hears, refl)
+cut_more limit ended bytes (Told text ∷ turns) rest line more heard before cut hears = cut_more limit ended bytes turns rest line more heard before cut hears
+cut_more limit ended bytes (Heard first ∷ turns) rest line more heard (l, behind, c, h, later) cut hears =
+    (l, behind, c, h, cut_more limit ended behind turns rest line more heard later cut hears)
+
+-- a text that was told cuts nothing off
+still_cut : (limit : ℕ) (ended : Bool) (bytes : List ℕ) (turns : List Turn) (rest : List ℕ) (text : List ℕ) → CutsTurns limit ended bytes turns rest
+    → CutsTurns limit ended bytes (turns ++ Told text ∷ []) rest
+still_cut limit ended bytes [] rest text same = same
+still_cut limit ended bytes (Told first ∷ turns) rest text cut = still_cut limit ended bytes turns rest text cut
+still_cut limit ended bytes (Heard heard ∷ turns) rest text (line, more, c, h, later) = (line, more, c, h, still_cut limit ended more turns rest text later)
+
+-- what is told behind the turns
+told_more : (turns : List Turn) (text : List ℕ) → told_in (turns ++ Told text ∷ []) ≡ told_in turns ++ text
+told_more [] text = append-nil text
+told_more (Told first ∷ turns) text = ap (λ (xs : List ℕ). first ++ xs) (told_more turns text) ∙ sym (append_assoc first (told_in turns) text)
+told_more (Heard line ∷ turns) text = told_more turns text
+
+told_same : (turns : List Turn) (next : Next) (kept : List ℕ) → told_in (turns ++ heard_by next kept) ≡ told_in turns
+told_same [] next.Line kept = refl
+told_same [] next.TooLong kept = refl
+told_same [] next.Memory kept = refl
+told_same [] next.End kept = refl
+told_same [] next.Failed kept = refl
+told_same (Told first ∷ turns) told kept = ap (λ (xs : List ℕ). first ++ xs) (told_same turns told kept)
+told_same (Heard line ∷ turns) told kept = told_same turns told kept
+
+-- what was cut, where the source lost more bytes, and none if the input had ended
+cut_along : (limit : ℕ) (ended ended_now : Bool) (ahead lost read : List ℕ) (turns : List Turn) (rest : List ℕ) → CutsTurns limit ended (ahead ++ lost) turns rest
+    → (ended ≡ true → (read ≡ []) × (ended_now ≡ true)) → CutsTurns limit ended_now (ahead ++ (lost ++ read)) turns (rest ++ read)
+cut_along limit true ended_now ahead lost read turns rest cut closed =
+    let both = closed refl in
+    subst (λ (xs : List ℕ). CutsTurns limit ended_now (ahead ++ (lost ++ xs)) turns (rest ++ xs)) (sym both.0)
+    (subst (λ (xs : List ℕ). CutsTurns limit ended_now (ahead ++ xs) turns (rest ++ [])) (sym (append-nil lost))
+    (subst (λ (xs : List ℕ). CutsTurns limit ended_now (ahead ++ lost) turns xs) (sym (append-nil rest))
+    (subst (λ (b : Bool). CutsTurns limit b (ahead ++ lost) turns rest) (sym both.1) cut)))
+cut_along limit false ended_now ahead lost read turns rest cut closed =
+    subst (λ (xs : List ℕ). CutsTurns limit ended_now xs turns (rest ++ read)) (append_assoc ahead lost read)
+    (more_left limit ended_now (ahead ++ lost) turns rest read cut)
+
+-- with what came next
+cut_next : (told : Next) (limit : ℕ) (ended : Bool) (bytes : List ℕ) (turns : List Turn) (ahead kept rest : List ℕ) → (told ≡ next.Failed → ⊥) → CutsTurns limit ended bytes turns ahead
+    → Cuts told ended ahead kept limit rest → CutsTurns limit ended bytes (turns ++ heard_by told kept) rest
+cut_next next.Line limit ended bytes turns ahead kept rest whole before cut =
+    cut_more limit ended bytes turns ahead kept rest (Whole kept) before cut.0 (refl, cut.1)
+cut_next next.TooLong limit ended bytes turns ahead kept rest whole before (line, cut, long) =
+    cut_more limit ended bytes turns ahead line rest TooLong before cut long
+cut_next next.Memory limit ended bytes turns ahead kept rest whole before (line, cut) =
+    cut_more limit ended bytes turns ahead line rest NoRoom before cut tt
+cut_next next.End limit ended bytes turns ahead kept rest whole before (closed, none, nothing) =
+    subst (λ (ts : List Turn). CutsTurns limit ended bytes ts rest) (sym (append-nil turns))
+    (subst (λ (xs : List ℕ). CutsTurns limit ended bytes turns xs) (none ∙ sym nothing) before)
+cut_next next.Failed limit ended bytes turns ahead kept rest whole before cut = absurd (whole refl)
+
+-- a conversation after one more reading
+pub heard_more : (first old new : StreamState) (held : HeldState) (told : Next) → old.broken ≡ false
+    → ReadsLine old.source new.source old.ahead new.ahead held old.ended new.ended new.reads told → held.limit ≡ old.limit
+    → new.kept ≡ held.bytes → new.limit ≡ held.limit → new.sink ≡ old.sink → (told ≡ next.Failed → new.broken ≡ true)
+    → (before : List Turn) → TookPlace first before old → TookPlace first (before ++ heard_by told new.kept) new
+heard_more first old new held told open_so read limit kept limit_now sink broken before was = record {
+  lost = was.lost ++ read.lost;
+  consumed = Consumes-trans first.source.remaining old.source.remaining new.source.remaining was.lost read.lost was.consumed read.consumed;
+  limit = limit_now ∙ (limit ∙ was.limit);
+  heard = λ whole. cut_next told first.limit new.ended (first.ahead ++ (was.lost ++ read.lost)) before (old.ahead ++ read.lost) new.kept new.ahead
+      (λ failed. let clash : true ≡ false = sym (broken failed) ∙ whole in cc)
+      (cut_along first.limit old.ended new.ended first.ahead was.lost read.lost before old.ahead (was.heard open_so) read.closed)
+      (subst (λ (n : ℕ). Cuts told new.ended (old.ahead ++ read.lost) new.kept n new.ahead) (limit ∙ was.limit)
+      (subst (λ (xs : List ℕ). Cuts told new.ended (old.ahead ++ read.lost) xs held.limit new.ahead) (sym kept) read.cut));
+  told = λ whole.
+      subst (λ (xs : List ℕ). Appends first.sink.contents new.sink.contents xs) (sym (told_same before told new.kept))
+      (subst (λ (s : SinkState). Appends first.sink.contents s.contents (told_in before)) (sym sink)
+      (was.told (sym (ap (λ (s : SinkState). s.fault) sink) ∙ whole)));
+}
+
+-- one that had failed
+pub still_broken : (first old : StreamState) (before : List Turn) (kept : List ℕ) → TookPlace first before old → TookPlace first (before ++ heard_by next.Failed kept) old
+still_broken first old before kept was = subst (λ (ts : List Turn). TookPlace first ts old) (sym (append-nil before)) was
+
+-- after one more text
+pub told_text : (first old new : StreamState) (text : List ℕ) → new ≡ record old { sink = new.sink } → Writes old.sink new.sink text
+    → (before : List Turn) → TookPlace first before old → TookPlace first (before ++ Told text ∷ []) new
+told_text first old new text same writes before was = record {
+  lost = was.lost;
+  consumed = subst (λ (s : StreamState). Consumes first.source.remaining s.source.remaining was.lost) (sym same) was.consumed;
+  limit = ap (λ (s : StreamState). s.limit) same ∙ was.limit;
+  heard = λ whole. still_cut first.limit new.ended (first.ahead ++ was.lost) before new.ahead text
+      (subst (λ (s : StreamState). CutsTurns first.limit s.ended (first.ahead ++ was.lost) before s.ahead) (sym same)
+      (was.heard (sym (ap (λ (s : StreamState). s.broken) same) ∙ whole)));
+  told = λ whole.
+      subst (λ (xs : List ℕ). Appends first.sink.contents new.sink.contents xs) (sym (told_more before text))
+      (Appends-trans first.sink.contents old.sink.contents new.sink.contents (told_in before) text (was.told (sym writes.kept ∙ whole)) writes.appended);
+}
+
+-- or where it failed
+pub untold_text : (first old new : StreamState) → new ≡ record old { sink = new.sink } → HasFault new.sink.fault
+    → (before : List Turn) → TookPlace first before old → TookPlace first before new
+untold_text first old new same fault before was = record {
+  lost = was.lost;
+  consumed = subst (λ (s : StreamState). Consumes first.source.remaining s.source.remaining was.lost) (sym same) was.consumed;
+  limit = ap (λ (s : StreamState). s.limit) same ∙ was.limit;
+  heard = λ whole. subst (λ (s : StreamState). CutsTurns first.limit s.ended (first.ahead ++ was.lost) before s.ahead) (sym same)
+      (was.heard (sym (ap (λ (s : StreamState). s.broken) same) ∙ whole));
+  told = λ whole. let clash : false ≡ true = sym (ap is_some whole) ∙ fault in absurd (cc);
+}

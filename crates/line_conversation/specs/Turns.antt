@@ -1,0 +1,29 @@
+-- A conversation by lines (this project's own): a line comes in, and a text goes out.
+use Rattle.std.specs.Prelude.{ℕ, List, [], ◌∷◌, ◌++◌}
+use Rattle.line_conversation.specs.declared.conversation.Next.{Next}
+use Rattle.line_conversation.specs.declared.conversation.Next.TheVariants as next
+
+-- a line that came in, without its LF: whole; or longer than a line may be, or without memory for it, and then dropped
+pub data Line : Type 0 where
+  Whole : (bytes : List ℕ) → Line
+  TooLong : Line
+  NoRoom : Line
+
+-- a turn: a line is heard, or a text is told
+pub data Turn : Type 0 where
+  Heard : (line : Line) → Turn
+  Told : (text : List ℕ) → Turn
+
+-- the turn that a reading adds, where `line` is the line that was kept
+abbrev pub heard_by : Next → List ℕ → List Turn
+heard_by next.Line line = Heard (Whole line) ∷ []
+heard_by next.TooLong line = Heard TooLong ∷ []
+heard_by next.Memory line = Heard NoRoom ∷ []
+heard_by next.End line = []
+heard_by next.Failed line = []
+
+-- the texts that were told, one behind the other
+abbrev pub told_in : List Turn → List ℕ
+told_in [] = []
+told_in (Heard line ∷ turns) = told_in turns
+told_in (Told text ∷ turns) = text ++ told_in turns

@@ -1,0 +1,109 @@
+//! The conversation with a reader and a writer.
+use crate::ahead::Ahead;
+use crate::conversation::{Conversation, Next};
+use crate::held::Held;
+use crate::reading::read_line;
+use std::alloc::{AllocError, Global};
+use std::io::{Read, Write};
+use std::marker::Model;
+use text_input::{Sink, Source};
+
+/// The lines of a reader, and the texts for a writer. A line ends with LF; what follows the last LF is a line where it
+/// isn't empty. A line is kept up to a limit of bytes. What was read behind a line stays for the next ones, so that
+/// memory is bounded by one line and one chunk of 65,536 bytes. A fault is kept for good.
+#[derive(Drop)]
+pub struct StreamConversation<R: Read, W: Write> {
+    source: Source<R>,
+    sink: Sink<W>,
+    ahead: Ahead,
+    held: Held,
+    // The source has told its end.
+    ended: bool,
+    // A reading has failed.
+    broken: bool,
+    // How many reads the last line took.
+    reads: u64,
+}
+
+// Contracts see the source, the sink, what was read ahead and is kept, and how reading ended.
+impl<R: Read, W: Write> Model for StreamConversation<R, W> {
+    ghost use Rattle.line_conversation.specs.Stream.{StreamState, IsStream};
+
+    ghost Value = { StreamState };
+
+    ghost view = { λ s. record { source = s.source; sink = s.sink; ahead = s.ahead; kept = s.held.bytes; limit = s.held.limit; ended = s.ended; broken = s.broken; reads = s.reads } };
+
+    ghost invariant = { λ s. IsStream (record { source = s.source; sink = s.sink; ahead = s.ahead; kept = s.held.bytes; limit = s.held.limit; ended = s.ended; broken = s.broken; reads = s.reads }) };
+}
+
+impl<R: Read + Drop, W: Write + Drop> StreamConversation<R, W> {
+    ghost use Rattle.std.specs.Prelude.{◌≡◌, [], None, false, IfOk};
+
+    /// A conversation of which no turn took place. A line has at most so many bytes.
+    pub fn new(
+        alloc: Global,
+        reader: R,
+        writer: W,
+        limit: usize,
+    ) -> Result<StreamConversation<R, W>, AllocError>
+        ensures { IfOk result (λ s. s ≡ record {
+          source = record { remaining = R.remaining reader; fault = None };
+          sink = record { contents = W.contents writer; fault = None; holds = false };
+          ahead = [];
+          kept = [];
+          limit = limit;
+          ended = false;
+          broken = false;
+          reads = 0;
+        }) }
+    {
+        let ahead = Ahead::new(alloc)?;
+        Ok(StreamConversation {
+            source: Source::new(reader),
+            sink: Sink::new(writer),
+            ahead,
+            held: Held::new(alloc, limit),
+            ended: false,
+            broken: false,
+            reads: 0,
+        })
+    }
+}
+
+impl<R: Read, W: Write> Conversation for StreamConversation<R, W> {
+    ghost use Rattle.line_conversation.specs.Stream.{TookPlace, HasEnded, HasFailed};
+    ghost use Rattle.line_conversation.specs.Begins.{took_nothing};
+
+    ghost took_place = { λ first turns last. TookPlace first turns last };
+
+    ghost kept = { λ s. s.kept };
+
+    ghost has_ended = { HasEnded };
+
+    ghost has_failed = { HasFailed };
+
+    ghost begins = { took_nothing };
+
+    fn next_line(&mut self) -> Next {
+        if self.broken {
+            return Next::Failed;
+        }
+        let next = read_line(
+            &mut self.source,
+            &mut self.ahead,
+            &mut self.held,
+            &mut self.ended,
+            &mut self.reads,
+        );
+        self.broken = next == Next::Failed;
+        next
+    }
+
+    fn line(&self) -> &[u8] {
+        self.held.bytes()
+    }
+
+    fn tell(&mut self, text: &str) -> bool {
+        self.sink.write_and_flush(text)
+    }
+}

@@ -1,0 +1,5 @@
+pub mod GivenLemmas
+pub mod WalkLemmas
+pub mod PlaceLemmas
+pub mod CallLemmas
+pub mod LawLemmas

@@ -1,0 +1,5 @@
+pub mod Overfull
+pub mod Walk
+pub mod Entries
+pub mod Live
+pub mod Steps

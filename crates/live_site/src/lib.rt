@@ -1,0 +1,12 @@
+//! A site at work that keeps no log of its own: each call is answered, handed to a log where there is one, kept, and only
+//! then carried out.
+#![tactic(auto)]
+
+pub use call_log::{CallLog, LogFault, NoLog};
+pub use live_site::{LiveSite, Outcome};
+
+mod call_log;
+pub mod laws;
+mod live_site;
+mod overfull;
+mod step;

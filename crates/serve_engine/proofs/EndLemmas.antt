@@ -1,0 +1,163 @@
+-- From the opening of a site to the end of the service.
+use Rattle.std.proofs.Common.{◌≡◌, ℕ, ◌<◌, ◌≤◌, ◌⊎◌, inl, inr, Bool, true, false, List, [], length, refl, sym, ap, subst, arith}
+use Rattle.merge_core.specs.declared.layout.RecordSpec.{RecordSpec}
+use Rattle.merge_core.specs.Layout.{LayoutState, Shape}
+use Rattle.admission_model.specs.Account.{Account}
+use Rattle.admission_core.specs.Core.{Stands}
+use Rattle.admission_core.specs.Kept.{DurableState, durable_of}
+use Rattle.durable_keeper.specs.declared.keeper.Keeper.{Ghosts}
+use Rattle.desk_log.specs.Log.{begun}
+use Rattle.desk_log.proofs.KeptLemmas.{durable_begun}
+use Rattle.exit_status.specs.declared.status.Status.{Status}
+use Rattle.exit_status.specs.declared.status.Status.TheVariants.{Done, Usage, NoLayout, NoStore, Fault, Refused, Memory, Io}
+use Rattle.line_conversation.specs.declared.conversation.Conversation.{Ghosts as TalkGhosts}
+use Rattle.live_site.specs.declared.call_log.CallLog.{Ghosts as LogGhosts}
+use Rattle.live_site.specs.Live.{LiveState, IsFreshSite}
+use Rattle.desk_log.specs.declared.entry.Entry.{Entry}
+use Rattle.serve_engine.specs.Exchanges.{Exchange, HasServed, turns_of}
+use Rattle.serve_engine.specs.Ending.{ServedSite, EndsWell, EndsEarly, EndsSite, EndsServing, Serving}
+use Rattle.serve_engine.specs.Steps.{StandsBehind, Works, Fails, ended}
+
+module _ {K : Type 0} (g : Ghosts K) (records : List RecordSpec) (a : Account) where
+  -- what is known of a site at work is what it served
+  site_served : (first : DurableState) (keeper : K) (live : LiveState K) (xs : List Exchange) (es : List Entry) → StandsBehind g records a first keeper live xs es
+      → ServedSite g records a first live.frozen keeper live.keeper xs es
+  site_served first keeper live xs es st = record { fault = st.fault; account = st.account; tried = st.tried; served = st.served; kept = st.kept }
+
+  -- the same from what was kept before
+  rebased : (first d : DurableState) (frozen : Bool) (keeper k keeper_after : K) (xs : List Exchange) (es : List Entry) → (g.keeps keeper first → g.keeps k d)
+      → ServedSite g records a d frozen k keeper_after xs es → ServedSite g records a first frozen keeper keeper_after xs es
+  rebased first d frozen keeper k keeper_after xs es on it =
+      record { fault = it.fault; account = it.account; tried = it.tried; served = it.served; kept = λ kept. it.kept (on kept) }
+
+module _ {K C L : Type 0} (g : Ghosts K) (c : TalkGhosts C) (h : LogGhosts L) (records : List RecordSpec) (a : Account) where
+  -- no turn took place yet
+  pub works_first : (live : LiveState K) (talk : C) (log : L) → live.frozen ≡ false → Stands a live.core → c.took_place talk [] talk → h.took log [] log
+      → Works g c h records a (durable_of a) live.keeper live talk talk log log 0
+  works_first live talk log running stands begins none = record {
+    exchanges = [];
+    entries = [];
+    heard = begins;
+    logged = none;
+    site = record {
+      fault = false;
+      account = a;
+      tried = a;
+      served = subst (λ (f : Bool). HasServed records f a [] [] false a a) (sym running) ((refl, refl), refl, refl);
+      stands = stands;
+      kept = λ kept. kept;
+    };
+    counted = refl;
+  }
+
+  module _ (first : DurableState) (keeper : K) (live : LiveState K) (talk talk_now : C) (log log_now : L) where
+    -- the conversation ended
+    pub ends_well : (n : ℕ) → Works g c h records a first keeper live talk talk_now log log_now n → c.has_ended talk_now
+        → EndsSite g c h records a first keeper live.keeper talk talk_now log log_now (ended live.frozen)
+    ends_well n w at_end = at live.frozen refl
+      where
+        well : (f : Bool) → live.frozen ≡ f → EndsWell g c h records a first f keeper live.keeper talk talk_now log log_now
+        well f is = record {
+          exchanges = w.exchanges;
+          entries = w.entries;
+          heard = w.heard;
+          logged = w.logged;
+          site = subst (λ (b : Bool). ServedSite g records a first b keeper live.keeper w.exchanges w.entries) is (site_served g records a first keeper live w.exchanges w.entries w.site);
+          ended = at_end;
+        }
+
+        at : (f : Bool) → live.frozen ≡ f → EndsSite g c h records a first keeper live.keeper talk talk_now log log_now (ended f)
+        at true is = well true is
+        at false is = well false is
+
+    -- it failed, or the log did
+    pub ends_early : Fails g c h records a first keeper live talk talk_now log log_now → EndsEarly g c h records a first keeper live.keeper talk talk_now log log_now
+    ends_early f = record {
+      frozen = live.frozen;
+      exchanges = f.exchanges;
+      entries = f.entries;
+      turns = f.turns;
+      last = f.last;
+      heard = f.heard;
+      logged = f.logged;
+      site = site_served g records a first keeper live f.exchanges f.entries f.site;
+      why = cause f.why;
+    }
+      where
+        cause : c.has_failed talk_now ⊎ h.has_failed log_now → c.has_failed talk_now ⊎ (h.has_failed log_now ⊎ (18446744073709551615 ≤ length f.exchanges))
+        cause (inl failed) = inl failed
+        cause (inr failed) = inr (inl failed)
+
+    -- no more exchanges are counted
+    pub ends_counted : (n : ℕ) → Works g c h records a first keeper live talk talk_now log log_now n → 18446744073709551615 ≤ n
+        → EndsEarly g c h records a first keeper live.keeper talk talk_now log log_now
+    ends_counted n w many = record {
+      frozen = live.frozen;
+      exchanges = w.exchanges;
+      entries = w.entries;
+      turns = turns_of w.exchanges;
+      last = inl refl;
+      heard = w.heard;
+      logged = inl w.logged;
+      site = site_served g records a first keeper live w.exchanges w.entries w.site;
+      why = inr (inr (omega (arith, w.counted, many)));
+    }
+
+  -- the same from what was kept before
+  pub from_kept : (first d : DurableState) (keeper k keeper_after : K) (talk talk_after : C) (log log_after : L) (status : Status) → (g.keeps keeper first → g.keeps k d)
+      → EndsSite g c h records a d k keeper_after talk talk_after log log_after status → EndsSite g c h records a first keeper keeper_after talk talk_after log log_after status
+  from_kept first d keeper k keeper_after talk talk_after log log_after Done on it =
+      record { exchanges = it.exchanges; entries = it.entries; heard = it.heard; logged = it.logged; ended = it.ended; site = rebased g records a first d false keeper k keeper_after it.exchanges it.entries on it.site }
+  from_kept first d keeper k keeper_after talk talk_after log log_after Fault on it =
+      record { exchanges = it.exchanges; entries = it.entries; heard = it.heard; logged = it.logged; ended = it.ended; site = rebased g records a first d true keeper k keeper_after it.exchanges it.entries on it.site }
+  from_kept first d keeper k keeper_after talk talk_after log log_after Io on it =
+      record { frozen = it.frozen; exchanges = it.exchanges; entries = it.entries; turns = it.turns; last = it.last; heard = it.heard; logged = it.logged; why = it.why; site = rebased g records a first d it.frozen keeper k keeper_after it.exchanges it.entries on it.site }
+  from_kept first d keeper k keeper_after talk talk_after log log_after Usage on it = absurd it
+  from_kept first d keeper k keeper_after talk talk_after log log_after (NoLayout fault) on it = absurd it
+  from_kept first d keeper k keeper_after talk talk_after log log_after (NoStore refusal) on it = absurd it
+  from_kept first d keeper k keeper_after talk talk_after log log_after Refused on it = absurd it
+  from_kept first d keeper k keeper_after talk talk_after log log_after Memory on it = absurd it
+
+-- a site was opened and served its lines
+module _ {K C L : Type 0} (g : Ghosts K) (c : TalkGhosts C) (h : LogGhosts L) (layout : LayoutState) (i : ℕ) (keeper : K) (opened : LiveState K) (there : i < layout.sites) (fresh : IsFreshSite g keeper layout i opened) where
+  abbrev first : DurableState
+  first = fresh.begins.first
+
+  abbrev a : Account
+  a = begun layout i first
+
+  few : layout.sites ≤ 16
+  few =
+      let sites = ap (λ (shape : Shape). shape.sites) fresh.begins.stands.shape in
+      let same = ap (λ (l : LayoutState). l.sites) fresh.of_layout in
+      omega (arith, fresh.begins.stands.book.few_sites, sites, same)
+
+  kept_on : g.keeps keeper first → g.keeps opened.keeper (durable_of a)
+  kept_on kept =
+      subst (λ (d : DurableState). g.keeps opened.keeper d) (sym (durable_begun layout i first there few fresh.begins.cells fresh.begins.sessions)) (fresh.keeps_on.keeps first kept)
+
+  pub serving : (keeper_after : K) (talk talk_after : C) (log log_after : L) (status : Status) → (g.is_honest keeper_after → g.is_honest opened.keeper)
+      → ((b : Account) → Stands b opened.core → EndsSite g c h opened.core.layout.records b (durable_of b) opened.keeper keeper_after talk talk_after log log_after status)
+      → Serving g c h layout i keeper keeper_after talk talk_after log log_after status
+  serving keeper_after talk talk_after log log_after status honest ends = record {
+    first = first;
+    began = record {
+      found = λ d kept h_after. fresh.begins.found d kept (honest h_after);
+      cells = fresh.begins.cells;
+      sessions = fresh.begins.sessions;
+    };
+    ended = from_kept g c h layout.records a first (durable_of a) keeper opened.keeper keeper_after talk talk_after log log_after status kept_on
+        (subst (λ (rs : List RecordSpec). EndsSite g c h rs a (durable_of a) opened.keeper keeper_after talk talk_after log log_after status)
+        (ap (λ (l : LayoutState). l.records) fresh.of_layout) (ends a fresh.begins.stands));
+  }
+
+  pub ends_serving : (keeper_after : K) (talk talk_after : C) (log log_after : L) (status : Status) → Serving g c h layout i keeper keeper_after talk talk_after log log_after status
+      → EndsServing g c h layout i keeper keeper_after talk talk_after log log_after status
+  ends_serving keeper_after talk talk_after log log_after Done it = it
+  ends_serving keeper_after talk talk_after log log_after Fault it = it
+  ends_serving keeper_after talk talk_after log log_after Io it = it
+  ends_serving keeper_after talk talk_after log log_after Usage it = absurd it.ended
+  ends_serving keeper_after talk talk_after log log_after (NoLayout fault) it = absurd it.ended
+  ends_serving keeper_after talk talk_after log log_after (NoStore refusal) it = absurd it.ended
+  ends_serving keeper_after talk talk_after log log_after Refused it = absurd it.ended
+  ends_serving keeper_after talk talk_after log log_after Memory it = absurd it.ended

@@ -1,0 +1,98 @@
+//! The engine of `serve`.
+ghost use Rattle.std.specs.Prelude.{◌≡◌, ◌<◌, false};
+ghost use Rattle.admission_model.specs.Account.{Account};
+ghost use Rattle.admission_core.specs.Core.{Stands};
+ghost use Rattle.admission_core.specs.Kept.{durable_of};
+ghost use Rattle.desk_log.specs.Desk.{IsMadeFor};
+ghost use Rattle.serve_engine.specs.Ending.{EndsServing, EndsSite};
+ghost use Rattle.serve_engine.specs.Steps.{ended, opening_status};
+
+use crate::turns::{Turned, take_turn};
+use desk_log::OpenError;
+use durable_keeper::Keeper;
+use exit_status::{Status, StoreRefusal};
+use layout_file::LayoutFault;
+use line_conversation::Conversation;
+use live_site::{CallLog, LiveSite};
+use merge_core::Layout;
+use std::alloc::Global;
+
+/// The most bytes of a line: those of a delta's text, and the word before it.
+pub const LINE_LIMIT: usize = 2_097_157;
+
+/// Serves a site from what its keeper kept: reads a line, answers it, reads the next one, up to the end of the
+/// conversation. Each call is handed to the log and kept before it is answered. Hands the keeper back. The caller shows,
+/// where there is such a site, that the keeper was made for it.
+///
+/// A line that asks for nothing is answered `refused BadWord`, one beyond the conversation's limit `refused TooLong`, and
+/// want of memory `refused Memory`; the service goes on. Behind a fault of the store, and behind a delta that shows that
+/// the store is older than what others have seen, each line that reaches the site is answered `refused Frozen`, and the
+/// end is `Fault`. Where the conversation or the log fails the end is `Io`.
+pub fn serve_engine<K: Keeper, C: Conversation, L: CallLog>(
+    alloc: Global,
+    keeper: K,
+    layout: Layout,
+    site: u16,
+    conversation: &mut C,
+    log: &mut L,
+) -> (Status, K)
+    requires { site < layout.sites → IsMadeFor K.Keeper keeper layout site }
+    ensures made_for { site < layout.sites → IsMadeFor K.Keeper result.1 layout site }
+    ensures ended { EndsServing K.Keeper C.Conversation L.CallLog layout site keeper result.1 conversation.old conversation.new log.old log.new result.0 }
+{
+    let mut live = match LiveSite::open(alloc, keeper, layout, site) {
+        Ok(live) => live,
+        Err((error, keeper)) => return (opening_status(error), keeper),
+    };
+    let ended = serve_lines(alloc, &mut live, conversation, log);
+    (ended, live.into_keeper())
+}
+
+// How the service ends where no site was opened.
+fn opening_status(error: OpenError) -> Status
+    ensures { result ≡ opening_status error }
+{
+    match error {
+        OpenError::BadSite => Status::NoLayout(LayoutFault::NoSite),
+        OpenError::WrongCounters => Status::NoStore(StoreRefusal::WrongCounters),
+        OpenError::WrongSessions => Status::NoStore(StoreRefusal::WrongSessions),
+        OpenError::StoreFault => Status::NoStore(StoreRefusal::StoreFault),
+        OpenError::BadPasses | OpenError::BadLimit | OpenError::Memory => Status::Memory,
+    }
+}
+
+// Serves the lines of a conversation.
+fn serve_lines<K: Keeper, C: Conversation, L: CallLog>(
+    alloc: Global,
+    live: &mut LiveSite<K>,
+    conversation: &mut C,
+    log: &mut L,
+) -> Status
+    requires { live.old.frozen ≡ false }
+    ensures ended { (a : Account) → Stands a live.old.core → EndsSite K.Keeper C.Conversation L.CallLog live.old.core.layout.records a (durable_of a)
+        live.old.keeper live.new.keeper conversation.old conversation.new log.old log.new result }
+    ensures layout { live.new.core.layout ≡ live.old.core.layout }
+    ensures site { live.new.core.site ≡ live.old.core.site }
+    ensures honest { K.is_honest live.new.keeper → K.is_honest live.old.keeper }
+{
+    let mut text = String::new(alloc);
+    let mut count = 0u64;
+    while count < u64::MAX {
+        match take_turn(alloc, live, conversation, log, &mut text) {
+            Turned::Next => count += 1,
+            Turned::End => return ended(live),
+            Turned::Failed => return Status::Io,
+        }
+    }
+    Status::Io
+}
+
+// How the service ends with the conversation.
+fn ended<K: Keeper>(live: &LiveSite<K>) -> Status
+    ensures { result ≡ ended live.now.frozen }
+{
+    if live.is_frozen() {
+        return Status::Fault;
+    }
+    Status::Done
+}

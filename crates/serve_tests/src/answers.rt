@@ -1,0 +1,295 @@
+//! What lines are answered, opening after opening of one store.
+ghost use Rattle.std.specs.Prelude.{◌≡◌, IfSome};
+
+use durable_keeper::MemoryKeeper;
+use exit_status::Status;
+use layout_file::read_layout;
+use line_conversation::StreamConversation;
+use live_site::NoLog;
+use merge_core::Layout;
+use serve_engine::{LINE_LIMIT, serve_engine};
+use std::alloc::Global;
+use test_streams::texts::{THREE_SITES, TWO_SITES, WRITERS_FIRST};
+use test_streams::{Giving, Keeping, NEVER};
+
+// The lines of an opening, how it ends, and what it is told.
+type Opening = (&'static [u8], Status, &'static str);
+
+// Serves the lines over a keeper, and gives the keeper back where that ended as it was to.
+fn opening(
+    alloc: Global,
+    layout: &Layout,
+    site: u16,
+    keeper: MemoryKeeper,
+    run: Opening,
+) -> Option<MemoryKeeper>
+    requires layout { keeper.layout ≡ layout.now }
+    requires site { keeper.site ≡ site }
+    ensures layout { IfSome result (λ k. k.layout ≡ layout.now) }
+    ensures site { IfSome result (λ k. k.site ≡ site) }
+{
+    let (lines, status, told) = run;
+    let copy = layout.try_copy(alloc).ok()?;
+    if site >= copy.sites() {
+        return None;
+    }
+    let mut reader = Giving::new(lines, NEVER);
+    let mut writer = Keeping::new(alloc, NEVER);
+    let mut talk = StreamConversation::new(alloc, &mut reader, &mut writer, LINE_LIMIT).ok()?;
+    let (ended, keeper) = serve_engine(alloc, keeper, copy, site, &mut talk, &mut NoLog {});
+    drop(talk);
+    if ended != status || writer.bytes() != told.as_bytes() {
+        return None;
+    }
+    Some(keeper)
+}
+
+// Whether two openings of a site, one after the other over one keeper, come to this.
+fn openings(alloc: Global, toml: &str, site: u16, first: Opening, second: Opening) -> Option<()> {
+    let layout = read_layout(alloc, toml.as_bytes()).ok()?;
+    let keeper = MemoryKeeper::new(alloc, &layout, site).ok()?;
+    let keeper = opening(alloc, &layout, site, keeper, first)?;
+    let _keeper = opening(alloc, &layout, site, keeper, second)?;
+    Some(())
+}
+
+// A layout, a site, and two openings of it.
+type Story = (&'static str, u16, Opening, Opening);
+
+const NOTHING: Opening = (b"", Status::Done, "");
+
+// The first story that does not come to this.
+fn first_other(alloc: Global, stories: &[Story]) -> Option<usize> {
+    for (place, story) in stories.iter().enumerate() {
+        let (toml, site, first, second) = *story;
+        if openings(alloc, toml, site, first, second) != Some(()) {
+            return Some(place);
+        }
+    }
+    None
+}
+
+// Calls, and looks at a record.
+static LINES: [Story; 8] = [
+    (TWO_SITES, 0, NOTHING, NOTHING),
+    (
+        TWO_SITES,
+        0,
+        (
+            b"read a 7\nread a 8\nread a 9\n",
+            Status::Done,
+            "admitted\nadmitted\nrefused NoSeat 0\n",
+        ),
+        (
+            b"leave a 7\nread a 9",
+            Status::Done,
+            "left reader\nadmitted\n",
+        ),
+    ),
+    (
+        TWO_SITES,
+        0,
+        (
+            b"announce a 5\nread a 7\nshow a\nsessions a\n",
+            Status::Done,
+            "announced 1\nadmitted\nrights 1 inside 1 unfinished 1\n2 5 waiting, 7 reader\n",
+        ),
+        (
+            b"sessions a\nleave a 5\nsessions a\nleave a 7\nsessions a\nshow a\n",
+            Status::Done,
+            "2 5 waiting, 7 reader\nwithdrawn\n1 7 reader\nleft reader\n0\nrights 2 inside 0 unfinished 0\n",
+        ),
+    ),
+    (
+        TWO_SITES,
+        0,
+        (
+            b"announce a 5\nwrite a 5\nsessions a\nread a 7\nleave a 5\nshow a\n",
+            Status::Done,
+            "announced 1\nadmitted\n1 5 writer\nrefused NoSeat 0\nleft writer\nrights 2 inside 0 unfinished 0\n",
+        ),
+        (
+            b"show b\nsessions b\nread b 7\n",
+            Status::Done,
+            "refused NoRecord\nrefused NoRecord\nrefused NoRecord\n",
+        ),
+    ),
+    (
+        TWO_SITES,
+        0,
+        (
+            b"give a 1 1\nsend\n",
+            Status::Done,
+            "given\n{\"from\":0,\"rows\":[{\"ann\":0,\"fin\":0,\"out\":[2,1],\"r\":0,\"s\":0,\"taken\":0}],\"v\":1}\n",
+        ),
+        (
+            b"show a\nhelp a\n",
+            Status::Done,
+            "rights 1 inside 0 unfinished 0\nrefused NoPlan\n",
+        ),
+    ),
+    (
+        TWO_SITES,
+        1,
+        (
+            b"read a 7\ntake {\"from\":0,\"rows\":[{\"ann\":0,\"fin\":0,\"out\":[2,1],\"r\":0,\"s\":0,\"taken\":0}],\"v\":1}\n",
+            Status::Done,
+            "refused NoSeat 0\nmerged 1\n",
+        ),
+        (b"read a 7", Status::Done, "admitted\n"),
+    ),
+    (
+        WRITERS_FIRST,
+        0,
+        (
+            b"take {\"from\":1,\"rows\":[{\"ann\":1,\"fin\":0,\"out\":[0,0],\"r\":0,\"s\":1,\"taken\":0}],\"v\":1}\n",
+            Status::Done,
+            "merged 1\n",
+        ),
+        (b"read a 7\n", Status::Done, "refused WriterAnnounced 1\n"),
+    ),
+    (
+        THREE_SITES,
+        0,
+        (
+            b"read a 1\ntake {\"from\":1,\"rows\":[{\"ann\":1,\"fin\":0,\"out\":[0,0,0],\"r\":0,\"s\":1,\"taken\":0}],\"v\":1}\nread a 2\nhelp a\n",
+            Status::Done,
+            "admitted\nmerged 1\nrefused WriterAnnounced 1\ngave 1 2\n",
+        ),
+        (
+            b"leave a 1\nhelp a\nshow a\n",
+            Status::Done,
+            "left reader\ngave 1 1\nrights 0 inside 0 unfinished 0\n",
+        ),
+    ),
+];
+
+#[test]
+fn lines_are_answered_one_by_one(rt: HostRuntime) {
+    let other = first_other(rt.alloc(), &LINES);
+    assert!(rt; other == None, "{other:?}");
+}
+
+// Lines that ask for nothing stand between others, and do not end the service.
+static BAD_LINES: [Story; 4] = [
+    (
+        TWO_SITES,
+        0,
+        (
+            b"reed a 7\nread a 7\n\nread a 8\r\nshow\nshow a b\nsessions  a\n show a\nrestart\n",
+            Status::Done,
+            "refused BadWord\nadmitted\nrefused BadWord\nrefused BadWord\nrefused BadWord\nrefused BadWord\nrefused BadWord\nrefused BadWord\nrefused BadWord\n",
+        ),
+        (b"read a 7\n", Status::Done, "refused AlreadyHere\n"),
+    ),
+    (
+        TWO_SITES,
+        0,
+        (
+            b"take \nread a 7\ntake  {}\ntake\ntake \xff\nread a 8\n",
+            Status::Done,
+            "refused NotJson\nadmitted\nrefused NotCanonical\nrefused BadWord\nrefused BadWord\nadmitted\n",
+        ),
+        NOTHING,
+    ),
+    (
+        TWO_SITES,
+        0,
+        (
+            b"take {\"from\":1,\"rows\":[{\"ann\":0,\"fin\":0,\"out\":[0,0,0],\"r\":0,\"s\":1,\"taken\":0}],\"v\":1}\nread a 7\n",
+            Status::Done,
+            "refused OtherLayout 0\nadmitted\n",
+        ),
+        NOTHING,
+    ),
+    (
+        TWO_SITES,
+        0,
+        (
+            b"take {\"from\":0,\"rows\":[{\"ann\":0,\"fin\":0,\"out\":[1,0],\"r\":0,\"s\":0,\"taken\":0}],\"v\":1}\nread a 7\n",
+            Status::Done,
+            "refused BadRow 0\nadmitted\n",
+        ),
+        NOTHING,
+    ),
+];
+
+#[test]
+fn bad_lines_do_not_end_the_service(rt: HostRuntime) {
+    let other = first_other(rt.alloc(), &BAD_LINES);
+    assert!(rt; other == None, "{other:?}");
+}
+
+// A delta that tells more of the site than the site did: behind it nothing that reaches the site is served, and the end
+// says so; the store is as it was.
+static OLDER_STORES: [Story; 2] = [
+    (
+        TWO_SITES,
+        0,
+        (
+            b"read a 7\ntake {\"from\":1,\"rows\":[{\"ann\":0,\"fin\":0,\"out\":[2,1],\"r\":0,\"s\":0,\"taken\":0}],\"v\":1}\nread a 8\nleave a 7\nshow a\nsessions a\nsend\ntake x\nfoo\n",
+            Status::Fault,
+            "admitted\nrefused OwnRowAhead 0\nrefused Frozen\nrefused Frozen\nrefused Frozen\nrefused Frozen\nrefused Frozen\nrefused NotJson\nrefused BadWord\n",
+        ),
+        (
+            b"sessions a\nread a 8\n",
+            Status::Done,
+            "1 7 reader\nadmitted\n",
+        ),
+    ),
+    (
+        TWO_SITES,
+        0,
+        (
+            b"take {\"from\":1,\"rows\":[{\"ann\":0,\"fin\":0,\"out\":[2,0],\"r\":0,\"s\":0,\"taken\":2}],\"v\":1}\n",
+            Status::Fault,
+            "refused OwnRowAhead 0\n",
+        ),
+        NOTHING,
+    ),
+];
+
+#[test]
+fn a_site_with_an_older_store_serves_no_more(rt: HostRuntime) {
+    let other = first_other(rt.alloc(), &OLDER_STORES);
+    assert!(rt; other == None, "{other:?}");
+}
+
+// A delta that gives more rights than there are seats is refused whole, and one that gives all seats is not.
+static TOO_MANY: [Story; 2] = [
+    (
+        TWO_SITES,
+        1,
+        (
+            b"take {\"from\":0,\"rows\":[{\"ann\":1,\"fin\":0,\"out\":[4,3],\"r\":0,\"s\":0,\"taken\":2}],\"v\":1}\nread a 7\nshow a\nsend\n",
+            Status::Done,
+            "refused TooManySeats 0\nrefused NoSeat 0\nrights 0 inside 0 unfinished 0\n{\"from\":1,\"rows\":[],\"v\":1}\n",
+        ),
+        (
+            b"take {\"from\":0,\"rows\":[{\"ann\":0,\"fin\":0,\"out\":[2,2],\"r\":0,\"s\":0,\"taken\":0}],\"v\":1}\nshow a\n",
+            Status::Done,
+            "merged 1\nrights 2 inside 0 unfinished 0\n",
+        ),
+    ),
+    (
+        TWO_SITES,
+        1,
+        (
+            b"take {\"from\":0,\"rows\":[{\"ann\":0,\"fin\":0,\"out\":[2,2],\"r\":0,\"s\":0,\"taken\":0}],\"v\":1}\nread a 7\n",
+            Status::Done,
+            "merged 1\nadmitted\n",
+        ),
+        // one seat is taken, so one more fits and two do not
+        (
+            b"take {\"from\":0,\"rows\":[{\"ann\":0,\"fin\":0,\"out\":[4,4],\"r\":0,\"s\":0,\"taken\":2}],\"v\":1}\ntake {\"from\":0,\"rows\":[{\"ann\":0,\"fin\":0,\"out\":[4,3],\"r\":0,\"s\":0,\"taken\":2}],\"v\":1}\nshow a\n",
+            Status::Done,
+            "refused TooManySeats 0\nmerged 3\nrights 2 inside 1 unfinished 0\n",
+        ),
+    ),
+];
+
+#[test]
+fn a_delta_of_too_many_seats_is_refused_whole(rt: HostRuntime) {
+    let other = first_other(rt.alloc(), &TOO_MANY);
+    assert!(rt; other == None, "{other:?}");
+}

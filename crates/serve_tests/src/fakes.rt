@@ -1,0 +1,175 @@
+//! A keeper, a conversation and a log whose faults the test chooses.
+ghost use Rattle.std.specs.Prelude.{◌≡◌, IfOk, IfSome, if◌then◌else◌};
+
+use admission_core::{Call, Change, Durable, Reply};
+use durable_keeper::{Keeper, KeeperError, MemoryKeeper};
+use line_conversation::{Conversation, Next};
+use live_site::{CallLog, LogFault};
+use merge_core::Layout;
+use std::alloc::{AllocError, Global};
+
+/// What a keeper answers to the change that it does not keep.
+#[derive(Clone, Copy, PartialEq, Eq)]
+pub enum Refusal {
+    Memory,
+    Fault,
+}
+
+/// A keeper in memory that keeps so many changes, and not the next one: it finds no memory for it, once, or its device
+/// fails for good.
+#[derive(Drop)]
+pub struct Failing {
+    pub keeper: MemoryKeeper,
+    pub left: u64,
+    pub refusal: Refusal,
+    pub failed: bool,
+    /// How often it was told a change that is not empty.
+    pub told: u64,
+}
+
+impl Failing {
+    /// Nothing is kept yet.
+    pub fn new(
+        alloc: Global,
+        layout: &Layout,
+        site: u16,
+        left: u64,
+        refusal: Refusal,
+    ) -> Result<Failing, AllocError>
+        ensures layout { IfOk result (λ k. k.keeper.layout ≡ layout.now) }
+        ensures site { IfOk result (λ k. k.keeper.site ≡ site) }
+    {
+        let keeper = MemoryKeeper::new(alloc, layout, site)?;
+        Ok(Failing {
+            keeper,
+            left,
+            refusal,
+            failed: false,
+            told: 0,
+        })
+    }
+}
+
+impl Keeper for Failing {
+    ghost layout = { λ k. k.keeper.layout };
+
+    ghost site = { λ k. k.keeper.site };
+
+    // It promises to keep nothing.
+    ghost keeps = { λ _ _. ⊥ };
+
+    ghost keeps_either = { λ _ _ _. ⊥ };
+
+    ghost is_honest = { λ _. ⊥ };
+
+    ghost faults_of = { λ k. if k.failed then 1 else 0 };
+
+    fn commit(&mut self, change: &Change) -> Result<(), KeeperError> {
+        if self.failed {
+            return Err(KeeperError::StoreFault);
+        }
+        if change.is_empty() {
+            return Ok(());
+        }
+        self.told = self.told.saturating_add(1);
+        if self.left > 0 {
+            self.left -= 1;
+            return self.keeper.commit(change);
+        }
+        if self.refusal == Refusal::Memory {
+            self.left = u64::MAX;
+            return Err(KeeperError::Memory);
+        }
+        self.failed = true;
+        Err(KeeperError::StoreFault)
+    }
+
+    fn load(&mut self, alloc: Global) -> Result<Durable, KeeperError> {
+        if self.failed {
+            return Err(KeeperError::StoreFault);
+        }
+        self.keeper.load(alloc)
+    }
+
+    fn faults(&self) -> u64 {
+        u64::from(self.failed)
+    }
+}
+
+/// The same two lines, one after the other, so many times; it keeps a mark for each reading and each telling, and
+/// counts the bytes that were told.
+#[derive(Drop)]
+pub struct Marking {
+    pub lines: [&'static [u8]; 2],
+    pub line: &'static [u8],
+    pub left: u64,
+    pub marks: Vec<u8>,
+    pub bytes: u64,
+}
+
+impl Conversation for Marking {
+    ghost took_place = { λ _ _ _. Unit {0} };
+
+    ghost kept = { λ s. s.line.now };
+
+    ghost has_ended = { λ _. Unit {0} };
+
+    ghost has_failed = { λ _. Unit {0} };
+
+    ghost begins = { λ _. tt };
+
+    fn next_line(&mut self) -> Next {
+        if self.left == 0 {
+            return Next::End;
+        }
+        if self.marks.push(b'<').is_err() {
+            return Next::Failed;
+        }
+        self.left -= 1;
+        self.line = self.lines[(self.left % 2) as usize];
+        Next::Line
+    }
+
+    fn line(&self) -> &[u8] {
+        self.line
+    }
+
+    fn tell(&mut self, text: &str) -> bool {
+        self.bytes = self.bytes.saturating_add(text.len() as u64);
+        self.marks.push(b'>').is_ok()
+    }
+}
+
+/// A log that counts the entries that it has, and refuses the one behind so many others, once.
+#[derive(Drop)]
+pub struct Counting {
+    pub entries: u64,
+    pub left: u64,
+    pub fault: LogFault,
+}
+
+impl CallLog for Counting {
+    ghost took = { λ _ _ _. Unit {0} };
+
+    ghost has_failed = { λ _. Unit {0} };
+
+    ghost begins = { λ _. tt };
+
+    fn enter(&mut self, layout: &Layout, call: &Call, reply: &Reply) -> Result<(), LogFault> {
+        let _ = layout;
+        let _ = call;
+        let _ = reply;
+        if self.left == 0 {
+            self.left = u64::MAX;
+            return Err(self.fault);
+        }
+        self.left -= 1;
+        self.entries = self.entries.saturating_add(1);
+        Ok(())
+    }
+
+    fn take_back(&mut self) -> bool {
+        self.entries = self.entries.saturating_sub(1);
+        true
+    }
+}
