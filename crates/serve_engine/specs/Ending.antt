@@ -32,7 +32,8 @@ EndsIn xs turns =
 module _ {K : Type 0} where
   -- A site served these exchanges, from an account, and handed these entries to its log; what is then kept is the
   -- durable part of the account behind them, or, where the store failed, that or the one behind the call that met it.
-  pub record ServedSite (g : Ghosts K) (records : List RecordSpec) (a : Account) (first : DurableState) (frozen : Bool) (keeper keeper_after : K) (xs : List Exchange) (entries : List Entry) : Type 0 where
+  pub record ServedSite (g : Ghosts K) (records : List RecordSpec) (a : Account) (first : DurableState)
+      (frozen : Bool) (keeper keeper_after : K) (xs : List Exchange) (entries : List Entry) : Type 0 where
     pub fault : Bool
     pub account : Account
     pub tried : Account
@@ -41,7 +42,8 @@ module _ {K : Type 0} where
 
 module _ {K C L : Type 0} where
   -- The conversation came to its end: it grew by line, answer, line, answer; each answer is the model's.
-  pub record EndsWell (g : Ghosts K) (c : TalkGhosts C) (h : LogGhosts L) (records : List RecordSpec) (a : Account) (first : DurableState) (frozen : Bool) (keeper keeper_after : K) (talk talk_after : C) (log log_after : L) : Type 0 where
+  pub record EndsWell (g : Ghosts K) (c : TalkGhosts C) (h : LogGhosts L) (records : List RecordSpec) (a : Account)
+      (first : DurableState) (frozen : Bool) (keeper keeper_after : K) (talk talk_after : C) (log log_after : L) : Type 0 where
     pub exchanges : List Exchange
     pub entries : List Entry
     pub heard : c.took_place talk (turns_of exchanges) talk_after
@@ -50,7 +52,8 @@ module _ {K C L : Type 0} where
     pub ended : c.has_ended talk_after
 
   -- The conversation or the log failed: the last exchange is perhaps not complete.
-  pub record EndsEarly (g : Ghosts K) (c : TalkGhosts C) (h : LogGhosts L) (records : List RecordSpec) (a : Account) (first : DurableState) (keeper keeper_after : K) (talk talk_after : C) (log log_after : L) : Type 0 where
+  pub record EndsEarly (g : Ghosts K) (c : TalkGhosts C) (h : LogGhosts L) (records : List RecordSpec) (a : Account)
+      (first : DurableState) (keeper keeper_after : K) (talk talk_after : C) (log log_after : L) : Type 0 where
     pub frozen : Bool
     pub exchanges : List Exchange
     pub entries : List Entry
@@ -69,7 +72,8 @@ module _ {K C L : Type 0} where
   EndsSite g c h records a first keeper keeper_after talk talk_after log log_after _ = ⊥
 
   -- the same from what was kept
-  pub record Serving (g : Ghosts K) (c : TalkGhosts C) (h : LogGhosts L) (layout : LayoutState) (i : ℕ) (keeper keeper_after : K) (talk talk_after : C) (log log_after : L) (status : Status) : Type 0 where
+  pub record Serving (g : Ghosts K) (c : TalkGhosts C) (h : LogGhosts L) (layout : LayoutState) (i : ℕ)
+      (keeper keeper_after : K) (talk talk_after : C) (log log_after : L) (status : Status) : Type 0 where
     pub first : DurableState
     pub began : Began g layout i keeper keeper_after first
     pub ended : EndsSite g c h layout.records (begun layout i first) first keeper keeper_after talk talk_after log log_after status

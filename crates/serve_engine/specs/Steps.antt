@@ -150,7 +150,8 @@ module _ {K : Type 0} where
 
 module _ {K C L : Type 0} where
   -- so many exchanges, each of which was told
-  pub record Works (g : Ghosts K) (c : TalkGhosts C) (h : LogGhosts L) (records : List RecordSpec) (a : Account) (first : DurableState) (keeper : K) (live : LiveState K) (talk talk_now : C) (log log_now : L) (n : ℕ) : Type 0 where
+  pub record Works (g : Ghosts K) (c : TalkGhosts C) (h : LogGhosts L) (records : List RecordSpec) (a : Account)
+      (first : DurableState) (keeper : K) (live : LiveState K) (talk talk_now : C) (log log_now : L) (n : ℕ) : Type 0 where
     pub exchanges : List Exchange
     pub entries : List Entry
     pub heard : c.took_place talk (turns_of exchanges) talk_now
@@ -159,7 +160,8 @@ module _ {K C L : Type 0} where
     pub counted : length exchanges ≡ n
 
   -- exchanges of which the last is perhaps not complete, since the conversation or the log failed
-  pub record Fails (g : Ghosts K) (c : TalkGhosts C) (h : LogGhosts L) (records : List RecordSpec) (a : Account) (first : DurableState) (keeper : K) (live : LiveState K) (talk talk_now : C) (log log_now : L) : Type 0 where
+  pub record Fails (g : Ghosts K) (c : TalkGhosts C) (h : LogGhosts L) (records : List RecordSpec) (a : Account)
+      (first : DurableState) (keeper : K) (live : LiveState K) (talk talk_now : C) (log log_now : L) : Type 0 where
     pub exchanges : List Exchange
     pub entries : List Entry
     pub turns : List Turn

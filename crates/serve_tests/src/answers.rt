@@ -281,7 +281,8 @@ static TOO_MANY: [Story; 2] = [
         ),
         // one seat is taken, so one more fits and two do not
         (
-            b"take {\"from\":0,\"rows\":[{\"ann\":0,\"fin\":0,\"out\":[4,4],\"r\":0,\"s\":0,\"taken\":2}],\"v\":1}\ntake {\"from\":0,\"rows\":[{\"ann\":0,\"fin\":0,\"out\":[4,3],\"r\":0,\"s\":0,\"taken\":2}],\"v\":1}\nshow a\n",
+            b"take {\"from\":0,\"rows\":[{\"ann\":0,\"fin\":0,\"out\":[4,4],\"r\":0,\"s\":0,\"taken\":2}],\"v\":1}\n\
+              take {\"from\":0,\"rows\":[{\"ann\":0,\"fin\":0,\"out\":[4,3],\"r\":0,\"s\":0,\"taken\":2}],\"v\":1}\nshow a\n",
             Status::Done,
             "refused TooManySeats 0\nmerged 3\nrights 2 inside 1 unfinished 0\n",
         ),

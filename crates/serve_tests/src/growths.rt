@@ -31,7 +31,9 @@ static LINES: [&[u8]; 12] = [
 
 // What they are told with ample memory.
 const ANSWERS: &[u8] =
-    b"announced 1\nadmitted\n2 5 waiting, 7 reader\nleft reader\nadmitted\nleft writer\nmerged 1\ngiven\nadmitted\n1 8 reader\nrights 0 inside 1 unfinished 0\n{\"from\":0,\"rows\":[{\"ann\":1,\"fin\":1,\"out\":[5,1],\"r\":0,\"s\":0,\"taken\":4},{\"ann\":1,\"fin\":0,\"out\":[0,0],\"r\":0,\"s\":1,\"taken\":0}],\"v\":1}\n";
+    b"announced 1\nadmitted\n2 5 waiting, 7 reader\nleft reader\nadmitted\nleft writer\nmerged 1\n\
+    given\nadmitted\n1 8 reader\nrights 0 inside 1 unfinished 0\n\
+    {\"from\":0,\"rows\":[{\"ann\":1,\"fin\":1,\"out\":[5,1],\"r\":0,\"s\":0,\"taken\":4},{\"ann\":1,\"fin\":0,\"out\":[0,0],\"r\":0,\"s\":1,\"taken\":0}],\"v\":1}\n";
 
 const NO_MEMORY: &[u8] = b"refused Memory\n";
 
