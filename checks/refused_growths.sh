@@ -6,8 +6,9 @@
 #
 #     checks/refused_growths.sh [CRATE [WORD [RUN]]]
 #
-# Without arguments: the tests of site_tests on calls that find no memory. Of serving_tests, session_tests, exchange_tests
-# and store_tests the tests with the same word are such tests too; those of store_tests have to pass with two in a row too. Needs gcc.
+# Without arguments: the tests of site_tests on calls that find no memory. Of serving_tests, session_tests, exchange_tests,
+# serve_tests and store_tests the tests with the same word are such tests too; those of serve_tests and store_tests have to
+# pass with two in a row too. Needs gcc.
 set -eu
 . "$(dirname "$0")/refusing.sh"
 crate=${1:-site_tests}
