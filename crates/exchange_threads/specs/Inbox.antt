@@ -177,3 +177,9 @@ pub record HasRunIn (old new : PassState) (asked : ℕ) (r : InReport) : Type 0 
   pub heard : HasHeard old new nothing_heard r turns last
   pub within : IsInAt asked r
   pub ending : IsInEnd last asked turns
+
+-- .. at an inlet that is closed or not now: a run that ended early found the site stopped or its log full, or the inlet
+-- closed
+pub record HasRunInAt (closed : Type 0) (old new : PassState) (asked : ℕ) (r : InReport) : Type 0 where
+  pub ran : HasRunIn old new asked r
+  pub early : ran.last ≡ EndsRun → closed ⊎ IsMarked new

@@ -238,3 +238,9 @@ pub record HasRunOut (records : ℕ) (old new : PassState) (asked : ℕ) (r : Ou
   pub unsent : count_by is_snapshot (told_receipts records 0 told.went told.stop) ≤ r.sent + r.memory + stop_lost told.stop
   pub within : IsOutAt r.turns r
   pub ending : IsOutEnd last asked r
+
+-- .. at an outlet that is closed or not now: a run that ended early found the site stopped or its log full, or the outlet
+-- closed
+pub record HasRunOutAt (closed : Type 0) (records : ℕ) (old new : PassState) (asked : ℕ) (r : OutReport) : Type 0 where
+  pub ran : HasRunOut records old new asked r
+  pub early : ran.last ≡ EndsRun → closed ⊎ IsMarked new

@@ -1,8 +1,8 @@
-ghost use Rattle.std.specs.Prelude.{◌≡◌, ◌+◌, ◌*◌, ◌<◌, ◌≤◌, Bool, true, false};
+ghost use Rattle.std.specs.Prelude.{◌≡◌, ◌⊎◌, ◌+◌, ◌*◌, ◌<◌, ◌≤◌, Bool, true, false};
 ghost use Rattle.exchange_threads.specs.Turns.{IsMarked};
 ghost use Rattle.exchange_threads.specs.declared.turn.Turn.TheVariants.{EndsRun};
 ghost use Rattle.exchange_threads.specs.Fates.{HasFate};
-ghost use Rattle.exchange_threads.specs.Inbox.{HearsText, HasHeard, HasRunIn, CanCount, CountsTurn};
+ghost use Rattle.exchange_threads.specs.Inbox.{HearsText, HasHeard, HasRunIn, HasRunInAt, CanCount, CountsTurn};
 
 use crate::fate::{Fate, merge_fate, unread_fate};
 use crate::inlet::{Inlet, TakeError};
@@ -59,6 +59,7 @@ fn in_turn<K: Keeper, L: Opening, I: Inlet, R: Wait>(
     ensures heard { HasHeard pass.old pass.new report.old report.new 1 result }
     ensures counts { CountsTurn report.old report.new }
     ensures accounts { (ended : Bool) × I.accounts inlet.new pass.new.receipts report.new.taken report.new.memory ended × (ended ≡ true → (result ≡ EndsRun) × IsMarked pass.new) }
+    ensures early { result ≡ EndsRun → I.closed inlet.new ⊎ IsMarked pass.new }
     ensures same { I.same inlet.old inlet.new }
 {
     if report.refused.reserve().is_err() {
@@ -92,7 +93,7 @@ pub fn run_inbox_at<K: Keeper, L: Opening, I: Inlet, R: Wait>(
 ) -> InReport
     requires few { turns ≤ 1000000000 }
     requires accounts { I.accounts inlet.old pass.old.receipts 0 0 false }
-    ensures ran { HasRunIn pass.old pass.new turns result }
+    ensures ran { HasRunInAt (I.closed inlet.new) pass.old pass.new turns result }
     ensures accounts { (ended : Bool) × I.accounts inlet.new pass.new.receipts result.taken result.memory ended × (ended ≡ true → IsMarked pass.new) }
     ensures same { I.same inlet.old inlet.new }
 {

@@ -1,4 +1,5 @@
-ghost use Rattle.std.specs.Prelude.{◌≡◌, ⊤, ℕ, ◌+◌, Bool, true, false, List, ◌++◌, length, string_bytes, MatchResult};
+ghost use Rattle.std.specs.Prelude.{◌≡◌, ⊤, ℕ, ◌+◌, Bool, true, false, List, ◌++◌, length, string_bytes, Err, MatchResult};
+ghost use Rattle.exchange_threads.specs.declared.inlet.TakeError.TheVariants.{Closed};
 ghost use Rattle.session_book.specs.declared.pass.Receipt.{Receipt};
 ghost use Rattle.exchange_threads.specs.Fates.{IsFateOf, fate_lacks, is_ended};
 
@@ -26,12 +27,16 @@ pub trait Inlet {
     /// The account is right but for a text in hand.
     ghost holds: { Self → List ℕ → List Receipt → ℕ → ℕ → Type 0 };
 
+    /// No text will come any more.
+    ghost closed: { Self → Type 0 };
+
     /// It is the same inlet, perhaps later.
     ghost same: { Self → Self → Type 0 };
 
     /// Takes the next text. `Memory` leaves it where it is. May wait.
     fn take<R: Wait>(&mut self, rt: &R) -> Result<String, TakeError>
         ensures taken { (rs : List Receipt) (n m : ℕ) → accounts self.old rs n m false → MatchResult result (λ text. holds self.new (string_bytes text) rs n m) (λ _. accounts self.new rs n m false) }
+        ensures closed { result ≡ Err Closed → closed self.new }
         ensures same { same self.old self.new };
 
     /// Notes what came of the text in hand. The caller shows that it is. Takes no memory.
@@ -54,6 +59,8 @@ impl Inlet for Receiver<String> {
     ghost accounts = { λ _ _ _ _ _. ⊤ };
 
     ghost holds = { λ _ _ _ _ _. ⊤ };
+
+    ghost closed = { λ _. ⊤ };
 
     ghost same = { λ _ _. ⊤ };
 

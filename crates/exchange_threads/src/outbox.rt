@@ -1,8 +1,9 @@
-ghost use Rattle.std.specs.Prelude.{◌≡◌, ◌+◌, ◌<◌, ◌≤◌, List, ◌∷◌, ◌++◌, [], Option, None, length};
+ghost use Rattle.std.specs.Prelude.{◌≡◌, ◌⊎◌, ◌+◌, ◌<◌, ◌≤◌, List, ◌∷◌, ◌++◌, [], Option, None, length};
 ghost use Rattle.merge_core.specs.Delta.{DeltaState};
 ghost use Rattle.session_book.specs.declared.pass.Receipt.{Receipt};
-ghost use Rattle.exchange_threads.specs.declared.turn.Turn.TheVariants.{GoesOn};
-ghost use Rattle.exchange_threads.specs.Outbox.{HasAsked, HasShown, HasTold, HasRunOut, IsOutAt, IsSending, shown_receipt};
+ghost use Rattle.exchange_threads.specs.declared.turn.Turn.TheVariants.{GoesOn, EndsRun};
+ghost use Rattle.exchange_threads.specs.Turns.{IsMarked};
+ghost use Rattle.exchange_threads.specs.Outbox.{HasAsked, HasShown, HasTold, HasRunOut, HasRunOutAt, IsOutAt, IsSending, shown_receipt};
 
 use crate::gate::{Gate, is_open};
 use crate::outlet::{Outlet, PutError};
@@ -50,6 +51,7 @@ fn send_snapshot<O: Outlet, R: Wait>(
     ensures sending { IsSending snapshot told.old told.new result }
     ensures accounts { (rs : List Receipt) → O.accounts outlet.old rs told.old.report.sent told.old.last → place ≡ length rs
         → O.accounts outlet.new (rs ++ shown_receipt snapshot ∷ []) told.new.report.sent told.new.last }
+    ensures closed { result ≡ EndsRun → O.closed outlet.new }
     ensures same { O.same outlet.old outlet.new }
 {
     let Ok(text) = told.text(alloc, &snapshot) else {
@@ -86,6 +88,7 @@ fn tell<K: Keeper, L: Opening, O: Outlet, R: Wait>(
     ensures helped { told.new.report.helped ≡ told.old.report.helped }
     ensures spent { told.new.report.sent + told.new.report.memory ≤ told.old.report.sent + told.old.report.memory + 1 }
     ensures accounts { O.accounts outlet.new pass.new.receipts told.new.report.sent told.new.last }
+    ensures early { result ≡ EndsRun → O.closed outlet.new ⊎ IsMarked pass.new }
     ensures same { O.same outlet.old outlet.new }
 {
     let place = pass.count();
@@ -114,6 +117,7 @@ fn out_turn<K: Keeper, L: Opening, G: Gate, O: Outlet, R: Wait>(
     ensures at { IsOutAt (told.old.report.turns + 1) told.new.report }
     ensures opened { opened.new ≤ told.old.report.turns + 1 }
     ensures accounts { O.accounts outlet.new pass.new.receipts told.new.report.sent told.new.last }
+    ensures early { result ≡ EndsRun → O.closed outlet.new ⊎ IsMarked pass.new }
     ensures same { O.same outlet.old outlet.new }
 {
     let number = told.report.turns;
@@ -142,7 +146,7 @@ pub fn run_outbox_at<K: Keeper, L: Opening, G: Gate, O: Outlet, R: Wait>(
 ) -> OutReport
     requires few { turns ≤ 1000000000 }
     requires accounts { O.accounts outlet.old pass.old.receipts 0 None }
-    ensures ran { HasRunOut (length site.now.layout.records) pass.old pass.new turns result }
+    ensures ran { HasRunOutAt (O.closed outlet.new) (length site.now.layout.records) pass.old pass.new turns result }
     ensures accounts { (last : Option DeltaState) × O.accounts outlet.new pass.new.receipts result.sent last }
     ensures same { O.same outlet.old outlet.new }
 {

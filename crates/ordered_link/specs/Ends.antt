@@ -1,5 +1,5 @@
 -- The two ends of a link, as contracts see them (this project's own).
-use Rattle.std.specs.Prelude.{◌≡◌, ℕ, true, List, [], ◌∷◌, string_bytes}
+use Rattle.std.specs.Prelude.{◌≡◌, ℕ, Bool, true, List, [], ◌∷◌, string_bytes}
 use Rattle.atomic_table.specs.Seated.{TableId}
 use Rattle.atomic_table.specs.declared.badge.Badge.{Badge}
 use Rattle.crossbeam_channel.specs.declared.flavors.array.Key.{Key}
@@ -43,8 +43,12 @@ MayTake p = (view p).takes ≡ true
 pub record PutterState : Type 0 where
   pub link : LinkId
   pub put : List (List ℕ)
+  -- a put was refused, since the other end is closed
+  pub closed : Bool
 
 -- an end at which texts are taken, or what is left of it
 pub record TakerState : Type 0 where
   pub link : LinkId
   pub taken : List (List ℕ)
+  -- a take found that no text will come
+  pub ended : Bool

@@ -1,7 +1,7 @@
-ghost use Rattle.std.specs.Prelude.{◌≡◌, ℕ, List, [], ◌∷◌, ◌++◌, if◌then◌else◌, string_bytes, IfOk, IfSome, IfNone};
+ghost use Rattle.std.specs.Prelude.{◌≡◌, true, false, ℕ, List, [], ◌∷◌, ◌++◌, if◌then◌else◌, string_bytes, IfOk, IfSome, IfNone};
 ghost use Rattle.crossbeam_channel.specs.Claims.{IsSeatAt};
-ghost use Rattle.crossbeam_channel.specs.Ends.{sends_on};
-ghost use Rattle.ordered_link.specs.Ends.{MayPut, link_of, put_by, texts_of};
+ghost use Rattle.crossbeam_channel.specs.Ends.{sends_on, receives_on};
+ghost use Rattle.ordered_link.specs.Ends.{MayPut, MayTake, link_of, put_by, taken_by, texts_of};
 
 use crate::rule::{Log, Order, Parcel, PutStep, Roles, TakeStep, Total};
 use crossbeam_channel::{Pass, RuledReceiver, RuledSender, bounded_with};
@@ -14,17 +14,18 @@ use std::sync::Wait;
 pub struct Putter {
     sender: RuledSender<Parcel, Log, Order>,
     pass: Pass<Parcel, Log>,
+    closed: bool,
 }
 
 // Contracts see which link it is, and what was put.
 impl Model for Putter {
     ghost use Rattle.crossbeam_channel.specs.Claims.{IsSeatAt};
-    ghost use Rattle.crossbeam_channel.specs.Ends.{sends_on};
+    ghost use Rattle.crossbeam_channel.specs.Ends.{sends_on, receives_on};
     ghost use Rattle.ordered_link.specs.Ends.{PutterState, MayPut, link_of, put_by};
 
     ghost Value = { PutterState };
 
-    ghost view = { λ p. record { link = link_of p.pass; put = put_by p.pass } };
+    ghost view = { λ p. record { link = link_of p.pass; put = put_by p.pass; closed = p.closed } };
 
     ghost invariant = { λ p. IsSeatAt (sends_on p.sender) p.pass × MayPut p.pass };
 }
@@ -34,6 +35,7 @@ impl Model for Putter {
 pub struct Taker {
     receiver: Option<RuledReceiver<Parcel, Log, Order>>,
     pass: Pass<Parcel, Log>,
+    ended: bool,
 }
 
 // Contracts see which link it is, and what was taken.
@@ -45,7 +47,7 @@ impl Model for Taker {
 
     ghost Value = { TakerState };
 
-    ghost view = { λ t. record { link = link_of t.pass; taken = taken_by t.pass } };
+    ghost view = { λ t. record { link = link_of t.pass; taken = taken_by t.pass; ended = t.ended } };
 
     ghost invariant = { λ t. IfSome t.receiver (λ r. IsSeatAt (receives_on r) t.pass) × (t.pass.me.1 ≡ []) × MayTake t.pass };
 }
@@ -63,10 +65,15 @@ pub fn make_link(alloc: Global) -> Result<(Putter, Taker), AllocError>
     )?;
     let other = sender.another::<Roles>(&mut pass);
     Ok((
-        Putter { sender, pass },
+        Putter {
+            sender,
+            pass,
+            closed: false,
+        },
         Taker {
             receiver: Some(receiver),
             pass: other,
+            ended: false,
         },
     ))
 }
@@ -97,8 +104,14 @@ impl Putter {
     pub fn put<R: Wait>(&mut self, rt: &R, text: String) -> bool
         ensures link { self.new.link ≡ self.old.link }
         ensures put { self.new.put ≡ (if result then self.old.put ++ string_bytes text ∷ [] else self.old.put) }
+        ensures closed { result ≡ false → self.new.closed ≡ true }
+        ensures open { result ≡ true → self.new.closed ≡ self.old.closed }
     {
-        send(rt, &self.sender, &mut self.pass, Parcel::Text(text))
+        let done = send(rt, &self.sender, &mut self.pass, Parcel::Text(text));
+        if !done {
+            self.closed = true;
+        }
+        done
     }
 
     /// Tells the taker that no text will follow. May wait.
@@ -114,9 +127,34 @@ impl Putter {
         ensures same { self.new ≡ self.old }
         ensures prefix { (rest : List (List ℕ)) × (self.new.put ≡ taker.taken ++ rest) }
     {
-        let Taker { receiver: _, pass } = taker;
+        let Taker {
+            receiver: _,
+            pass,
+            ended: _,
+        } = taker;
         self.sender.absorb::<Roles>(&mut self.pass, pass);
         self.sender.learn_as::<Total>(&mut self.pass);
+    }
+}
+
+// Takes the next text of a channel.
+fn take_text<R: Wait>(
+    rt: &R,
+    receiver: &RuledReceiver<Parcel, Log, Order>,
+    pass: &mut Pass<Parcel, Log>,
+) -> Option<String>
+    requires seat { IsSeatAt (receives_on receiver.now) pass.old }
+    requires role { MayTake pass.old }
+    ensures seat { IsSeatAt (receives_on receiver.now) pass.new }
+    ensures link { link_of pass.new ≡ link_of pass.old }
+    ensures role { MayTake pass.new }
+    ensures taken { IfSome result (λ text. taken_by pass.new ≡ taken_by pass.old ++ string_bytes text ∷ []) }
+    ensures none { IfNone result (taken_by pass.new ≡ taken_by pass.old) }
+{
+    match receiver.recv_as::<TakeStep, R>(rt, pass) {
+        Ok(Parcel::Text(text)) => Some(text),
+        Ok(Parcel::Last) => None,
+        Err(_) => None,
     }
 }
 
@@ -126,15 +164,17 @@ impl Taker {
         ensures link { self.new.link ≡ self.old.link }
         ensures taken { IfSome result (λ text. self.new.taken ≡ self.old.taken ++ string_bytes text ∷ []) }
         ensures none { IfNone result (self.new.taken ≡ self.old.taken) }
+        ensures ended { IfNone result (self.new.ended ≡ true) }
     {
-        let Some(receiver) = &self.receiver else {
-            return None;
+        let taken = match &self.receiver {
+            Some(receiver) => take_text(rt, receiver, &mut self.pass),
+            None => None,
         };
-        match receiver.recv_as::<TakeStep, R>(rt, &mut self.pass) {
-            Ok(Parcel::Text(text)) => Some(text),
-            Ok(Parcel::Last) => None,
-            Err(_) => None,
+        if taken.is_none() {
+            self.ended = true;
+            self.receiver = None;
         }
+        taken
     }
 
     /// Closes this end, so that a putter that waits gets its text back.

@@ -49,7 +49,7 @@ impl RuledInlet {
 }
 
 impl Inlet for RuledInlet {
-    ghost use Rattle.std.specs.Prelude.{◌≡◌, false, ◌<◌, ◌∷◌, ◌++◌, [], map, string_bytes, vec_len, vec_capacity};
+    ghost use Rattle.std.specs.Prelude.{◌≡◌, true, false, ◌<◌, ◌∷◌, ◌++◌, [], map, string_bytes, vec_len, vec_capacity};
     ghost use Rattle.ruled_pair.specs.Heard.{AreHeard};
     ghost use Rattle.std.proofs.Common.{refl, ◌∙◌};
     ghost use Rattle.ruled_pair.specs.Growing.{heard_lacks};
@@ -58,6 +58,8 @@ impl Inlet for RuledInlet {
 
     ghost holds = { λ e text rs n m. AreHeard rs e.first (map string_bytes e.taken.items) e.fates.items n m false
         × (e.taker.taken ≡ map string_bytes e.taken.items ++ text ∷ []) × (vec_len e.taken < vec_capacity e.taken) × (vec_len e.fates < vec_capacity e.fates) };
+
+    ghost closed = { λ e. e.taker.ended ≡ true };
 
     ghost same = { λ a b. (b.first ≡ a.first) × (b.taker.link ≡ a.taker.link) };
 

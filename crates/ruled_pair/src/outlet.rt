@@ -51,12 +51,14 @@ impl RuledOutlet {
 }
 
 impl Outlet for RuledOutlet {
-    ghost use Rattle.std.specs.Prelude.{◌≡◌, map, string_bytes};
+    ghost use Rattle.std.specs.Prelude.{◌≡◌, true, map, string_bytes};
     ghost use Rattle.ruled_pair.specs.Sent.{AreSent};
     ghost use Rattle.std.proofs.Common.{refl, ◌∙◌};
     ghost use Rattle.ruled_pair.specs.Growing.{sent_grows};
 
     ghost accounts = { λ e rs n last. AreSent rs e.first e.sent_at.items (map string_bytes e.put.items) n last × (e.putter.put ≡ map string_bytes e.put.items) };
+
+    ghost closed = { λ e. e.putter.closed ≡ true };
 
     ghost same = { λ a b. (b.first ≡ a.first) × (b.putter.link ≡ a.putter.link) };
 

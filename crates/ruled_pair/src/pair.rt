@@ -1,4 +1,4 @@
-ghost use Rattle.std.specs.Prelude.{◌≡◌, ◌≤◌, ℕ, List, ◌++◌, length, IfOk, IfErr, OnErr};
+ghost use Rattle.std.specs.Prelude.{◌≡◌, ◌≢◌, ◌≤◌, ℕ, List, ◌++◌, length, IfOk, IfErr, OnOk, OnErr};
 ghost use denote.Param.Send.{IsSend, IsSync};
 ghost use Rattle.exchange_threads.specs.Outbox.{HasRunOut};
 ghost use Rattle.exchange_threads.specs.Inbox.{HasRunIn};
@@ -133,7 +133,7 @@ fn run_direction<
     ensures { HasRunBoth (length from.now.layout.records) turns out_pass.old out_pass.new in_pass.old in_pass.new direction.old direction.new result.0 result.1 }
 {
     let Direction { outlet, inlet } = direction;
-    // the second runs on this thread, and first where no other can be started: then a few texts need no taker
+    // if no thread can be started, the sender runs first: up to 15 texts and the closing word fit the link
     let (got, out) = join_mut(
         rt,
         &mut || take_texts(rt, alloc, to, in_pass, inlet, turns),
@@ -208,6 +208,7 @@ pub fn run_ruled_pair<
         first_end.old.out_pass first_end.new.out_pass second_end.old.in_pass second_end.new.in_pass reports.0
         × IsPairReport (length second.now.layout.records) turns
         second_end.old.out_pass second_end.new.out_pass first_end.old.in_pass first_end.new.in_pass reports.1) }
+    ensures apart { OnOk result (first.now.site ≢ second.now.site) }
     ensures refused { IfErr result (IsRefusal first.now.site second.now.site) }
     ensures first_stays { OnErr result (first_end.new ≡ first_end.old) }
     ensures second_stays { OnErr result (second_end.new ≡ second_end.old) }

@@ -1,4 +1,4 @@
-use Rattle.std.proofs.Common.{ℕ, ◌+◌, false, refl, sym, ap, subst, arith}
+use Rattle.std.proofs.Common.{rules, ◌≡◌, ℕ, ◌+◌, false, refl, sym, ap, subst, arith}
 use Rattle.exchange_threads.specs.declared.turn.Turn.{Turn}
 use Rattle.exchange_threads.specs.declared.turn.Turn.TheVariants.{GoesOn, EndsRun}
 use Rattle.exchange_threads.specs.Counts.{count_total}
@@ -37,9 +37,25 @@ returns-in-EndsRun-clause-ran g c =
     let heard : HasHeard c.args.pass.now c.in_turn-turn.new.pass nothing_heard c.in_turn-turn.new.report (c.turns.t + 1) c.in_turn-turn.result =
     heard_both c.args.pass.now c.turns.pass c.in_turn-turn.new.pass nothing_heard c.turns.report c.in_turn-turn.new.report c.turns.t 1 GoesOn c.in_turn-turn.result refl c.turns.invariant.heard c.in_turn-turn.ensures.heard in
     record {
-      turns = c.turns.t + 1;
-      last = EndsRun;
-      heard = subst (λ (x : Turn). HasHeard c.args.pass.now c.in_turn-turn.new.pass nothing_heard c.in_turn-turn.new.report (c.turns.t + 1) x) c.in-EndsRun.is heard;
-      within = in_at_more (c.turns.t + 1) c.args.turns c.in_turn-turn.new.report (omega (arith, c.turns-test.true)) (counted_on c.turns.t c.turns.report c.in_turn-turn.new.report c.turns.invariant.at c.in_turn-turn.ensures.counts);
-      ending = omega (arith, c.turns-test.true);
+      ran = record {
+        turns = c.turns.t + 1;
+        last = EndsRun;
+        heard = subst (λ (x : Turn). HasHeard c.args.pass.now c.in_turn-turn.new.pass nothing_heard c.in_turn-turn.new.report (c.turns.t + 1) x) c.in-EndsRun.is heard;
+        within = in_at_more (c.turns.t + 1) c.args.turns c.in_turn-turn.new.report (omega (arith, c.turns-test.true)) (counted_on c.turns.t c.turns.report c.in_turn-turn.new.report c.turns.invariant.at c.in_turn-turn.ensures.counts);
+        ending = omega (arith, c.turns-test.true);
+      };
+      early = λ _. c.in_turn-turn.ensures.early c.in-EndsRun.is;
+    }
+
+pub returns-clause-ran : goal.returns-clause-ran
+returns-clause-ran g c =
+    record {
+      ran = record {
+        turns = c.turns.t;
+        last = GoesOn;
+        heard = c.turns.invariant.heard;
+        within = search rules;
+        ending = search rules;
+      };
+      early = λ (is : GoesOn ≡ EndsRun). cc;
     }

@@ -1,4 +1,4 @@
-use Rattle.std.proofs.Common.{ℕ, ◌+◌, Option, None, length, refl, sym, subst, arith}
+use Rattle.std.proofs.Common.{◌≡◌, ℕ, ◌+◌, Option, None, length, refl, sym, subst, arith}
 use Rattle.merge_core.specs.Delta.{DeltaState}
 use Rattle.exchange_threads.specs.declared.report.OutReport.{OutReport}
 use Rattle.exchange_threads.specs.declared.turn.Turn.{Turn}
@@ -43,14 +43,17 @@ returns-in-EndsRun-clause-ran g c =
     subst (λ (x : Turn). HasTold n c.args.pass.now c.out_turn-turn.new.pass nothing_told c.out_turn-turn.new.told.report 0 c.out_turn-turn.new.opened x) c.in-EndsRun.is told in
     let at : IsOutAt (c.turns.told.report.turns + 1) c.out_turn-turn.new.told.report = c.out_turn-turn.ensures.at in
     record {
-      last = EndsRun;
-      opened = c.out_turn-turn.new.opened;
-      told = ended;
-      kinds = kinds_told n 0 ended.went ended.stop;
-      shown = omega (arith, ended.sent, shown_told n 0 ended.went ended.stop);
-      unsent = omega (arith, ended.sent, ended.memory, unsent_told n 0 ended.went ended.stop);
-      within = subst (λ (k : ℕ). IsOutAt k c.out_turn-turn.new.told.report) (sym at.turns) at;
-      ending = omega (arith, at.turns, c.turns.invariant.at.turns, c.turns-test.true);
+      ran = record {
+        last = EndsRun;
+        opened = c.out_turn-turn.new.opened;
+        told = ended;
+        kinds = kinds_told n 0 ended.went ended.stop;
+        shown = omega (arith, ended.sent, shown_told n 0 ended.went ended.stop);
+        unsent = omega (arith, ended.sent, ended.memory, unsent_told n 0 ended.went ended.stop);
+        within = subst (λ (k : ℕ). IsOutAt k c.out_turn-turn.new.told.report) (sym at.turns) at;
+        ending = omega (arith, at.turns, c.turns.invariant.at.turns, c.turns-test.true);
+      };
+      early = λ _. c.out_turn-turn.ensures.early c.in-EndsRun.is;
     }
 
 pub returns-clause-ran : goal.returns-clause-ran
@@ -58,12 +61,15 @@ returns-clause-ran g c =
     let n : ℕ = length c.args.site.now.layout.records in
     let told : HasTold n c.args.pass.now c.turns.pass nothing_told c.turns.told.report 0 c.turns.opened GoesOn = c.turns.invariant.told in
     record {
-      last = GoesOn;
-      opened = c.turns.opened;
-      told = told;
-      kinds = kinds_told n 0 told.went told.stop;
-      shown = omega (arith, told.sent, shown_told n 0 told.went told.stop);
-      unsent = omega (arith, told.sent, told.memory, unsent_told n 0 told.went told.stop);
-      within = subst (λ (k : ℕ). IsOutAt k c.turns.told.report) (sym c.turns.invariant.at.turns) c.turns.invariant.at;
-      ending = omega (arith, c.turns.invariant.at.turns, c.turns-test.false);
+      ran = record {
+        last = GoesOn;
+        opened = c.turns.opened;
+        told = told;
+        kinds = kinds_told n 0 told.went told.stop;
+        shown = omega (arith, told.sent, shown_told n 0 told.went told.stop);
+        unsent = omega (arith, told.sent, told.memory, unsent_told n 0 told.went told.stop);
+        within = subst (λ (k : ℕ). IsOutAt k c.turns.told.report) (sym c.turns.invariant.at.turns) c.turns.invariant.at;
+        ending = omega (arith, c.turns.invariant.at.turns, c.turns-test.false);
+      };
+      early = λ (is : GoesOn ≡ EndsRun). cc;
     }
