@@ -1,12 +1,13 @@
 -- Seats, site by site.
 use Rattle.std.proofs.Common.{◌≡◌, ◌≢◌, ℕ, ◌+◌, ◌-◌, ◌<◌, ◌≤◌, ◌⊎◌, inl, inr, Bool, true, false, cond, ltb, List, [], length, get_or, set, take, max, refl, sym, ap, ◌∙◌, arith}
-use Rattle.std.proofs.lemmas.List.{get_or-set_same, get_or-set_other, length-set}
+use Rattle.std.proofs.lemmas.List.{get_or-set_same, get_or-set_other, length-set, set-get_or}
+use Rattle.std.proofs.lemmas.Grind.{same_number_lists}
 use Rattle.std.proofs.lemmas.Bool.{cases_eq}
 use mir.Val.{bool_byte}
-use Rattle.grow_counters.specs.Counts.{counter_limit, maxima, rise_count}
+use Rattle.grow_counters.specs.Counts.{counter_limit, maxima, rise_count, IsWithin}
 use Rattle.grow_counters.proofs.CountsLemmas.{length-maxima, get_or-maxima}
 use Rattle.rights_matrix.specs.Joined.{joined, joined_at}
-use Rattle.rights_matrix.specs.Matrix.{MatrixState, site_count, grant, entry, raised, IsMatrix, SameShape}
+use Rattle.rights_matrix.specs.Matrix.{MatrixState, site_count, row_of, grant, entry, raised, IsMatrix, SameShape}
 use Rattle.rights_matrix.proofs.EntryLemmas.{entry-joined, entry-joined_at, entry-joined_at_other}
 use Rattle.rights_matrix.proofs.JoinLemmas.{IsMatrix-joined, IsMatrix-joined_at, length-joined_rows, joined_at-start, joined_at-more, rise_counts-more}
 use Rattle.rights_matrix.proofs.RightsLemmas.{HasRights-joined_at}
@@ -143,3 +144,15 @@ seat_rises-more st now s j by taken row h inside in_row fits is_now is_by =
 pub bool_byte_is : (b : Bool) → (bool_byte b ≡ cond b 1 0) × (bool_byte b ≤ 1)
 bool_byte_is true = (refl, omega arith)
 bool_byte_is false = (refl, omega arith)
+
+-- a row that is nowhere above the site's own changes nothing
+maxima-within : (xs ys : List ℕ) → length ys ≤ length xs → IsWithin ys xs → maxima xs ys ≡ xs
+maxima-within xs ys fits within =
+    same_number_lists (maxima xs ys) xs (length-maxima xs ys) (λ k below. omega (arith, get_or-maxima xs ys k fits, within k))
+
+pub joined_seats_at-within : (st now : SeatState) (s taken : ℕ) (row : List ℕ) → length row ≤ length (row_of st.matrix s) → IsWithin row (row_of st.matrix s)
+    → now ≡ record st { taken = set st.taken s (max (taken_at st s) taken) } → now ≡ joined_seats_at st s row taken
+joined_seats_at-within st now s taken row fits within is_now =
+    is_now
+    ∙ ap (λ (rows : List (List ℕ)). seats_of (record st.matrix { rows = rows }) (set st.taken s (max (taken_at st s) taken)))
+    (sym (ap (set st.matrix.rows s) (maxima-within (row_of st.matrix s) row fits within) ∙ set-get_or st.matrix.rows s []))
