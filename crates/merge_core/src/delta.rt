@@ -88,6 +88,14 @@ impl Delta {
         Ok(Delta { from, rows })
     }
 
+    /// The delta with this label and these rows, whose caller shows that they are one. Takes no memory.
+    pub(crate) fn of_rows(from: u16, rows: Vec<Row>) -> Delta
+        requires { IsDelta (record { from = from; rows = rows.items }) }
+        ensures { result ≡ record { from = from; rows = rows.items } }
+    {
+        Delta { from, rows }
+    }
+
     /// The number of the site that made the delta: a label, which decides nothing.
     pub fn from_site(&self) -> u16
         ensures label { result ≡ self.now.from }

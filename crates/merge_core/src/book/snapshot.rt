@@ -7,7 +7,7 @@ ghost use Rattle.merge_core.specs.Book.{IsRecord};
 ghost use Rattle.merge_core.specs.Kept.{start_in};
 
 use super::Book;
-use super::marks::is_marked;
+use super::marks::{is_marked, marked_rows};
 use crate::record::RecordState;
 use crate::{Delta, Row};
 use grow_counters::Counts;
@@ -33,10 +33,7 @@ impl Book {
         ensures book { IfOk result (λ _. IsBook self.now) }
     {
         let rows = self.all_moved(alloc)?;
-        match Delta::new(from, rows) {
-            Ok(delta) => Ok(delta),
-            Err(_) => unreachable!(),
-        }
+        Ok(Delta::of_rows(from, rows))
     }
 
     // The rows of all records that have left their start.
@@ -44,7 +41,7 @@ impl Book {
         ensures rows { IfOk result (λ rows. rows.items ≡ all_moved (book_shape self.now) (counter_of self.now)) }
         ensures book { IsBook self.now }
     {
-        let mut rows = Vec::new(alloc);
+        let mut rows = Vec::with_capacity(alloc, marked_rows(self.marks.as_slice()))?;
         for r in 0..self.records.len() {
             self.push_moved(alloc, &mut rows, r as u16)?;
         }
