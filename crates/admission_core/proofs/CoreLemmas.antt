@@ -3,7 +3,6 @@ use Rattle.std.proofs.Common.{◌≡◌, ℕ, ◌<◌, List, length, Some, None,
 use Rattle.std.specs.Prelude.{◌↔◌, IfOk, Result, Ok, Err}
 use Rattle.merge_core.specs.Layout.{LayoutState, IsLayout, shape_of}
 use Rattle.merge_core.specs.Rows.{start_counter}
-use Rattle.merge_core.specs.declared.cell.Cell.{Cell}
 use Rattle.merge_core.specs.Naming.{ReachesUnit}
 use Rattle.admission_model.specs.declared.durable.DurableCell.{DurableCell}
 use Rattle.admission_model.specs.Durable.{at_slot, places, kept_cells, durable_cells}

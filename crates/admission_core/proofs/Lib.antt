@@ -3,6 +3,7 @@ pub mod AllowedLemmas
 pub mod StandsLemmas
 pub mod BegunLemmas
 pub mod ReadyLemmas
+pub mod ServedLemmas
 pub mod LimitLemmas
 pub mod ChangeLemmas
 pub mod PromiseLemmas

@@ -1,5 +1,5 @@
 -- The core of a site as contracts see it, and for which accounts of the model it stands.
-use Rattle.std.specs.Prelude.{◌≡◌, ◌↔◌, ℕ, ◌<◌, length, Bool, true, false, List, if◌then◌else◌, Option, Some}
+use Rattle.std.specs.Prelude.{◌≡◌, ◌↔◌, ℕ, ◌<◌, length, Bool, true, false, List, if◌then◌else◌, Some}
 use Rattle.merge_core.specs.declared.cell.Cell.{Cell}
 use Rattle.merge_core.specs.Layout.{LayoutState, IsLayout, shape_of}
 use Rattle.merge_core.specs.Book.{BookState, IsBook, book_shape, counter_of, Names, seats_at}

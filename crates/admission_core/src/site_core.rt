@@ -49,6 +49,8 @@ impl SiteCore {
     ghost use Rattle.session_list.specs.Sessions.{phase_in};
     ghost use Rattle.merge_core.specs.declared.cell.Cell.TheVariants.{Ann, Fin};
     ghost use Rattle.merge_core.specs.Book.{counter_of};
+    ghost use Rattle.merge_core.specs.Layout.{shape_of};
+    ghost use Rattle.merge_core.specs.Moved.{raised_by};
     ghost use Rattle.admission_model.specs.declared.ask.Ask.{Ask};
     ghost use Rattle.admission_model.specs.declared.ask.Call.{Call};
     ghost use Rattle.admission_model.specs.declared.ask.Ask.TheVariants.{Read, Announce, Quill, Leave, Give, Help};
@@ -185,16 +187,26 @@ impl SiteCore {
     pub fn merge(&mut self, delta: &Delta) -> Reply
         ensures { IsServed self.old self.new (Merge delta.now) result }
     {
-        let prepared = self.prepare_merge(delta);
-        self.apply(prepared)
+        if let Some(refusal) = self.merge_reason(delta) {
+            return Reply::Refused(refusal);
+        }
+        Reply::Merged(self.join(delta))
     }
 
-    // Serves what a caller asks.
+    // Serves what a caller asks. Nothing is made for a store.
     fn ask(&mut self, ask: Ask) -> Reply
         ensures { IsServed self.old self.new (AskCall ask) result }
     {
-        let prepared = self.prepare_ask(ask);
-        self.apply(prepared)
+        if let Some(refusal) = self.ask_reason(ask) {
+            return Reply::Refused(refusal);
+        }
+        let operation = self.operation_of(ask);
+        let answer = self.answer(ask);
+        let Ok(()) = self.reserve_for(operation) else {
+            return Reply::Refused(Refusal::Memory);
+        };
+        self.carry_out(operation);
+        answer
     }
 
     /// What this site tells others: all rows that have left their start. Linear in the book.
@@ -275,12 +287,13 @@ impl SiteCore {
         reply
     }
 
-    // Joins a delta that nothing refuses.
-    fn join(&mut self, delta: &Delta)
+    // Joins a delta that nothing refuses, and answers how many counters rose.
+    fn join(&mut self, delta: &Delta) -> u64
         requires { reason (core_view self.old) (Merge delta.now) ≡ None }
-        ensures { (a : Account) → Stands a self.old → Stands (after a (Merge delta.now)) self.new }
+        ensures account { (a : Account) → Stands a self.old → Stands (after a (Merge delta.now)) self.new }
+        ensures risen { result ≡ raised_by (shape_of self.old.layout) (counter_of self.old.book) delta.now.rows }
     {
-        self.book.join(delta);
+        self.book.join(delta)
     }
 
     // Why a call would be refused, by what the core shows.

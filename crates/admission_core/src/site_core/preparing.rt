@@ -19,10 +19,10 @@ impl SiteCore {
     ghost use Rattle.session_list.specs.declared.session.Phase.{Phase};
     ghost use Rattle.admission_model.specs.declared.operation.Operation.TheVariants.{LeftRecord};
     ghost use Rattle.admission_model.specs.Serving.{reason, answer, operation_of};
-    ghost use Rattle.std.specs.Prelude.{None};
+    ghost use Rattle.std.specs.Prelude.{None, Some};
     ghost use Rattle.admission_core.specs.Core.{Core, core_view, SameContent, is_memory};
     ghost use Rattle.admission_core.specs.Kept.{change_of, put_by, removed_by};
-    ghost use Rattle.admission_core.specs.Prepared.{IsReadyFor, IsChangeFor, arrives};
+    ghost use Rattle.admission_core.specs.Prepared.{IsReadyFor, IsChangeFor, arrives, has_room};
     ghost use Rattle.admission_core.specs.Carrying.{IsAllowed};
 
     /// Prepares what a caller asks.
@@ -73,8 +73,8 @@ impl SiteCore {
         Prepared::answered(self.alloc, Reply::Snapshot(delta))
     }
 
-    // The operation that an ask is, which nothing refuses.
-    fn operation_of(&self, ask: Ask) -> Operation
+    /// The operation that an ask is, which nothing refuses.
+    pub(super) fn operation_of(&self, ask: Ask) -> Operation
         requires { reason (core_view self.now) (AskCall ask) ≡ None }
         ensures { result ≡ operation_of (core_view self.now) ask }
     {
@@ -95,8 +95,8 @@ impl SiteCore {
         }
     }
 
-    // The answer to an ask, which nothing refuses.
-    fn answer(&self, ask: Ask) -> Reply
+    /// The answer to an ask, which nothing refuses.
+    pub(super) fn answer(&self, ask: Ask) -> Reply
         requires { reason (core_view self.now) (AskCall ask) ≡ None }
         ensures { result ≡ answer (core_view self.now) (AskCall ask) }
     {
@@ -127,6 +127,17 @@ impl SiteCore {
         ensures { result ≡ planned (plan_of (core_view self.now) r) }
     {
         self.plan_for(r).unwrap_or(Plan { to: 0, seats: 0 })
+    }
+
+    /// Makes room for the session that an operation brings, if it brings one.
+    pub(super) fn reserve_for(&mut self, operation: Operation) -> Result<(), AllocError>
+        ensures content { SameContent self.old self.new }
+        ensures place { OnOk result (has_room (Some operation) self.new.room) }
+    {
+        if arrives(operation) {
+            self.sessions.reserve()?;
+        }
+        Ok(())
     }
 
     // The change that an operation makes, and room for a session that comes.

@@ -32,7 +32,7 @@ returns-in-Some-heard-clause-account c = λ call ready a stands.
     let it = ready_rows c.args.self.now call p rows ready is in
     let after_rows : List Row → Account = λ ps. after a (Merge (record { from = 0; rows = ps })) in
     subst (λ (b : Account). Stands b c.join.new.self) (sym (served_after a call p.reply it.memory ∙ (ap (after a) it.is_merge ∙ ap after_rows (sym it.same_rows))))
-    (c.join.ensures a stands)
+    (c.join.ensures.account a stands)
 
 pub returns-clause-account : goal.returns-clause-account
 returns-clause-account c = λ call ready a stands.
