@@ -277,16 +277,26 @@ moved_cells b r s it there =
         ap (λ n. not (eqb (counter_of b r s cell) n)) (start_in-record b.sites b.records r s cell)
         ∙ ap (λ (x : RecordState). not (eqb (counter_in (row_in x s) cell) (start_in x s cell))) (sym there)
 
-pub moved_by_rights : (b : BookState) (k r s : ℕ) (it : RecordState) (rights : Bool) → k ≡ r → r < length b.records → it ≡ get_or b.records k it → rights ≡ ltb 0 (total b.sites (λ j. one_if (not (eqb (entry it.seats.matrix s j) (start_in it s (Out j)))))) → rights ≡ true → rights ≡ has_moved (book_shape b) (counter_of b) r s
-moved_by_rights b k r s it rights at_r inside read is some =
-    some ∙ sym (moved_cells b r s it (read_record b k it (omega arith) read ∙ ap (record_at b) at_r) ∙ ap (λ t. t || counts) (sym is ∙ some))
-  where
-    counts : Bool
-    counts = not (eqb (get_or it.seats.taken s 0) 0) || (not (eqb (get_or it.notices.announced s 0) 0) || not (eqb (get_or it.notices.finished s 0) 0))
+or_true : (a : Bool) → (a || true) ≡ true
+or_true true = refl
+or_true false = refl
 
-pub moved_by_counts : (b : BookState) (k r s : ℕ) (it : RecordState) (rights counts : Bool) → k ≡ r → r < length b.records → it ≡ get_or b.records k it → rights ≡ ltb 0 (total b.sites (λ j. one_if (not (eqb (entry it.seats.matrix s j) (start_in it s (Out j)))))) → rights ≡ false → counts ≡ (not (eqb (get_or it.seats.taken s 0) 0) || (not (eqb (get_or it.notices.announced s 0) 0) || not (eqb (get_or it.notices.finished s 0) 0))) → counts ≡ has_moved (book_shape b) (counter_of b) r s
-moved_by_counts b k r s it rights counts at_r inside read is none are =
-    are ∙ sym (moved_cells b r s it (read_record b k it (omega arith) read ∙ ap (record_at b) at_r) ∙ ap (λ t. t || others) (sym is ∙ none))
+or_false : (a : Bool) → (a || false) ≡ a
+or_false true = refl
+or_false false = refl
+
+pub moved_by_counts : (b : BookState) (k r s : ℕ) (it : RecordState) (counts : Bool) → k ≡ r → r < length b.records → it ≡ get_or b.records k it → counts ≡ (not (eqb (get_or it.seats.taken s 0) 0) || (not (eqb (get_or it.notices.announced s 0) 0) || not (eqb (get_or it.notices.finished s 0) 0))) → counts ≡ true → counts ≡ has_moved (book_shape b) (counter_of b) r s
+moved_by_counts b k r s it counts at_r inside read are some =
+    some
+    ∙ sym (moved_cells b r s it (read_record b k it (omega arith) read ∙ ap (record_at b) at_r) ∙ (ap (λ t. rights || t) (sym are ∙ some) ∙ or_true rights))
   where
-    others : Bool
-    others = not (eqb (get_or it.seats.taken s 0) 0) || (not (eqb (get_or it.notices.announced s 0) 0) || not (eqb (get_or it.notices.finished s 0) 0))
+    rights : Bool
+    rights = ltb 0 (total b.sites (λ j. one_if (not (eqb (entry it.seats.matrix s j) (start_in it s (Out j))))))
+
+pub moved_by_rights : (b : BookState) (k r s : ℕ) (it : RecordState) (counts rights : Bool) → k ≡ r → r < length b.records → it ≡ get_or b.records k it → counts ≡ (not (eqb (get_or it.seats.taken s 0) 0) || (not (eqb (get_or it.notices.announced s 0) 0) || not (eqb (get_or it.notices.finished s 0) 0))) → counts ≡ false → rights ≡ ltb 0 (total b.sites (λ j. one_if (not (eqb (entry it.seats.matrix s j) (start_in it s (Out j)))))) → rights ≡ has_moved (book_shape b) (counter_of b) r s
+moved_by_rights b k r s it counts rights at_r inside read are none is =
+    is
+    ∙ sym (moved_cells b r s it (read_record b k it (omega arith) read ∙ ap (record_at b) at_r) ∙ (ap (λ t. sent || t) (sym are ∙ none) ∙ or_false sent))
+  where
+    sent : Bool
+    sent = ltb 0 (total b.sites (λ j. one_if (not (eqb (entry it.seats.matrix s j) (start_in it s (Out j))))))

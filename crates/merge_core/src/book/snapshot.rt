@@ -98,7 +98,7 @@ impl Book {
             return false;
         }
         let it = &self.records[usize::from(r)];
-        has_moved_rights(self.sites, it, s) || has_moved_counts(it, s)
+        has_moved_counts(it, s) || has_moved_rights(self.sites, it, s)
     }
 
     // The row of site `s` for record `r`.
