@@ -1,2 +1,3 @@
 pub mod CellLists
 pub mod MergeLemmas
+pub mod PlacingLemmas

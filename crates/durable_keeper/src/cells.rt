@@ -1,6 +1,7 @@
 //! Counters in their order, and some put among others.
-ghost use Rattle.std.specs.Prelude.{◌≡◌, IfOk};
-ghost use Rattle.admission_model.specs.Durable.{AreRising, is_before, put_cells};
+ghost use Rattle.std.specs.Prelude.{◌≡◌, ◌+◌, ◌<◌, ◌≤◌, length, vec_len, vec_capacity, IfOk};
+ghost use Rattle.admission_model.specs.Durable.{AreRising, is_before, is_same_place, put_cell, put_cells};
+ghost use Rattle.durable_keeper.specs.Placing.{IsPlaceOf};
 
 use admission_core::DurableCell;
 use std::alloc::{AllocError, Global};
@@ -42,4 +43,59 @@ pub fn put_cells(
     all.extend_from_slice(&put[i..])?;
     all.extend_from_slice(&kept[j..])?;
     Ok(all)
+}
+
+// Whether two cells are at one record's slot.
+fn is_same_place(c: DurableCell, d: DurableCell) -> bool
+    ensures { result ≡ is_same_place c d }
+{
+    c.r == d.r && c.slot == d.slot
+}
+
+// How many of the cells, which rise, stand before this one. By bisection.
+fn count_before(kept: &[DurableCell], cell: DurableCell) -> usize
+    requires { AreRising kept.now }
+    ensures { IsPlaceOf cell kept.now result }
+{
+    let mut low = 0;
+    let mut high = kept.len();
+    'cells: while low < high {
+        let middle = low + (high - low) / 2;
+        if is_before(kept[middle], cell) {
+            low = middle + 1;
+        } else {
+            high = middle;
+        }
+    }
+    low
+}
+
+// Puts a counter at its place among others that rise, in room that is there. Linear in those behind a place that is new.
+fn put_reserved(kept: &mut Vec<DurableCell>, cell: DurableCell)
+    requires rising { AreRising kept.old.items }
+    requires room { vec_len kept.old < vec_capacity kept.old }
+    ensures cells { kept.new.items ≡ put_cell cell kept.old.items }
+    ensures more { vec_len kept.new ≤ vec_len kept.old + 1 }
+    ensures capacity { vec_capacity kept.old ≤ vec_capacity kept.new }
+{
+    let at = count_before(kept.as_slice(), cell);
+    if at < kept.len() && is_same_place(cell, kept[at]) {
+        kept[at] = cell;
+        return;
+    }
+    let _ = kept.insert(at, cell);
+}
+
+/// Puts counters at their places among others that rise, as [`put_cells`] does, in place and in room that is there for
+/// all. A search for each, and a move of those behind it where its place is new.
+pub(crate) fn put_all_reserved(kept: &mut Vec<DurableCell>, put: &[DurableCell])
+    requires rising { AreRising kept.old.items }
+    requires room { vec_len kept.old + length put.now ≤ vec_capacity kept.old }
+    ensures { kept.new.items ≡ put_cells put.now kept.old.items }
+{
+    let mut left = put.len();
+    'cells: while left > 0 {
+        left -= 1;
+        put_reserved(kept, put[left]);
+    }
 }

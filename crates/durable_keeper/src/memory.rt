@@ -2,7 +2,7 @@
 ghost use Rattle.std.specs.Prelude.{◌≡◌, ◌<◌, Some};
 ghost use Rattle.durable_keeper.specs.Keeping.{changed_sessions};
 
-use crate::cells::put_cells;
+use crate::cells::put_all_reserved;
 use crate::error::KeeperError;
 use crate::keeper::Keeper;
 use admission_core::{Change, Durable, DurableCell, Session, SessionChange};
@@ -37,8 +37,8 @@ fn change_sessions(sessions: &mut Sessions, change: Option<SessionChange>)
     }
 }
 
-/// It keeps a site's durable part in memory, and never fails. It is lost with the process. A commit is linear in what is
-/// kept.
+/// It keeps a site's durable part in memory, and never fails. It is lost with the process. A commit searches for each of
+/// its counters, and moves those behind one that is new.
 pub struct MemoryKeeper {
     layout: Layout,
     site: u16,
@@ -106,10 +106,9 @@ impl Keeper for MemoryKeeper {
         if change.is_empty() {
             return Ok(());
         }
-        let alloc = *self.cells.allocator();
-        let cells = put_cells(alloc, change.cells(), &self.cells)?;
         self.sessions.reserve()?;
-        self.cells = cells;
+        self.cells.reserve(change.cells().len())?;
+        put_all_reserved(&mut self.cells, change.cells());
         change_sessions(&mut self.sessions, change.session());
         Ok(())
     }

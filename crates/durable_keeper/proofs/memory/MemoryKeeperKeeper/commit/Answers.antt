@@ -6,6 +6,5 @@ use Rattle.durable_keeper.proofs.memory.MemoryKeeperKeeper.commit.Goals as goal
 
 pub invariant_of-self-2 : goal.invariant_of-self-2
 invariant_of-self-2 c =
-    let kept = subst AreRising (sym c.deref.ensures.value) c.self.invariant in
-    let put = subst AreRising (sym c.cells.ensures) c.requires.rising in
-    subst AreRising (sym (c.in_ok-cells.ensures put kept)) (puts_rise c.cells.result.now c.deref.result.now kept)
+    let kept = subst AreRising (sym c.reserve-2.ensures.items) c.self.invariant in
+    subst AreRising (sym c.put_all_reserved.ensures) (puts_rise c.cells-2.result.now c.reserve-2.new.self.items kept)
