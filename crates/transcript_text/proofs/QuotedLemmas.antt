@@ -1,7 +1,7 @@
 -- Text between quotes: how it is written.
-use Rattle.std.proofs.Common.{◌≡◌, ℕ, zero, suc, ◌+◌, ◌<◌, ◌≤◌, Bool, true, false, cond, ◌||◌, eqb, List, [], ◌∷◌, ◌++◌, length, get_or, encode_utf8, refl, sym, ap, ◌∙◌, append_assoc, append-nil, arith, ◌⊎◌, inl, inr}
-use Rattle.std.proofs.lemmas.Bool.{cases_lt, ne_eqb}
-use Rattle.std.proofs.lemmas.Str.{encode_ascii, inside_one}
+use Rattle.std.proofs.Common.{◌≡◌, ℕ, ◌+◌, ◌-◌, ◌<◌, ◌≤◌, Bool, true, false, cond, ◌||◌, eqb, List, [], ◌∷◌, ◌++◌, length, get_or, take, drop, refl, sym, ap, ◌∙◌, append_assoc, ◌⊎◌, inl, inr, arith}
+use Rattle.std.proofs.lemmas.List.{take_more, get_or-drop, length-drop, take_all}
+use Rattle.std.proofs.lemmas.Bool.{cases_eq, ne_eqb, false≢true}
 use Rattle.transcript_text.specs.Quoted.{escaped}
 
 pub escaped-append : (a b : List ℕ) → escaped (a ++ b) ≡ escaped a ++ escaped b
@@ -13,46 +13,58 @@ escaped-append (x ∷ xs) b = at ((eqb x 34) || (eqb x 92)) (escaped-append xs b
     at true e = ap (λ (ys : List ℕ). 92 ∷ (x ∷ ys)) e
     at false e = ap (λ (ys : List ℕ). x ∷ ys) e
 
--- one part more of a text
-pub more_escaped : (t0 t1 part old rest all : List ℕ) → old ≡ part ++ rest → t1 ≡ t0 ++ escaped part → t0 ++ escaped old ≡ all → t1 ++ escaped rest ≡ all
-more_escaped t0 t1 part old rest all split written so_far =
-    ap (λ (x : List ℕ). x ++ escaped rest) written
-    ∙ (append_assoc t0 (escaped part) (escaped rest)
-    ∙ (ap (λ (x : List ℕ). t0 ++ x) (sym (escaped-append part rest) ∙ ap escaped (sym split)) ∙ so_far))
+-- one byte more of a text
+byte_more : (part : List ℕ) (i b : ℕ) → i < length part → b ≡ get_or part i 0 → escaped (take (i + 1) part) ≡ escaped (take i part) ++ escaped (b ∷ [])
+byte_more part i b below is =
+    ap escaped (take_more part i 0 below)
+    ∙ (escaped-append (take i part) (get_or part i 0 ∷ []) ∙ ap (λ (x : ℕ). escaped (take i part) ++ escaped (x ∷ [])) (sym is))
 
-pub none_left : (t old all : List ℕ) → old ≡ [] → t ++ escaped old ≡ all → t ≡ all
-none_left t old all empty so_far = sym (append-nil t) ∙ (ap (λ (x : List ℕ). t ++ escaped x) (sym empty) ∙ so_far)
+-- the bytes that are still to be written, with one more
+pending_more : (part : List ℕ) (from i b : ℕ) → from ≤ i → i < length part → b ≡ get_or part i 0
+    → take ((i + 1) - from) (drop from part) ≡ take (i - from) (drop from part) ++ b ∷ []
+pending_more part from i b low below is =
+    let count : (i + 1) - from ≡ (i - from) + 1 = omega arith in
+    let place : from + (i - from) ≡ i = omega arith in
+    let there : i - from < length (drop from part) = omega (arith, length-drop from part) in
+    let byte : get_or (drop from part) (i - from) 0 ≡ b = get_or-drop from part (i - from) 0 ∙ (ap (λ (k : ℕ). get_or part k 0) place ∙ sym is) in
+    ap (λ (k : ℕ). take k (drop from part)) count
+    ∙ (take_more (drop from part) (i - from) 0 there ∙ ap (λ (x : ℕ). take (i - from) (drop from part) ++ x ∷ []) byte)
 
-pub quote_char : (c : ℕ) → c ≡ 34 → escaped (encode_utf8 c) ≡ 92 ∷ (34 ∷ [])
-quote_char c e = ap (λ (x : ℕ). escaped (encode_utf8 x)) e ∙ ap escaped (encode_ascii 34 (omega arith))
+pub plain_step : (t t0 part : List ℕ) (from i b : ℕ) → from ≤ i → i < length part → b ≡ get_or part i 0 → ((eqb b 34) || (eqb b 92)) ≡ false
+    → t ++ take (i - from) (drop from part) ≡ t0 ++ escaped (take i part)
+    → t ++ take ((i + 1) - from) (drop from part) ≡ t0 ++ escaped (take (i + 1) part)
+plain_step t t0 part from i b low below is plain so_far =
+    let same : escaped (b ∷ []) ≡ b ∷ [] = rw plain refl in
+    rw (pending_more part from i b low below is, byte_more part i b below is, same)
+    (sym (append_assoc t (take (i - from) (drop from part)) (b ∷ [])) ∙ (ap (λ (x : List ℕ). x ++ b ∷ []) so_far ∙ append_assoc t0 (escaped (take i part)) (b ∷ [])))
 
-pub backslash_char : (c : ℕ) → c ≡ 92 → escaped (encode_utf8 c) ≡ 92 ∷ (92 ∷ [])
-backslash_char c e = ap (λ (x : ℕ). escaped (encode_utf8 x)) e ∙ ap escaped (encode_ascii 92 (omega arith))
+pub special_step : (t t1 t2 t0 part : List ℕ) (from i b : ℕ) → i < length part → b ≡ get_or part i 0 → ((eqb b 34) || (eqb b 92)) ≡ true
+    → t1 ≡ t ++ take (i - from) (drop from part) → t2 ≡ t1 ++ 92 ∷ []
+    → t ++ take (i - from) (drop from part) ≡ t0 ++ escaped (take i part)
+    → t2 ++ take ((i + 1) - i) (drop i part) ≡ t0 ++ escaped (take (i + 1) part)
+special_step t t1 t2 t0 part from i b below is special run mark so_far =
+    let two : escaped (b ∷ []) ≡ 92 ∷ (b ∷ []) = rw special refl in
+    let none : i - i ≡ 0 = omega arith in
+    let one : take ((i + 1) - i) (drop i part) ≡ b ∷ [] =
+    pending_more part i i b (omega arith) below is ∙ ap (λ (k : ℕ). take k (drop i part) ++ b ∷ []) none in
+    rw (one, byte_more part i b below is, two, mark, run, so_far) (simp append_assoc)
 
-wide : (bs : List ℕ) → ((k : ℕ) → k < length bs → 128 ≤ get_or bs k 0) → escaped bs ≡ bs
-wide [] all = refl
-wide (b ∷ bs) all =
-    let high : 128 ≤ b = all 0 (omega arith) in
-    let q : eqb b 34 ≡ false = ne_eqb b 34 (λ e. absurd (omega arith)) in
-    let s : eqb b 92 ≡ false = ne_eqb b 92 (λ e. absurd (omega arith)) in
-    let rest : escaped bs ≡ bs = wide bs (λ k below. all (suc k) (omega arith)) in
-    rw (q, s) (ap (λ (ys : List ℕ). b ∷ ys) rest)
+pub last_step : (t t0 part : List ℕ) (from i : ℕ) → from ≤ i → length part ≤ i
+    → t ++ take (i - from) (drop from part) ≡ t0 ++ escaped (take i part) → t ++ drop from part ≡ t0 ++ escaped part
+last_step t t0 part from i low past so_far =
+    let rest : take (i - from) (drop from part) ≡ drop from part = take_all (i - from) (drop from part) (omega (arith, length-drop from part)) in
+    let whole : take i part ≡ part = take_all i part past in
+    ap (λ (x : List ℕ). t ++ x) (sym rest) ∙ (so_far ∙ ap (λ (x : List ℕ). t0 ++ escaped x) whole)
 
-wide_bytes : (c k : ℕ) → 128 ≤ c → k < length (encode_utf8 c) → 128 ≤ get_or (encode_utf8 c) k 0
-wide_bytes c k h lt = grind (arith, inside_one c [] (encode_utf8 c) k (sym (append-nil (encode_utf8 c))) lt)
-
-pub plain_char : (c : ℕ) → (c ≡ 34 → ⊥) → (c ≡ 92 → ⊥) → escaped (encode_utf8 c) ≡ encode_utf8 c
-plain_char c no_quote no_backslash = at (cases_lt c 128)
+-- a byte with a backslash in front of it is no part of a wider character
+pub special_low : (b : ℕ) → ((eqb b 34) || (eqb b 92)) ≡ true → b < 128
+special_low b special = at (cases_eq b 34) (cases_eq b 92)
   where
-    q : eqb c 34 ≡ false
-    q = ne_eqb c 34 no_quote
-
-    s : eqb c 92 ≡ false
-    s = ne_eqb c 92 no_backslash
-
-    single : escaped (c ∷ []) ≡ c ∷ []
-    single = rw (q, s) refl
-
-    at : (c < 128) ⊎ (128 ≤ c) → escaped (encode_utf8 c) ≡ encode_utf8 c
-    at (inl low) = ap escaped (encode_ascii c low) ∙ (single ∙ sym (encode_ascii c low))
-    at (inr high) = wide (encode_utf8 c) (λ k below. wide_bytes c k high below)
+    at : (b ≡ 34) ⊎ (b ≡ 34 → ⊥) → (b ≡ 92) ⊎ (b ≡ 92 → ⊥) → b < 128
+    at (inl quote) other = omega (arith, quote)
+    at (inr no_quote) (inl backslash) = omega (arith, backslash)
+    at (inr no_quote) (inr no_backslash) =
+        let q : eqb b 34 ≡ false = ne_eqb b 34 no_quote in
+        let s : eqb b 92 ≡ false = ne_eqb b 92 no_backslash in
+        let plain : ((eqb b 34) || (eqb b 92)) ≡ false = rw (q, s) refl in
+        absurd (false≢true (sym plain ∙ special))

@@ -19,29 +19,42 @@ pub fn push_entry(
 ) -> Result<(), AllocError>
     ensures { IfOk result (λ _. string_bytes text.new ≡ string_bytes text.old ++ entry_text layout.now.records entry.now) }
 {
-    let mut call = String::new(alloc);
-    push_call(&mut call, layout, &entry.call)?;
-    let mut reply = String::new(alloc);
-    push_reply(&mut reply, &entry.reply)?;
+    let mut part = String::new(alloc);
+    push_through(&mut part, text, layout, entry)
+}
+
+// The same: the call, and then the reply, is first written into `part`, whose room serves further entries.
+fn push_through(
+    part: &mut String,
+    text: &mut String,
+    layout: &Layout,
+    entry: &Entry,
+) -> Result<(), AllocError>
+    ensures { IfOk result (λ _. string_bytes text.new ≡ string_bytes text.old ++ entry_text layout.now.records entry.now) }
+{
+    part.clear();
+    push_call(part, layout, &entry.call)?;
     text.push_str("{\"call\":\"")?;
-    push_escaped(text, call.as_str())?;
+    push_escaped(text, part.as_str())?;
     push_field(text, "\",\"pass\":", u64::from(entry.pass))?;
+    part.clear();
+    push_reply(part, &entry.reply)?;
     text.push_str(",\"reply\":\"")?;
-    push_escaped(text, reply.as_str())?;
+    push_escaped(text, part.as_str())?;
     text.push_str("\"}")?;
     Ok(())
 }
 
 // Writes the line of an entry, with its LF.
 fn push_line(
-    alloc: Global,
+    part: &mut String,
     text: &mut String,
     layout: &Layout,
     entry: &Entry,
 ) -> Result<(), AllocError>
     ensures { IfOk result (λ _. string_bytes text.new ≡ string_bytes text.old ++ (entry_text layout.now.records entry.now ++ codes "\n")) }
 {
-    push_entry(alloc, text, layout, entry)?;
+    push_through(part, text, layout, entry)?;
     text.push_str("\n")
 }
 
@@ -54,8 +67,9 @@ pub fn push_entries(
 ) -> Result<(), AllocError>
     ensures { IfOk result (λ _. string_bytes text.new ≡ string_bytes text.old ++ entries_text layout.now.records entries.now) }
 {
+    let mut part = String::new(alloc);
     for entry in entries {
-        push_line(alloc, text, layout, entry)?;
+        push_line(&mut part, text, layout, entry)?;
     }
     Ok(())
 }

@@ -1,14 +1,31 @@
-use Rattle.std.proofs.Common.{◌≡◌, ◌++◌, List, ℕ, ap, rules, string_bytes, encode_utf8}
-use Rattle.std.specs.Str.Iter.{chars_rest}
-use Rattle.transcript_text.specs.Quoted.{escaped}
-use Rattle.transcript_text.proofs.QuotedLemmas.{more_escaped}
+use Rattle.std.proofs.Common.{◌≡◌, ◌∙◌, ℕ, List, ap, ◌-◌, ◌<◌, ◌++◌, ◌||◌, eqb, true, false, length, get_or, take, drop, string_bytes, refl, arith}
+use Rattle.std.proofs.lemmas.Str.{IsCharBoundary-before_ascii}
+use Rattle.transcript_text.proofs.QuotedLemmas.{plain_step, special_step, special_low}
 use Rattle.transcript_text.proofs.quoted.push_escaped.Goals as goal
+use Rattle.transcript_text.proofs.quoted.push_escaped.Goals.{then-is_special+in_ok-push_str+in_ok-push_str-2, else-is_special}
 
-pub loop-c-init : goal.loop-c-init
-loop-c-init c =
-    let whole : chars_rest c.into_iter-c-iterator.result ≡ c.args.part.now = search rules in
-    ap (λ (x : List ℕ). string_bytes c.args.text.now ++ escaped x) whole
-
-pub loop-c-preserved : goal.loop-c-preserved
-loop-c-preserved c =
-    more_escaped _ _ (encode_utf8 c.in-Some.c) _ (chars_rest c.next.new.self) _ c.in-Some.ensures.steps.0 c.in_ok-push_char.ensures c.loop-c.invariant
+pub loop-i-preserved : goal.loop-i-preserved
+loop-i-preserved c =
+    let part = c.args.part.now in
+    let i = c.loop-i.i in
+    let b = get_or part i 0 in
+    let below : i < length part = omega (arith, c.loop-i-test.true, c.as_bytes-bytes.ensures.len) in
+    let so_far = c.loop-i.invariant in
+    elim c.if-is_special.branch [
+      | then-is_special+in_ok-push_str+in_ok-push_str-2 w ↦
+          let special : ((eqb b 34) || (eqb b 92)) ≡ true = cc in
+          let run : string_bytes w.push_str.new.self ≡ string_bytes c.loop-i.text ++ take (i - c.loop-i.from) (drop c.loop-i.from part) =
+          w.in_ok-push_str.ensures.bytes ∙ ap (λ (x : List ℕ). string_bytes c.loop-i.text ++ x) w.range.ensures.value in
+          rw (w.from-is, w.text-is) (record {
+            low = omega arith;
+            boundary = λ some. IsCharBoundary-before_ascii part i below (special_low b special);
+            written = special_step _ _ _ _ part c.loop-i.from i b below refl special run w.in_ok-push_str-2.ensures.bytes so_far.written;
+          })
+      | else-is_special w ↦
+          let plain : ((eqb b 34) || (eqb b 92)) ≡ false = cc in
+          rw (w.from-is, w.text-is) (record {
+            low = omega (arith, so_far.low);
+            boundary = so_far.boundary;
+            written = plain_step _ _ part c.loop-i.from i b so_far.low below refl plain so_far.written;
+          })
+    ]
