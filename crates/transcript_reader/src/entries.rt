@@ -18,28 +18,27 @@ use text_input::cut_line;
 use text_parts::{Unread, after, short_at};
 use transcript_text::push_entry;
 
-// What stands in such a line: two texts, and the number of a pass.
+// Room for the texts of a line, used again for each further line.
 #[derive(Debug, Drop)]
-struct Parts {
+struct Texts {
     call: Vec<u8>,
-    pass: u16,
     reply: Vec<u8>,
 }
 
-// What stands in a line.
+// Puts the texts that stand in a line into `texts`, and answers the pass.
 #[tactic(auto, unfolding(crate::specs::Readers::entry_parts))]
-fn entry_parts(alloc: Global, line: &[u8]) -> Result<Parts, Unread>
-    ensures { Gives (λ p. record { call = p.call.items; pass = p.pass; reply = p.reply.items }) result (entry_parts line.now) }
+fn entry_parts(texts: &mut Texts, line: &[u8]) -> Result<u16, Unread>
+    ensures { Gives (λ pass. record { call = texts.new.call.items; pass = pass; reply = texts.new.reply.items }) result (entry_parts line.now) }
 {
-    let (call, rest) = quoted_behind(alloc, b"{\"call\":\"", line)?;
+    let rest = quoted_behind(&mut texts.call, b"{\"call\":\"", line)?;
     let rest = after(b",\"pass\":", rest)?;
     let (pass, rest) = short_at(rest)?;
-    let (reply, rest) = quoted_behind(alloc, b",\"reply\":\"", rest)?;
+    let rest = quoted_behind(&mut texts.reply, b",\"reply\":\"", rest)?;
     let rest = after(b"}", rest)?;
     if !rest.is_empty() {
         return Err(Unread::Refused);
     }
-    Ok(Parts { call, pass, reply })
+    Ok(pass)
 }
 
 // Whether the line is that of the entry.
@@ -57,13 +56,13 @@ fn is_line_of(
 }
 
 // The entry of a line. Linear in it.
-fn entry_in(alloc: Global, layout: &Layout, line: &[u8]) -> Result<Entry, Unread>
+fn entry_in(alloc: Global, layout: &Layout, texts: &mut Texts, line: &[u8]) -> Result<Entry, Unread>
     ensures sound { IfOk result (λ e. line.now ≡ entry_text layout.now.records e) }
     ensures only { (e : EntryThere) → FitsEntry e → line.now ≡ entry_text layout.now.records e → (result ≡ Ok e) ⊎ (result ≡ Err Unread.Memory) }
 {
-    let Parts { call, pass, reply } = entry_parts(alloc, line)?;
-    let call = call_in(alloc, layout, call.as_slice())?;
-    let reply = reply_in(alloc, reply.as_slice())?;
+    let pass = entry_parts(texts, line)?;
+    let call = call_in(alloc, layout, texts.call.as_slice())?;
+    let reply = reply_in(alloc, texts.reply.as_slice())?;
     let entry = Entry { pass, call, reply };
     if is_line_of(alloc, layout, line, &entry)? {
         return Ok(entry);
@@ -82,10 +81,14 @@ pub(crate) fn entries_in<'a>(
     ensures shorter { IfOk result (λ x. length x.1.now ≤ length bytes.now) }
 {
     let mut entries = Vec::new(alloc);
+    let mut texts = Texts {
+        call: Vec::new(alloc),
+        reply: Vec::new(alloc),
+    };
     let mut rest = bytes;
     while !rest.is_empty() {
         let (line, behind) = cut_line(rest);
-        match entry_in(alloc, layout, line) {
+        match entry_in(alloc, layout, &mut texts, line) {
             Ok(entry) => entries.push(entry)?,
             Err(Unread::Refused) => return Ok((entries, rest)),
             Err(Unread::Memory) => return Err(AllocError),

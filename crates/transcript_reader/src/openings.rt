@@ -55,7 +55,8 @@ fn sites_at(bytes: &[u8]) -> Result<(Option<u16>, &[u8]), Unread>
 fn opening_parts(alloc: Global, layout: &Layout, line: &[u8]) -> Result<Parts, Unread>
     ensures { Gives (λ p. record { book = p.book.items; sessions = p.sessions.items; site = p.site; sites = p.sites }) result (opening_parts layout.now.records line.now) }
 {
-    let (book, rest) = quoted_behind(alloc, b"{\"book\":\"", line)?;
+    let mut book = Vec::new(alloc);
+    let rest = quoted_behind(&mut book, b"{\"book\":\"", line)?;
     let rest = after(b",\"sessions\":[", rest)?;
     let (sessions, rest) = sessions_at(alloc, layout, rest)?;
     let rest = after(b"],\"site\":", rest)?;

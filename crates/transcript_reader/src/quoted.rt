@@ -1,55 +1,53 @@
 //! Text between quotes.
-ghost use Rattle.std.specs.Prelude.{◌≡◌, ◌++◌, ◌∷◌, [], ◌==◌, ◌&&◌, not, false, if◌then◌else◌, OnOk};
+ghost use Rattle.std.specs.Prelude.{◌≡◌, false};
 ghost use Rattle.text_parts.specs.Readers.{Gives};
-ghost use Rattle.transcript_reader.specs.Unquoted.{unescaped};
+ghost use Rattle.transcript_reader.specs.Unquoted.{marked_at, unescaped};
 ghost use Rattle.transcript_reader.specs.Readers.{quoted_behind};
 
-use std::alloc::{AllocError, Global};
 use text_parts::{Unread, after};
 
-// Adds a byte, unless it is a backslash that stands in front of another.
-fn push_unless(text: &mut Vec<u8>, byte: u8, skipped: bool) -> Result<(), AllocError>
-    ensures { OnOk result (text.new.items ≡ (if skipped then text.old.items else text.old.items ++ byte ∷ [])) }
+// The quote or the backslash at the front, and the bytes behind it.
+fn marked_at(bytes: &[u8]) -> Result<(u8, &[u8]), Unread>
+    ensures { Gives (λ x. (x.0, x.1.now)) result (marked_at bytes.now) }
 {
-    if skipped {
-        return Ok(());
+    match bytes {
+        [byte @ (b'"' | b'\\'), behind @ ..] => Ok((*byte, behind)),
+        _ => Err(Unread::Refused),
     }
-    text.push(byte)?;
-    Ok(())
 }
 
-// Whether a byte is this one and stands behind no backslash.
-fn is_bare(behind: bool, byte: u8, special: u8) -> bool
-    ensures { result ≡ (not behind && (byte == special)) }
+// Puts the text up to the closing quote into `text`, and answers the bytes behind it.
+fn unescaped<'a>(text: &mut Vec<u8>, bytes: &'a [u8]) -> Result<&'a [u8], Unread>
+    ensures { Gives (λ rest. (text.new.items, rest.now)) result (unescaped false bytes.now) }
 {
-    !behind && byte == special
-}
-
-// The text up to the closing quote, and the bytes behind it.
-fn unescaped(alloc: Global, bytes: &[u8]) -> Result<(Vec<u8>, &[u8]), Unread>
-    ensures { Gives (λ x. (x.0.items, x.1.now)) result (unescaped false bytes.now) }
-{
-    let mut text = Vec::new(alloc);
-    let mut behind = false;
-    for i in 0..bytes.len() {
-        let byte = bytes[i];
-        if is_bare(behind, byte, b'"') {
-            return Ok((text, &bytes[i + 1..]));
+    text.clear();
+    let mut rest = bytes;
+    while let [byte, behind @ ..] = rest {
+        match *byte {
+            b'"' => return Ok(behind),
+            b'\\' => {
+                let (marked, later) = marked_at(behind)?;
+                text.push(marked)?;
+                rest = later;
+            }
+            plain => {
+                text.push(plain)?;
+                rest = behind;
+            }
         }
-        behind = is_bare(behind, byte, b'\\');
-        push_unless(&mut text, byte, behind)?;
     }
     Err(Unread::Refused)
 }
 
-/// The text between quotes behind a literal that ends with the first of them.
+/// Puts the text between quotes behind a literal that ends with the first of them into `text`, whose room is used again,
+/// and answers the bytes behind it. Linear in the text.
 #[tactic(auto, unfolding(crate::specs::Readers::quoted_behind))]
 pub(crate) fn quoted_behind<'a>(
-    alloc: Global,
+    text: &mut Vec<u8>,
     literal: &[u8],
     bytes: &'a [u8],
-) -> Result<(Vec<u8>, &'a [u8]), Unread>
-    ensures { Gives (λ x. (x.0.items, x.1.now)) result (quoted_behind literal.now bytes.now) }
+) -> Result<&'a [u8], Unread>
+    ensures { Gives (λ rest. (text.new.items, rest.now)) result (quoted_behind literal.now bytes.now) }
 {
-    unescaped(alloc, after(literal, bytes)?)
+    unescaped(text, after(literal, bytes)?)
 }
