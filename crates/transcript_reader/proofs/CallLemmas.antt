@@ -156,14 +156,14 @@ take_asks_nothing records text = other_verb records (codes "take") (words_of tex
 
 -- ---- the three ways of a reader
 
-pub asked_so : (layout : LayoutState) → IsLayout layout → (text : List ℕ) (ask : Ask) (call : Call) → Some ask ≡ ask_in layout.records (words_of text)
+same_ask : (layout : LayoutState) → IsLayout layout → (text : List ℕ) (ask : Ask) (call : Call) → Some ask ≡ ask_in layout.records (words_of text)
     → FitsCall call → text ≡ call_text layout.records call → AskCall ask ≡ call
-asked_so layout is text ask (AskCall a) found fits same =
+same_ask layout is text ask (AskCall a) found fits same =
     let twice : Some ask ≡ Some a = found ∙ (ap (λ (t : List ℕ). ask_in layout.records (words_of t)) same ∙ ask_again layout is a fits) in
     ap AskCall (same_Some ask a twice)
-asked_so layout is text ask (Merge d) found fits same =
+same_ask layout is text ask (Merge d) found fits same =
     absurd (none-some ask (sym (found ∙ (ap (λ (t : List ℕ). ask_in layout.records (words_of t)) same ∙ take_asks_nothing layout.records (delta_text d)))))
-asked_so layout is text ask Snapshot found fits same =
+same_ask layout is text ask Snapshot found fits same =
     absurd (none-some ask (sym (found ∙ ap (λ (t : List ℕ). ask_in layout.records (words_of t)) same)))
 
 abbrev OrMemory : Result Call Unread → Call → Type 0
@@ -173,12 +173,20 @@ ask_unread : (layout : LayoutState) → IsLayout layout → (text : List ℕ) (a
 ask_unread layout is text a none fits same =
     none-some a (none ∙ (ap (λ (t : List ℕ). ask_in layout.records (words_of t)) same ∙ ask_again layout is a fits))
 
-pub merged_so : (layout : LayoutState) → IsLayout layout → (text delta : List ℕ) (call : Call) (result : Result Call Unread)
-    → None ≡ ask_in layout.records (words_of text) → text ≡ codes "take " ++ delta
+pub asked_so : (layout : LayoutState) → IsLayout layout → (text : List ℕ) (ask : Ask) (call : Call) (result : Result Call Unread)
+    → Some ask ≡ ask_in layout.records (words_of text) → (text ≡ call_text layout.records (AskCall ask) → OrMemory result (AskCall ask))
+    → FitsCall call → text ≡ call_text layout.records call → OrMemory result call
+asked_so layout is text ask call result found asks fits same =
+    let it : AskCall ask ≡ call = same_ask layout is text ask call found fits same in
+    subst (OrMemory result) it (asks (same ∙ ap (call_text layout.records) (sym it)))
+
+pub merged_so : (layout : LayoutState) → IsLayout layout → (text delta : List ℕ) (call : Call) (result : Result Call Unread) → text ≡ codes "take " ++ delta
     → ((d : DeltaState) → IsDelta d → delta ≡ delta_text d → OrMemory result (Merge d)) → FitsCall call → text ≡ call_text layout.records call → OrMemory result call
-merged_so layout is text delta (AskCall a) result none takes reads fits same = absurd (ask_unread layout is text a none fits same)
-merged_so layout is text delta (Merge d) result none takes reads fits same = reads d fits (ap (λ (t : List ℕ). drop 5 t) (sym takes ∙ same))
-merged_so layout is text delta Snapshot result none takes reads fits same =
+merged_so layout is text delta (AskCall a) result takes reads fits same =
+    let none = sym (ap (λ (t : List ℕ). ask_in layout.records (words_of t)) takes ∙ take_asks_nothing layout.records delta) in
+    absurd (ask_unread layout is text a none fits same)
+merged_so layout is text delta (Merge d) result takes reads fits same = reads d fits (ap (λ (t : List ℕ). drop 5 t) (sym takes ∙ same))
+merged_so layout is text delta Snapshot result takes reads fits same =
     let clash : ◌≡◌ {A = ℕ} 116 115 = ap (λ (t : List ℕ). get_or t 0 0) (sym takes ∙ same) in absurd (omega arith)
 
 pub sent_so : (layout : LayoutState) → IsLayout layout → (text : List ℕ) (call : Call) (result : Result Call Unread)

@@ -19,7 +19,7 @@ regroup front b (Some x) = simp append_assoc
 regroup front b None = refl
 
 -- the byte at the front, and those behind it
-pub front_of : (bytes : List ℕ) → 1 ≤ length bytes → bytes ≡ get_or bytes 0 0 ∷ take (length bytes - 1) (drop 1 bytes)
+front_of : (bytes : List ℕ) → 1 ≤ length bytes → bytes ≡ get_or bytes 0 0 ∷ take (length bytes - 1) (drop 1 bytes)
 front_of bytes some = drop_more bytes 0 0 some ∙ ap (λ (xs : List ℕ). get_or bytes 0 0 ∷ xs) (sym (take_rest bytes 1))
 
 -- the closing quote

@@ -88,13 +88,19 @@ reply_again (Refused x) fits = inl (refused_again x fits)
 abbrev OrMemory : Result Reply Unread → Reply → Type 0
 OrMemory result reply = (result ≡ Ok reply) ⊎ (result ≡ Err NoRoom)
 
-pub worded_so : (text : List ℕ) (r reply : Reply) → Some r ≡ reply_in (words_of text) → FitsReply reply → text ≡ reply_text reply → r ≡ reply
-worded_so text r reply found fits same =
+same_reply : (text : List ℕ) (r reply : Reply) → Some r ≡ reply_in (words_of text) → FitsReply reply → text ≡ reply_text reply → r ≡ reply
+same_reply text r reply found fits same =
     let read : Some r ≡ reply_in (words_of (reply_text reply)) = found ∙ ap (λ (t : List ℕ). reply_in (words_of t)) same in
     elim (reply_again reply fits) [
       | inl again ↦ same_Some r reply (read ∙ again)
       | inr told ↦ absurd (none-some r (sym (read ∙ told.unread)))
     ]
+
+pub worded_so : (text : List ℕ) (r reply : Reply) (result : Result Reply Unread) → Some r ≡ reply_in (words_of text)
+    → (text ≡ reply_text r → OrMemory result r) → FitsReply reply → text ≡ reply_text reply → OrMemory result reply
+worded_so text r reply result found reads fits same =
+    let it : r ≡ reply = same_reply text r reply found fits same in
+    subst (OrMemory result) it (reads (same ∙ ap reply_text (sym it)))
 
 pub told_so : (text : List ℕ) (reply : Reply) (result : Result Reply Unread) → None ≡ reply_in (words_of text)
     → ((d : DeltaState) → IsDelta d → text ≡ delta_text d → OrMemory result (Snapshot d)) → FitsReply reply → text ≡ reply_text reply → OrMemory result reply

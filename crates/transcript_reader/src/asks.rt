@@ -1,9 +1,10 @@
 //! Calls of a site from their lines.
-ghost use Rattle.std.specs.Prelude.{◌≡◌, ◌≢◌, ◌++◌, ℕ, ◌⊎◌, List, Ok, Err, codes, MatchOption};
+ghost use Rattle.std.specs.Prelude.{◌≡◌, ◌≢◌, ◌++◌, ℕ, ◌⊎◌, ◌↔◌, IsTrue, List, Ok, Err, codes, MatchOption, IfOk};
+ghost use Rattle.merge_core.specs.declared.layout.RecordSpec.{RecordSpec};
 ghost use Rattle.merge_core.specs.Delta.{DeltaState, IsDelta};
 ghost use Rattle.delta_codec.specs.DeltaText.{delta_text};
 ghost use Rattle.admission_model.specs.declared.ask.Call.{Call as CallThere};
-ghost use Rattle.admission_model.specs.declared.ask.Call.TheVariants.{Merge, Snapshot};
+ghost use Rattle.admission_model.specs.declared.ask.Call.TheVariants.{Ask as AskCall, Merge, Snapshot};
 ghost use Rattle.script_text.specs.Words.{words_of};
 ghost use Rattle.transcript_text.specs.Texts.{call_text};
 ghost use Rattle.transcript_reader.specs.Fits.{FitsCall};
@@ -14,8 +15,9 @@ use admission_core::{Ask, Call};
 use delta_codec::{DecodeError, decode};
 use merge_core::Layout;
 use script_text::{cut_word, record_word, short_word};
-use std::alloc::Global;
+use std::alloc::{AllocError, Global};
 use text_parts::Unread;
+use transcript_text::push_call;
 
 // The record of a word.
 fn logged_record(layout: &Layout, word: &[u8]) -> Option<u16>
@@ -81,9 +83,36 @@ fn ask_in(layout: &Layout, line: &[u8]) -> Option<Ask>
     ask_with(verb, r, numbers)
 }
 
-// The call of a text that takes a delta's.
+// Whether the text is that of the call, which is written to see it.
+fn is_text_of(
+    written: &mut String,
+    layout: &Layout,
+    call: &Call,
+    text: &[u8],
+) -> Result<bool, AllocError>
+    ensures { IfOk result (λ b. IsTrue b ↔ (text.now ≡ call_text layout.now.records call.now)) }
+{
+    written.clear();
+    push_call(written, layout, call)?;
+    Ok(written.as_bytes() == text)
+}
+
+// The call that asks this, if the text is its text.
+fn asked_call(written: &mut String, layout: &Layout, ask: Ask, text: &[u8]) -> Result<Call, Unread>
+    ensures sound { IfOk result (λ call. text.now ≡ call_text layout.now.records call) }
+    ensures only { text.now ≡ call_text layout.now.records (AskCall ask) → (result ≡ Ok (AskCall ask)) ⊎ (result ≡ Err Unread.Memory) }
+{
+    let call = Call::Ask(ask);
+    if is_text_of(written, layout, &call, text)? {
+        return Ok(call);
+    }
+    Err(Unread::Refused)
+}
+
+// The call that takes the delta of a text, which need not be written again: just one text is read as a delta.
 fn merge_in(alloc: Global, bytes: &[u8]) -> Result<Call, Unread>
-    ensures { (d : DeltaState) → IsDelta d → bytes.now ≡ delta_text d → (result ≡ Ok (Merge d)) ⊎ (result ≡ Err Unread.Memory) }
+    ensures sound { IfOk result (λ call. (records : List RecordSpec) → codes "take " ++ bytes.now ≡ call_text records call) }
+    ensures only { (d : DeltaState) → IsDelta d → bytes.now ≡ delta_text d → (result ≡ Ok (Merge d)) ⊎ (result ≡ Err Unread.Memory) }
 {
     match decode(alloc, bytes) {
         Ok(delta) => Ok(Call::Merge(delta)),
@@ -103,7 +132,8 @@ fn taken_text(line: &[u8]) -> Option<&[u8]>
 
 // The call for a snapshot.
 fn snapshot_in(text: &[u8]) -> Result<Call, Unread>
-    ensures { text.now ≡ codes "send" → result ≡ Ok Snapshot }
+    ensures sound { IfOk result (λ call. (records : List RecordSpec) → text.now ≡ call_text records call) }
+    ensures only { text.now ≡ codes "send" → result ≡ Ok Snapshot }
 {
     if text == b"send".as_slice() {
         return Ok(Call::Snapshot);
@@ -111,16 +141,22 @@ fn snapshot_in(text: &[u8]) -> Result<Call, Unread>
     Err(Unread::Refused)
 }
 
-/// A call, if the text is that of one. A text that is none may be read as some call.
-pub(crate) fn call_in(alloc: Global, layout: &Layout, text: &[u8]) -> Result<Call, Unread>
-    ensures { (call : CallThere) → FitsCall call → text.now ≡ call_text layout.now.records call → (result ≡ Ok call) ⊎ (result ≡ Err Unread.Memory) }
+/// The call whose text this is. What an ask is compared with is written into `written`. Linear in the text.
+pub(crate) fn call_in(
+    alloc: Global,
+    written: &mut String,
+    layout: &Layout,
+    text: &[u8],
+) -> Result<Call, Unread>
+    ensures sound { IfOk result (λ call. text.now ≡ call_text layout.now.records call) }
+    ensures only { (call : CallThere) → FitsCall call → text.now ≡ call_text layout.now.records call → (result ≡ Ok call) ⊎ (result ≡ Err Unread.Memory) }
 {
     let _ = layout.sites(); // tells the invariant: no two records have one name
-    if let Some(ask) = ask_in(layout, text) {
-        return Ok(Call::Ask(ask));
-    }
     if let Some(delta) = taken_text(text) {
         return merge_in(alloc, delta);
+    }
+    if let Some(ask) = ask_in(layout, text) {
+        return asked_call(written, layout, ask, text);
     }
     snapshot_in(text)
 }

@@ -1,5 +1,5 @@
 //! The lines of entries.
-ghost use Rattle.std.specs.Prelude.{◌≡◌, ◌++◌, ◌⊎◌, ◌≤◌, ◌↔◌, IsTrue, Ok, Err, length, map, IfOk};
+ghost use Rattle.std.specs.Prelude.{◌≡◌, ◌++◌, ◌⊎◌, ◌≤◌, Ok, Err, length, map, IfOk};
 ghost use Rattle.text_parts.specs.Readers.{Gives};
 ghost use Rattle.text_input.specs.Lines.{lines_of};
 ghost use Rattle.desk_log.specs.declared.entry.Entry.{Entry as EntryThere};
@@ -16,13 +16,13 @@ use merge_core::Layout;
 use std::alloc::{AllocError, Global};
 use text_input::cut_line;
 use text_parts::{Unread, after, short_at};
-use transcript_text::push_entry;
 
 // Room for the texts of a line, used again for each further line.
 #[derive(Debug, Drop)]
 struct Texts {
     call: Vec<u8>,
     reply: Vec<u8>,
+    written: String, // what a call or a reply is compared with
 }
 
 // Puts the texts that stand in a line into `texts`, and answers the pass.
@@ -41,33 +41,15 @@ fn entry_parts(texts: &mut Texts, line: &[u8]) -> Result<u16, Unread>
     Ok(pass)
 }
 
-// Whether the line is that of the entry.
-fn is_line_of(
-    alloc: Global,
-    layout: &Layout,
-    line: &[u8],
-    entry: &Entry,
-) -> Result<bool, AllocError>
-    ensures { IfOk result (λ b. IsTrue b ↔ (line.now ≡ entry_text layout.now.records entry.now)) }
-{
-    let mut text = String::new(alloc);
-    push_entry(alloc, &mut text, layout, entry)?;
-    Ok(text.as_bytes() == line)
-}
-
 // The entry of a line. Linear in it.
 fn entry_in(alloc: Global, layout: &Layout, texts: &mut Texts, line: &[u8]) -> Result<Entry, Unread>
     ensures sound { IfOk result (λ e. line.now ≡ entry_text layout.now.records e) }
     ensures only { (e : EntryThere) → FitsEntry e → line.now ≡ entry_text layout.now.records e → (result ≡ Ok e) ⊎ (result ≡ Err Unread.Memory) }
 {
     let pass = entry_parts(texts, line)?;
-    let call = call_in(alloc, layout, texts.call.as_slice())?;
-    let reply = reply_in(alloc, texts.reply.as_slice())?;
-    let entry = Entry { pass, call, reply };
-    if is_line_of(alloc, layout, line, &entry)? {
-        return Ok(entry);
-    }
-    Err(Unread::Refused)
+    let call = call_in(alloc, &mut texts.written, layout, texts.call.as_slice())?;
+    let reply = reply_in(alloc, &mut texts.written, texts.reply.as_slice())?;
+    Ok(Entry { pass, call, reply })
 }
 
 /// The entries of the first lines, up to one that is no entry, and the bytes from there on. Linear in their lines.
@@ -84,6 +66,7 @@ pub(crate) fn entries_in<'a>(
     let mut texts = Texts {
         call: Vec::new(alloc),
         reply: Vec::new(alloc),
+        written: String::new(alloc),
     };
     let mut rest = bytes;
     while !rest.is_empty() {

@@ -1,5 +1,5 @@
 //! Replies from their texts.
-ghost use Rattle.std.specs.Prelude.{◌≡◌, ◌⊎◌, Ok, Err, [], MatchOption};
+ghost use Rattle.std.specs.Prelude.{◌≡◌, ◌⊎◌, Ok, Err, [], MatchOption, IfOk};
 ghost use Rattle.merge_core.specs.Delta.{DeltaState, IsDelta};
 ghost use Rattle.delta_codec.specs.DeltaText.{delta_text};
 ghost use Rattle.admission_model.specs.declared.reply.Reply.{Reply as ReplyThere};
@@ -12,7 +12,7 @@ ghost use Rattle.transcript_reader.specs.Words.{plain_refusal, other_plain_refus
 use crate::numbers::{Numbers, middle_of, numbers_in, short_of};
 use admission_core::{Phase, Refusal, Reply};
 use delta_codec::{DecodeError, decode};
-use script_text::cut_word;
+use script_text::{cut_word, push_reply};
 use std::alloc::Global;
 use text_parts::Unread;
 
@@ -209,9 +209,23 @@ fn worded_reply(text: &[u8]) -> Option<Reply>
     counted_reply(word, numbers)
 }
 
-// A snapshot, by its delta's text.
+// The reply, if the text is its text.
+fn written_reply(written: &mut String, reply: Reply, text: &[u8]) -> Result<Reply, Unread>
+    ensures sound { IfOk result (λ it. text.now ≡ reply_text it) }
+    ensures only { text.now ≡ reply_text reply → (result ≡ Ok reply) ⊎ (result ≡ Err Unread.Memory) }
+{
+    written.clear();
+    push_reply(written, &reply)?;
+    if written.as_bytes() == text {
+        return Ok(reply);
+    }
+    Err(Unread::Refused)
+}
+
+// A snapshot, by its delta's text, which need not be written again: just one text is read as a delta.
 fn told_reply(alloc: Global, bytes: &[u8]) -> Result<Reply, Unread>
-    ensures { (d : DeltaState) → IsDelta d → bytes.now ≡ delta_text d → (result ≡ Ok (Snapshot d)) ⊎ (result ≡ Err Unread.Memory) }
+    ensures sound { IfOk result (λ reply. bytes.now ≡ reply_text reply) }
+    ensures only { (d : DeltaState) → IsDelta d → bytes.now ≡ delta_text d → (result ≡ Ok (Snapshot d)) ⊎ (result ≡ Err Unread.Memory) }
 {
     match decode(alloc, bytes) {
         Ok(delta) => Ok(Reply::Snapshot(delta)),
@@ -220,12 +234,14 @@ fn told_reply(alloc: Global, bytes: &[u8]) -> Result<Reply, Unread>
     }
 }
 
-/// A reply, if the text is that of one. A text that is none may be read as some reply.
-pub(crate) fn reply_in(alloc: Global, text: &[u8]) -> Result<Reply, Unread>
-    ensures { (reply : ReplyThere) → FitsReply reply → text.now ≡ reply_text reply → (result ≡ Ok reply) ⊎ (result ≡ Err Unread.Memory) }
+/// The reply whose text this is. What any reply but a snapshot is compared with is written into `written`. Linear in the
+/// text.
+pub(crate) fn reply_in(alloc: Global, written: &mut String, text: &[u8]) -> Result<Reply, Unread>
+    ensures sound { IfOk result (λ reply. text.now ≡ reply_text reply) }
+    ensures only { (reply : ReplyThere) → FitsReply reply → text.now ≡ reply_text reply → (result ≡ Ok reply) ⊎ (result ≡ Err Unread.Memory) }
 {
     match worded_reply(text) {
-        Some(reply) => Ok(reply),
+        Some(reply) => written_reply(written, reply, text),
         None => told_reply(alloc, text),
     }
 }

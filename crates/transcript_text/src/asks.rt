@@ -56,7 +56,7 @@ fn push_ask(text: &mut String, layout: &Layout, ask: Ask) -> Result<(), AllocErr
 }
 
 /// Writes a call. Linear in its text.
-pub(crate) fn push_call(text: &mut String, layout: &Layout, call: &Call) -> Result<(), AllocError>
+pub fn push_call(text: &mut String, layout: &Layout, call: &Call) -> Result<(), AllocError>
     ensures { IfOk result (λ _. string_bytes text.new ≡ string_bytes text.old ++ call_text layout.now.records call.now) }
 {
     match call {

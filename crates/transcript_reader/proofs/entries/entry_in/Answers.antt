@@ -1,12 +1,11 @@
 use Rattle.std.proofs.Common.{◌≡◌, ◌∙◌, Ok, Err, inl, inr, sym, ap}
-use Rattle.std.proofs.lemmas.Bool.{false≢true}
 use Rattle.std.proofs.lemmas.Result.{err_from_is_err_and}
 use Rattle.desk_log.specs.declared.entry.Entry.{Entry}
 use Rattle.script_text.specs.Replies.{reply_text}
 use Rattle.text_parts.specs.declared.unread.Unread.{Unread}
-use Rattle.transcript_text.specs.Texts.{call_text, entry_text}
+use Rattle.transcript_text.specs.Texts.{call_text}
 use Rattle.transcript_reader.specs.Readers.{EntryParts, entry_parts}
-use Rattle.transcript_reader.proofs.EntryLemmas.{entry_again, parts_of, entry_same, only_memory, memory_of, value_of}
+use Rattle.transcript_reader.proofs.EntryLemmas.{entry_again, entry_sound, parts_of, entry_same, only_memory, memory_of, value_of}
 use Rattle.transcript_reader.proofs.entries.entry_in.Goals as goal
 
 pub returns-in_err-pass-clause-only : goal.returns-in_err-pass-clause-only
@@ -22,7 +21,7 @@ returns-in_err-call-clause-only c = λ e fits same.
     let records = c.args.layout.now.records in
     let parts = ap (λ (it : EntryParts). it.call) (parts_of records c.args.line.now _ e (c.in_ok-pass.ensures {u = tt}) same fits.pass) in
     let text : c.as_slice.result.now ≡ call_text records e.call = cc in
-    let memory = memory_of c.in_err-call.field-0.0 e.call (c.in_err-call.ensures {u = tt} e.call fits.call text) in
+    let memory = memory_of c.in_err-call.field-0.0 e.call ((c.in_err-call.ensures {u = tt}).only e.call fits.call text) in
     inr (p.1 ∙ ap (λ (x : Unread). Err x) (p.2 ∙ memory))
 
 pub returns-in_err-reply-clause-only : goal.returns-in_err-reply-clause-only
@@ -31,20 +30,15 @@ returns-in_err-reply-clause-only c = λ e fits same.
     let records = c.args.layout.now.records in
     let parts = ap (λ (it : EntryParts). it.reply) (parts_of records c.args.line.now _ e (c.in_ok-pass.ensures {u = tt}) same fits.pass) in
     let text : c.as_slice-2.result.now ≡ reply_text e.reply = cc in
-    let memory = memory_of c.in_err-reply.field-0.0 e.reply (c.in_err-reply.ensures {u = tt} e.reply fits.reply text) in
+    let memory = memory_of c.in_err-reply.field-0.0 e.reply ((c.in_err-reply.ensures {u = tt}).only e.reply fits.reply text) in
     inr (p.1 ∙ ap (λ (x : Unread). Err x) (p.2 ∙ memory))
 
-pub returns-then-branch-clause-only : goal.returns-then-branch-clause-only
-returns-then-branch-clause-only c = λ e fits same.
+pub returns-clause-sound : goal.returns-clause-sound
+returns-clause-sound c =
     let records = c.args.layout.now.records in
-    let parts = parts_of records c.args.line.now _ e (c.in_ok-pass.ensures {u = tt}) same fits.pass in
-    let call_part = ap (λ (it : EntryParts). it.call) parts in
-    let reply_part = ap (λ (it : EntryParts). it.reply) parts in
-    let call_is : c.as_slice.result.now ≡ call_text records e.call = cc in
-    let reply_is : c.as_slice-2.result.now ≡ reply_text e.reply = cc in
-    let call = value_of c.in_ok-call.call e.call (c.in_ok-call.ensures {u = tt} e.call fits.call call_is) in
-    let reply = value_of c.in_ok-reply.reply e.reply (c.in_ok-reply.ensures {u = tt} e.reply fits.reply reply_is) in
-    inl (ap (λ (x : Entry). Ok x) (entry_same e c.in_ok-pass.pass c.in_ok-call.call c.in_ok-reply.reply (ap (λ (it : EntryParts). it.pass) parts) call reply))
+    let call = sym c.as_slice.ensures.value ∙ (c.in_ok-call.ensures {u = tt}).sound in
+    let reply = sym c.as_slice-2.ensures.value ∙ (c.in_ok-reply.ensures {u = tt}).sound in
+    entry_sound records c.args.line.now _ c.in_ok-call.call c.in_ok-reply.reply (c.in_ok-pass.ensures {u = tt}) call reply
 
 pub returns-clause-only : goal.returns-clause-only
 returns-clause-only c = λ e fits same.
@@ -54,7 +48,6 @@ returns-clause-only c = λ e fits same.
     let reply_part = ap (λ (it : EntryParts). it.reply) parts in
     let call_is : c.as_slice.result.now ≡ call_text records e.call = cc in
     let reply_is : c.as_slice-2.result.now ≡ reply_text e.reply = cc in
-    let call = value_of c.in_ok-call.call e.call (c.in_ok-call.ensures {u = tt} e.call fits.call call_is) in
-    let reply = value_of c.in_ok-reply.reply e.reply (c.in_ok-reply.ensures {u = tt} e.reply fits.reply reply_is) in
-    let entry = entry_same e c.in_ok-pass.pass c.in_ok-call.call c.in_ok-reply.reply (ap (λ (it : EntryParts). it.pass) parts) call reply in
-    absurd (false≢true (sym c.if-branch.false ∙ (c.in_ok-is_line_of.ensures {u = tt}).1 (same ∙ sym (ap (entry_text records) entry))))
+    let call = value_of c.in_ok-call.call e.call ((c.in_ok-call.ensures {u = tt}).only e.call fits.call call_is) in
+    let reply = value_of c.in_ok-reply.reply e.reply ((c.in_ok-reply.ensures {u = tt}).only e.reply fits.reply reply_is) in
+    inl (ap (λ (x : Entry). Ok x) (entry_same e c.in_ok-pass.pass c.in_ok-call.call c.in_ok-reply.reply (ap (λ (it : EntryParts). it.pass) parts) call reply))
