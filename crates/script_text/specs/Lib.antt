@@ -2,3 +2,4 @@ pub mod Words
 pub mod Asks
 pub mod Replies
 pub mod Examples
+pub mod Blanks

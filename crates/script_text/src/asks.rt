@@ -55,8 +55,8 @@ fn gift_in(layout: &Layout, words: &[u8]) -> Option<(u16, u16, u64)>
     }
 }
 
-// What the words behind a verb ask.
-fn ask_behind(layout: &Layout, verb: &[u8], words: &[u8]) -> Option<Ask>
+/// What the words behind a verb ask, as [`ask_in`] says. One pass over them.
+pub fn ask_behind(layout: &Layout, verb: &[u8], words: &[u8]) -> Option<Ask>
     ensures { result ≡ ask_behind layout.now.records verb.now (words_of words.now) }
 {
     if verb == b"read".as_slice() {

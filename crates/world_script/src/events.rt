@@ -1,11 +1,11 @@
 //! Lines of a script as events.
-ghost use Rattle.std.specs.Prelude.{◌≡◌, ◌∷◌};
+ghost use Rattle.std.specs.Prelude.{◌≡◌};
 ghost use Rattle.script_text.specs.Words.{words_of};
 ghost use Rattle.world_script.specs.Events.{message_in, event_alone, event_behind, event_at, event_in};
 
 use merge_core::Layout;
 use multi_site_world::Event;
-use script_text::{ask_in, cut_word, number_word, short_word};
+use script_text::{ask_behind, cut_word, number_word, short_word};
 
 /// What a line says: a site's number, a blank, and what happens there, `send`, `take K`, `restart`, `grow`, or what
 /// a caller asks (`script_text::ask_in`). Nothing where the line says no event. Linear in the line, and a record
@@ -28,7 +28,7 @@ fn event_at(layout: &Layout, site: u16, bytes: &[u8]) -> Option<Event>
     let Some(words) = behind else {
         return event_alone(site, verb);
     };
-    event_behind(layout, site, bytes, verb, words)
+    event_behind(layout, site, verb, words)
 }
 
 // What one word tells.
@@ -47,22 +47,15 @@ fn event_alone(site: u16, verb: &[u8]) -> Option<Event>
     None
 }
 
-// What a verb tells with words behind it; `bytes` are both.
-fn event_behind(
-    layout: &Layout,
-    site: u16,
-    bytes: &[u8],
-    verb: &[u8],
-    words: &[u8],
-) -> Option<Event>
-    requires { words_of bytes.now ≡ verb.now ∷ words_of words.now }
+// What a verb tells with words behind it.
+fn event_behind(layout: &Layout, site: u16, verb: &[u8], words: &[u8]) -> Option<Event>
     ensures { result ≡ event_behind layout.now.records site verb.now (words_of words.now) }
 {
     if verb == b"take".as_slice() {
         let k = message_in(words)?;
         return Some(Event::Take(site, k));
     }
-    let ask = ask_in(layout, bytes)?;
+    let ask = ask_behind(layout, verb, words)?;
     Some(Event::Call(site, ask))
 }
 

@@ -11,8 +11,8 @@ returns-in-Some-clause-words c =
     let found = c.in-Some.ensures in
     let whole : take (length bs - (k + 1)) (drop (k + 1) bs) ≡ drop (k + 1) bs = take_all _ _ (omega (arith, length-drop (k + 1) bs)) in
     let next : k + 1 ≡ suc k = omega arith in
-    first_word bs k found.0.high (λ j low. found.0.before j (omega arith) low) found.1
+    first_word bs k found.within (λ j low. found.before j low) found.here
     ∙ ap (λ rest. take k bs ∷ words_of rest) (ap (λ n. drop n bs) (sym next) ∙ sym whole)
 
 pub returns-in-None-clause-words : goal.returns-in-None-clause-words
-returns-in-None-clause-words c = only_word c.args.line.now (λ j low. c.in-None.ensures j (omega arith) low)
+returns-in-None-clause-words c = only_word c.args.line.now (λ j low. c.in-None.ensures j low)
