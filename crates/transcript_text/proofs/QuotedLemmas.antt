@@ -1,6 +1,6 @@
 -- Text between quotes: how it is written.
 use Rattle.std.proofs.Common.{◌≡◌, ℕ, ◌+◌, ◌-◌, ◌<◌, ◌≤◌, Bool, true, false, cond, ◌||◌, eqb, List, [], ◌∷◌, ◌++◌, length, get_or, take, drop, refl, sym, ap, ◌∙◌, append_assoc, ◌⊎◌, inl, inr, arith}
-use Rattle.std.proofs.lemmas.List.{take_more, get_or-drop, length-drop, take_all}
+use Rattle.std.proofs.lemmas.List.{take_more, get_or-drop, length-drop}
 use Rattle.std.proofs.lemmas.Bool.{cases_eq, ne_eqb, false≢true}
 use Rattle.transcript_text.specs.Quoted.{escaped}
 
@@ -48,13 +48,6 @@ special_step t t1 t2 t0 part from i b below is special run mark so_far =
     let one : take ((i + 1) - i) (drop i part) ≡ b ∷ [] =
     pending_more part i i b (omega arith) below is ∙ ap (λ (k : ℕ). take k (drop i part) ++ b ∷ []) none in
     rw (one, byte_more part i b below is, two, mark, run, so_far) (simp append_assoc)
-
-pub last_step : (t t0 part : List ℕ) (from i : ℕ) → from ≤ i → length part ≤ i
-    → t ++ take (i - from) (drop from part) ≡ t0 ++ escaped (take i part) → t ++ drop from part ≡ t0 ++ escaped part
-last_step t t0 part from i low past so_far =
-    let rest : take (i - from) (drop from part) ≡ drop from part = take_all (i - from) (drop from part) (omega (arith, length-drop from part)) in
-    let whole : take i part ≡ part = take_all i part past in
-    ap (λ (x : List ℕ). t ++ x) (sym rest) ∙ (so_far ∙ ap (λ (x : List ℕ). t0 ++ escaped x) whole)
 
 -- a byte with a backslash in front of it is no part of a wider character
 pub special_low : (b : ℕ) → ((eqb b 34) || (eqb b 92)) ≡ true → b < 128
