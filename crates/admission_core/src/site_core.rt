@@ -190,6 +190,15 @@ impl SiteCore {
         if let Some(refusal) = self.merge_reason(delta) {
             return Reply::Refused(refusal);
         }
+        self.merge_accepted(delta)
+    }
+
+    /// Merges a delta as [`SiteCore::merge`] does, of which the caller shows that nothing refuses it, so that it is not judged
+    /// again: `Merged`, with how many counters rose. Linear in the delta.
+    pub fn merge_accepted(&mut self, delta: &Delta) -> Reply
+        requires { reason (core_view self.old) (Merge delta.now) ≡ None }
+        ensures { IsServed self.old self.new (Merge delta.now) result }
+    {
         Reply::Merged(self.join(delta))
     }
 

@@ -11,3 +11,4 @@ pub mod ReachedLemmas
 pub mod WorldCode
 pub mod SafeLemmas
 pub mod WorldRun
+pub mod AcceptedLemmas

@@ -5,7 +5,7 @@ use admission_core::SiteCore;
 use admission_model::Ask;
 use begin::{first_cores, first_layout};
 use merge_core::{Delta, Layout};
-use sites::{asked, grown_core, place_of, told};
+use sites::{asked, grown_core, merged, place_of, told};
 use std::alloc::{AllocError, Global};
 use std::marker::Model;
 
@@ -188,8 +188,9 @@ impl World {
         let Some(message) = self.sent.get(k as usize) else {
             return WorldReply::NoMessage;
         };
+        let sites = self.layout.sites();
         let core = &mut self.sites[usize::from(i)];
-        told(core.merge(message))
+        told(merged(core, sites, message))
     }
 
     // A site takes a message without the rows that another message has.

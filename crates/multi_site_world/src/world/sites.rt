@@ -1,9 +1,10 @@
 //! What an event does at one site.
-ghost use Rattle.std.specs.Prelude.{◌≡◌, ◌≤◌};
-ghost use Rattle.admission_model.specs.declared.ask.Call.TheVariants.{Ask as AskCall};
+ghost use Rattle.std.specs.Prelude.{◌≡◌, ◌≤◌, None};
+ghost use Rattle.admission_model.specs.declared.ask.Call.TheVariants.{Ask as AskCall, Merge};
 ghost use Rattle.admission_model.specs.Account.{Account};
 ghost use Rattle.admission_model.specs.Knowledge.{grown};
-ghost use Rattle.admission_core.specs.Core.{Stands, IsServed};
+ghost use Rattle.admission_model.specs.Serving.{reason};
+ghost use Rattle.admission_core.specs.Core.{Stands, IsServed, core_view};
 ghost use Rattle.admission_core.specs.Restored.{IsOwn};
 ghost use Rattle.multi_site_world.specs.World.{place_of};
 ghost use Rattle.multi_site_world.specs.Worlds.{reply_of_core};
@@ -11,7 +12,7 @@ ghost use Rattle.multi_site_world.specs.Worlds.{reply_of_core};
 use crate::{Event, WorldReply};
 use admission_core::{RestoreError, SiteCore};
 use admission_model::{Ask, Refusal, Reply};
-use merge_core::Layout;
+use merge_core::{Delta, Layout};
 use std::alloc::Global;
 
 /// The site of an event.
@@ -50,6 +51,17 @@ pub fn asked(core: &mut SiteCore, ask: Ask) -> Reply
         Ask::Give { r, to, seats } => core.transfer(r, to, seats),
         Ask::Help { r } => core.help(r),
     }
+}
+
+/// The core takes a message, whose caller shows that a core of so many sites refuses it not: such a one need not judge it.
+pub fn merged(core: &mut SiteCore, sites: u16, message: &Delta) -> Reply
+    requires { core.old.layout.sites ≡ sites → reason (core_view core.old) (Merge message.now) ≡ None }
+    ensures { IsServed core.old core.new (Merge message.now) result }
+{
+    if core.layout().sites() == sites {
+        return core.merge_accepted(message);
+    }
+    core.merge(message)
 }
 
 /// The core that goes on under a layout with more sites, from what a stop leaves of it.
