@@ -1,5 +1,5 @@
 //! Counters in their order, and some put among others.
-ghost use Rattle.std.specs.Prelude.{◌≡◌, ◌+◌, ◌<◌, ◌≤◌, length, vec_len, vec_capacity, IfOk};
+ghost use Rattle.std.specs.Prelude.{◌≡◌, ◌+◌, ◌<◌, ◌≤◌, length, vec_len, vec_capacity, IfOk, OnOk, OnErr};
 ghost use Rattle.admission_model.specs.Durable.{AreRising, is_before, is_same_place, put_cell, put_cells};
 ghost use Rattle.durable_keeper.specs.Placing.{IsPlaceOf};
 
@@ -45,6 +45,9 @@ pub fn put_cells(
     Ok(all)
 }
 
+// So many counters at most are put one by one, since each may move all that stand behind its place.
+const FEW: usize = 4;
+
 // Whether two cells are at one record's slot.
 fn is_same_place(c: DurableCell, d: DurableCell) -> bool
     ensures { result ≡ is_same_place c d }
@@ -86,9 +89,9 @@ fn put_reserved(kept: &mut Vec<DurableCell>, cell: DurableCell)
     let _ = kept.insert(at, cell);
 }
 
-/// Puts counters at their places among others that rise, as [`put_cells`] does, in place and in room that is there for
-/// all. A search for each, and a move of those behind it where its place is new.
-pub(crate) fn put_all_reserved(kept: &mut Vec<DurableCell>, put: &[DurableCell])
+// Puts counters at their places among others that rise, in room that is there for all: one search for each, and one move of
+// those behind it where its place is new.
+fn put_all_reserved(kept: &mut Vec<DurableCell>, put: &[DurableCell])
     requires rising { AreRising kept.old.items }
     requires room { vec_len kept.old + length put.now ≤ vec_capacity kept.old }
     ensures { kept.new.items ≡ put_cells put.now kept.old.items }
@@ -98,4 +101,22 @@ pub(crate) fn put_all_reserved(kept: &mut Vec<DurableCell>, put: &[DurableCell])
         left -= 1;
         put_reserved(kept, put[left]);
     }
+}
+
+/// Puts counters that rise at their places among others that rise, as [`put_cells`] does: a few in place, and more in one pass
+/// over all. Linear in both. Where memory runs out, the counters stay as they were.
+pub(crate) fn put_among(kept: &mut Vec<DurableCell>, put: &[DurableCell]) -> Result<(), AllocError>
+    requires put { AreRising put.now }
+    requires kept { AreRising kept.old.items }
+    ensures cells { OnOk result (kept.new.items ≡ put_cells put.now kept.old.items) }
+    ensures memory { OnErr result (kept.new.items ≡ kept.old.items) }
+{
+    if put.len() <= FEW {
+        kept.reserve(put.len())?;
+        put_all_reserved(kept, put);
+        return Ok(());
+    }
+    let all = put_cells(*kept.allocator(), put, kept.as_slice())?;
+    *kept = all;
+    Ok(())
 }

@@ -2,7 +2,7 @@
 ghost use Rattle.std.specs.Prelude.{◌≡◌, ◌<◌, Some};
 ghost use Rattle.durable_keeper.specs.Keeping.{changed_sessions};
 
-use crate::cells::put_all_reserved;
+use crate::cells::put_among;
 use crate::error::KeeperError;
 use crate::keeper::Keeper;
 use admission_core::{Change, Durable, DurableCell, Session, SessionChange};
@@ -37,8 +37,8 @@ fn change_sessions(sessions: &mut Sessions, change: Option<SessionChange>)
     }
 }
 
-/// It keeps a site's durable part in memory, and never fails. It is lost with the process. A commit searches for each of
-/// its counters, and moves those behind one that is new.
+/// It keeps a site's durable part in memory, and never fails. It is lost with the process. A commit is linear in what is
+/// kept; one of a few counters searches for each, and moves only those behind one that is new.
 pub struct MemoryKeeper {
     layout: Layout,
     site: u16,
@@ -107,8 +107,7 @@ impl Keeper for MemoryKeeper {
             return Ok(());
         }
         self.sessions.reserve()?;
-        self.cells.reserve(change.cells().len())?;
-        put_all_reserved(&mut self.cells, change.cells());
+        put_among(&mut self.cells, change.cells())?;
         change_sessions(&mut self.sessions, change.session());
         Ok(())
     }
