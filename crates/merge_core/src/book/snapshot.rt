@@ -45,6 +45,7 @@ impl Book {
         for r in 0..self.records.len() {
             self.push_moved(alloc, &mut rows, r as u16)?;
         }
+        rows.shrink_to_fit(); // a mark may stand where a row is at its start, as behind a restart
         Ok(rows)
     }
 
