@@ -252,6 +252,10 @@ fn is_stopped(stop: Stop, marks: (u64, u64)) -> bool {
     }
 }
 
+// So many turns take the better part of a second, so that every thread runs long before they are over, also where some
+// start late; and a log has room for them.
+const LONG: u64 = 20_000;
+
 // Whether all four runners end where one site stops, with reports that fit, before the turns are over.
 fn stops<R: Threads + Wait + Sync>(
     rt: &R,
@@ -259,7 +263,9 @@ fn stops<R: Threads + Wait + Sync>(
     site: usize,
     stop: Stop,
 ) -> Option<(bool, Verdict)> {
-    let (mut first, mut second) = pair_jobs(alloc, TWO, 400);
+    let (mut first, mut second) = pair_jobs(alloc, TWO, LONG);
+    first.limit = 65_536;
+    second.limit = 65_536;
     second.before = Some(Ask::Announce { r: 0, h: 5 });
     let stopped = if site == 0 { &mut first } else { &mut second };
     match stop {
@@ -275,7 +281,7 @@ fn stops<R: Threads + Wait + Sync>(
         back,
     } = ended;
     let marks = if site == 0 { first.marks } else { second.marks };
-    let early = there.out.turns < 400 && back.out.turns < 400;
+    let early = there.out.turns < LONG && back.out.turns < LONG;
     let fits = is_prefix(&there) && is_prefix(&back) && is_stopped(stop, marks);
     let verdict = verdict_of(alloc, TWO, first, second)?;
     Some((early && fits, verdict))
