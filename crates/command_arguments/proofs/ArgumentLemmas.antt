@@ -1,5 +1,5 @@
 -- From what clap met to what the arguments ask for.
-use Rattle.std.proofs.Common.{◌≡◌, ◌<◌, ◌&&◌, ℕ, Bool, true, false, List, [], ◌∷◌, length, map, codes, Option, Some, None, Result, Ok, Err, option_map, refl, ap, arith}
+use Rattle.std.proofs.Common.{◌≡◌, ◌<◌, ◌&&◌, ℕ, Bool, true, false, List, [], ◌∷◌, length, map, codes, Option, Some, None, Result, Ok, Err, option_map, refl, ap, ◌∙◌, arith}
 use Rattle.std.specs.List.{list_all}
 use Rattle.std.specs.Prelude.{nat_lt, option_and_then, unwrap_or}
 use Rattle.std.specs.Option.{option_map_or}
@@ -10,13 +10,27 @@ use Rattle.std.proofs.lemmas.List.{length-map}
 use Rattle.std.proofs.lemmas.Slice.Eq.{bytes_eq-Decides}
 use Rattle.clap.specs.ValueTests.{is_numeral}
 use Rattle.clap.specs.Matches.{ReadsOne}
-use Rattle.clap.specs.Words.{Row, Text, fault_of, first_of}
+use Rattle.clap.specs.Words.{App, Row, Text, fault_of, first_of, subcommand_of}
 use Rattle.clap.proofs.WalkLemmas.{both}
-use Rattle.command_arguments.specs.Arguments.{is_true, program, short_number, usage_errors, value_in}
+use Rattle.command_arguments.specs.Arguments.{asked_command, asked_value, asked_words, command_in, is_true, program, short_number, usage_errors, value_in, words_at, words_in}
 
 -- arguments behind the program's name are judged by clap's rules
 pub errors_by_clap : (arguments : List Text) → 1 < length arguments → usage_errors arguments ≡ fault_of program arguments
 errors_by_clap arguments more = rw (lt-leb (length arguments) 1 more) refl
+
+-- what a parser that is the program met is what they ask for
+module _ (a : App) (met : Option (Text × List Row)) (arguments : List Text) (more : 1 < length arguments) (is : a ≡ program) (meets : met ≡ subcommand_of a arguments) where
+  met_is : met ≡ subcommand_of program arguments
+  met_is = meets ∙ ap (λ (x : App). subcommand_of x arguments) is
+
+  pub command_met : command_in met ≡ asked_command arguments
+  command_met = rw (lt-leb (length arguments) 1 more) (ap command_in met_is)
+
+  pub value_met : (option : Text) → value_in option met ≡ asked_value option arguments
+  value_met option = rw (lt-leb (length arguments) 1 more) (ap (value_in option) met_is)
+
+  pub words_met : words_at met ≡ asked_words arguments
+  words_met = rw (lt-leb (length arguments) 1 more) (ap words_at met_is)
 
 -- the arguments of a call are as many as their texts
 pub more_texts : {S : Type 0} (f : S → Text) (arguments : List S) → 1 < length arguments → 1 < length (map f arguments)
@@ -27,6 +41,13 @@ pub value_of_rows : (option : Text) (met : Option (Text × List Row)) (rows : Li
     → first_of option rows ≡ value_in option met
 value_of_rows option None rows has_rows = cc
 value_of_rows option (Some (name, values)) rows has_rows =
+    let rows_are : values ≡ rows = cc in
+    rw rows_are refl
+
+-- the words of a call are read from them too
+pub words_of_rows : (met : Option (Text × List Row)) (rows : List Row) → option_map (λ p. p.1) met ≡ Some rows → words_in rows ≡ words_at met
+words_of_rows None rows has_rows = cc
+words_of_rows (Some (name, values)) rows has_rows =
     let rows_are : values ≡ rows = cc in
     rw rows_are refl
 

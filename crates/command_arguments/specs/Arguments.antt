@@ -1,5 +1,5 @@
 -- What arguments the program takes and how they are read: the project's own command line, by clap's rules.
-use Rattle.std.specs.Prelude.{ℕ, ◌&&◌, nat_le, nat_lt, Bool, true, false, pos, List, [], ◌∷◌, length, Option, Some, None, codes, bytes_eq, option_and_then, unwrap_or, if◌then◌else◌}
+use Rattle.std.specs.Prelude.{ℕ, ◌&&◌, nat_le, nat_lt, Bool, true, false, pos, List, [], ◌∷◌, length, Option, Some, None, codes, bytes_eq, option_and_then, unwrap_or, if◌then◌else◌, option_map}
 use Rattle.std.specs.Str.Parse.{digits_value, without_leading_plus}
 use Rattle.std.specs.Option.{option_map_or}
 use Rattle.clap.specs.Words.{App, Kinds, Row, Rule, Shape, Text, fault_of, first_of, new_app, new_rule, one_of, subcommand_of, with_rule, with_subcommand}
@@ -8,7 +8,8 @@ use Rattle.clap.specs.ValueTests.{is_numeral}
 use Rattle.clap.specs.declared.builder.ArgAction.TheVariants.{Set, SetTrue}
 use Rattle.clap.specs.declared.builder.value_parser.ValueParser.TheVariants.{Signed}
 use Rattle.command_arguments.specs.declared.arguments.Command.{Command}
-use Rattle.command_arguments.specs.declared.arguments.Command.TheVariants.{Join, Play, Site, Judge, Run}
+use Rattle.command_arguments.specs.declared.arguments.Words.{Words}
+use Rattle.command_arguments.specs.declared.arguments.Command.TheVariants.{Join, Play, Site, Serve, Ask, Judge, Run}
 
 -- an option whose value is any text (the project's own), with one name for its value
 abbrev pub text_option : Text → Rule
@@ -57,6 +58,36 @@ turns_option = record (text_option (codes "turns")) { parser = Some (Signed (pos
 abbrev pub out_option : Rule
 out_option = text_option (codes "out")
 
+-- the flag `--create` (the project's own)
+abbrev pub create_flag : Rule
+create_flag = record (new_rule (codes "create")) {
+  long = Some (codes "create");
+  action = Some SetTrue;
+}
+
+-- the option `--wait SECONDS` (the project's own)
+abbrev pub wait_option : Rule
+wait_option = number_option (codes "wait")
+
+-- the option `--log FILE` (the project's own)
+abbrev pub log_option : Rule
+log_option = text_option (codes "log")
+
+-- the option `--group NAME` (the project's own)
+abbrev pub group_option : Rule
+group_option = text_option (codes "group")
+
+-- a word of a call (the project's own), at its place behind the options
+abbrev pub word : Text → Rule
+word name = record (new_rule name) {
+  action = Some Set;
+  value_names = 1;
+}
+
+-- the first one, which is needed
+abbrev pub first_word : Rule
+first_word = record (word (codes "word")) { required = true }
+
 -- the command `join` (the project's own), with one option
 abbrev pub join_command : App
 join_command = with_rule (new_app (codes "join")) layout_option
@@ -68,6 +99,20 @@ play_command = with_rule (with_rule (with_rule (new_app (codes "play")) tables_f
 -- the command `site` (the project's own), with two options that are needed and one that is not
 abbrev pub site_command : App
 site_command = with_rule (with_rule (with_rule (new_app (codes "site")) site_option) store_option) layout_option
+
+-- a command that serves a site (the project's own), with two options that are needed, four that are not, and a flag
+abbrev pub serving_command : Text → App
+serving_command name =
+    with_rule (with_rule (with_rule (with_rule (with_rule (with_rule (with_rule (new_app name) site_option) store_option) layout_option) group_option) create_flag) wait_option) log_option
+
+-- the command `serve` (the project's own)
+abbrev pub serve_command : App
+serve_command = serving_command (codes "serve")
+
+-- the command `ask` (the project's own), with the same, and one to four words
+abbrev pub ask_command : App
+ask_command =
+    with_rule (with_rule (with_rule (with_rule (serving_command (codes "ask")) first_word) (word (codes "word2"))) (word (codes "word3"))) (word (codes "word4"))
 
 -- the command `judge` (the project's own), with two options
 abbrev pub judge_command : App
@@ -85,11 +130,12 @@ with_settings top = record top {
   disable_help_subcommand = true;
 }
 
--- the program, whose commands are `join`, `play`, `site`, `judge` and `run`
+-- the program, whose commands are `join`, `play`, `site`, `serve`, `ask`, `judge` and `run`
 abbrev pub program : App
 program =
-    with_subcommand (with_subcommand (with_subcommand (with_subcommand (with_subcommand (on_top with_settings (new_app (codes "seat_cli")))
-    join_command.top) play_command.top) site_command.top) judge_command.top) run_command.top
+    with_subcommand (with_subcommand (with_subcommand (with_subcommand
+    (with_subcommand (with_subcommand (with_subcommand (on_top with_settings (new_app (codes "seat_cli")))
+    join_command.top) play_command.top) site_command.top) serve_command.top) ask_command.top) judge_command.top) run_command.top
 
 -- whether a flag's text is `true`
 abbrev pub is_true : Text → Bool
@@ -117,11 +163,21 @@ site_in rows = unwrap_or (option_and_then short_number (one_of (codes "site") ro
 abbrev pub turns_in : List Row → ℕ
 turns_in rows = unwrap_or (option_and_then short_number (one_of (codes "turns") rows)) 100
 
+-- whether the values ask for a new store
+abbrev pub create_in : List Row → Bool
+create_in rows = option_map_or is_true (one_of (codes "create") rows) false
+
+-- how many seconds the values allow to wait; 0 where they name no number
+abbrev pub wait_in : List Row → ℕ
+wait_in rows = unwrap_or (option_and_then short_number (one_of (codes "wait") rows)) 0
+
 -- the command of a name, with its values
 abbrev pub command_of : Text → List Row → Command
 command_of name rows =
     if bytes_eq name (codes "play") then Play (tables_in rows) (first_in rows)
     else if bytes_eq name (codes "site") then Site (site_in rows)
+    else if bytes_eq name (codes "serve") then Serve (site_in rows) (create_in rows) (wait_in rows)
+    else if bytes_eq name (codes "ask") then Ask (site_in rows) (create_in rows) (wait_in rows)
     else if bytes_eq name (codes "judge") then Judge
     else if bytes_eq name (codes "run") then Run (turns_in rows) else Join
 
@@ -134,6 +190,27 @@ command_in (Some (name, rows)) = command_of name rows
 abbrev pub value_in : Text → Option (Text × List Row) → Option Text
 value_in option None = None
 value_in option (Some (name, rows)) = first_of option rows
+
+-- the words of a call, in their order, as far as they are there
+abbrev pub said : Option Text → Option Text → Option Text → Option Text → List (Option Text)
+said a b c d = a ∷ b ∷ c ∷ d ∷ []
+
+-- no words
+abbrev pub none_said : List (Option Text)
+none_said = said None None None None
+
+-- the same of what the program is asked for
+abbrev pub words_of : Words → List (Option Text)
+words_of w = said (option_map (λ t. t.now) w.first) (option_map (λ t. t.now) w.second) (option_map (λ t. t.now) w.third) (option_map (λ t. t.now) w.fourth)
+
+-- the words that values have
+abbrev pub words_in : List Row → List (Option Text)
+words_in rows = said (first_of (codes "word") rows) (first_of (codes "word2") rows) (first_of (codes "word3") rows) (first_of (codes "word4") rows)
+
+-- those of the command that was met
+abbrev pub words_at : Option (Text × List Row) → List (Option Text)
+words_at None = none_said
+words_at (Some (name, rows)) = words_in rows
 
 -- the command that arguments name, as clap gives it and its values
 abbrev pub named_command : List Text → Command
@@ -174,3 +251,15 @@ asked_cut arguments = asked_value (codes "cut") arguments
 -- the file for closed logs that they name
 abbrev pub asked_out : List Text → Option Text
 asked_out arguments = asked_value (codes "out") arguments
+
+-- the words of a call that they have
+abbrev pub asked_words : List Text → List (Option Text)
+asked_words arguments = if nat_le (length arguments) 1 then none_said else words_at (subcommand_of program arguments)
+
+-- the name of the site's group that they name
+abbrev pub asked_group : List Text → Option Text
+asked_group arguments = asked_value (codes "group") arguments
+
+-- the file for the site's log that they name
+abbrev pub asked_log : List Text → Option Text
+asked_log arguments = asked_value (codes "log") arguments

@@ -1,7 +1,7 @@
 ghost use Rattle.std.specs.Prelude.{◌≡◌, ◌≤◌, codes, false, length, map, IfOk, IsOk, option_map, string_bytes};
 ghost use Rattle.clap.specs.Words.{FailsBy, app_of, found_of, rows_of, rule_of, subcommand_rows_of};
 ghost use Rattle.clap.specs.declared.builder.command.Command.TheViews.{out-Command as fields_of};
-ghost use Rattle.command_arguments.specs.Arguments.{asked_command, asked_cut, asked_layout, asked_out, asked_store, command_in, command_of, join_command, judge_command, number_option, play_command, program, run_command, site_command, site_in, site_option, store_option, tables_flag, text_option, turns_in, turns_option, usage_errors, value_in};
+ghost use Rattle.command_arguments.specs.Arguments.{ask_command, asked_command, asked_cut, asked_group, asked_layout, asked_log, asked_out, asked_store, asked_words, command_in, command_of, create_flag, create_in, first_word, join_command, judge_command, none_said, number_option, play_command, program, run_command, serve_command, serving_command, site_command, site_in, site_option, store_option, tables_flag, text_option, turns_in, turns_option, usage_errors, value_in, wait_in, word, words_at, words_in, words_of};
 
 use crate::help;
 use clap::builder::ValueParser;
@@ -25,6 +25,24 @@ pub enum Command {
         /// The site's number.
         site: u16,
     },
+    /// The lines of the input are calls at one site, each of which is answered before the next one is read.
+    Serve {
+        /// The site's number.
+        site: u16,
+        /// Whether the site's store is made, and must not be there before.
+        create: bool,
+        /// How many seconds to wait for a store in use.
+        wait: u16,
+    },
+    /// One call at one site, which the words name.
+    Ask {
+        /// The site's number.
+        site: u16,
+        /// Whether the site's store is made, and must not be there before.
+        create: bool,
+        /// How many seconds to wait for a store in use.
+        wait: u16,
+    },
     /// The lines of the input are those of closed logs, which are judged.
     Judge,
     /// The lines of the input are calls at several sites, which work at the same time.
@@ -34,18 +52,33 @@ pub enum Command {
     },
 }
 
+/// The words of a call: `ask` has at least one, and no other command has any.
+#[derive(Clone, Copy)]
+pub struct Words<'a> {
+    pub first: Option<&'a str>,
+    pub second: Option<&'a str>,
+    pub third: Option<&'a str>,
+    pub fourth: Option<&'a str>,
+}
+
 /// A command and the texts that its options name.
 #[derive(Clone, Copy)]
 pub struct Request<'a> {
     pub command: Command,
     /// The layout file, if one is named.
     pub layout: Option<&'a str>,
-    /// The file of the site's store: `site` has one, and no other command.
+    /// The file of the site's store: `site`, `serve` and `ask` have one, and no other command.
     pub store: Option<&'a str>,
     /// The word for a cut, if one is named: `judge` may have one, and no other command.
     pub cut: Option<&'a str>,
     /// The file for closed logs, if one is named: `run` may have one, and no other command.
     pub out: Option<&'a str>,
+    /// The file for the site's log, if one is named: `serve` and `ask` may have one, and no other command.
+    pub log: Option<&'a str>,
+    /// The name of the site's group, if one is named: `serve` and `ask` may have one, and no other command.
+    pub group: Option<&'a str>,
+    /// The words of the call.
+    pub words: Words<'a>,
 }
 
 /// What the arguments ask for. The first is the program's own name; without a further one it is `join`, for which no
@@ -56,6 +89,9 @@ pub fn requested<'a>(alloc: Global, arguments: &'a [String]) -> Result<Request<'
     ensures store { IfOk result (λ asked. option_map (λ path. path.now) asked.store ≡ asked_store (map string_bytes arguments.now)) }
     ensures cut { IfOk result (λ asked. option_map (λ word. word.now) asked.cut ≡ asked_cut (map string_bytes arguments.now)) }
     ensures out { IfOk result (λ asked. option_map (λ path. path.now) asked.out ≡ asked_out (map string_bytes arguments.now)) }
+    ensures log { IfOk result (λ asked. option_map (λ path. path.now) asked.log ≡ asked_log (map string_bytes arguments.now)) }
+    ensures group { IfOk result (λ asked. option_map (λ name. name.now) asked.group ≡ asked_group (map string_bytes arguments.now)) }
+    ensures words { IfOk result (λ asked. words_of asked.words ≡ asked_words (map string_bytes arguments.now)) }
     // An error comes just where clap's rules find one, and is of a kind that they give, or memory ran out.
     ensures refused { FailsBy (usage_errors (map string_bytes arguments.now)) result }
     ensures bare { length arguments.now ≤ 1 → IsOk result }
@@ -67,6 +103,9 @@ pub fn requested<'a>(alloc: Global, arguments: &'a [String]) -> Result<Request<'
             store: None,
             cut: None,
             out: None,
+            log: None,
+            group: None,
+            words: no_words(),
         });
     }
     let matches = parser(alloc)?.try_get_matches_from(arguments)?;
@@ -80,6 +119,9 @@ fn request_in<'a>(matches: &ArgMatches<'a>) -> Request<'a>
     ensures store { option_map (λ path. path.now) result.store ≡ value_in (codes "store") (subcommand_rows_of matches.now) }
     ensures cut { option_map (λ word. word.now) result.cut ≡ value_in (codes "cut") (subcommand_rows_of matches.now) }
     ensures out { option_map (λ path. path.now) result.out ≡ value_in (codes "out") (subcommand_rows_of matches.now) }
+    ensures log { option_map (λ path. path.now) result.log ≡ value_in (codes "log") (subcommand_rows_of matches.now) }
+    ensures group { option_map (λ name. name.now) result.group ≡ value_in (codes "group") (subcommand_rows_of matches.now) }
+    ensures words { words_of result.words ≡ words_at (subcommand_rows_of matches.now) }
 {
     let Some((name, found)) = matches.subcommand() else {
         return Request {
@@ -88,6 +130,9 @@ fn request_in<'a>(matches: &ArgMatches<'a>) -> Request<'a>
             store: None,
             cut: None,
             out: None,
+            log: None,
+            group: None,
+            words: no_words(),
         };
     };
     Request {
@@ -96,6 +141,33 @@ fn request_in<'a>(matches: &ArgMatches<'a>) -> Request<'a>
         store: found.get_str("store"),
         cut: found.get_str("cut"),
         out: found.get_str("out"),
+        log: found.get_str("log"),
+        group: found.get_str("group"),
+        words: words_in(found),
+    }
+}
+
+// No words.
+fn no_words<'a>() -> Words<'a>
+    ensures { words_of result ≡ none_said }
+{
+    Words {
+        first: None,
+        second: None,
+        third: None,
+        fourth: None,
+    }
+}
+
+// The words of a call.
+fn words_in<'a>(found: &ArgMatches<'a>) -> Words<'a>
+    ensures { words_of result ≡ words_in (rows_of (found_of found.now)) }
+{
+    Words {
+        first: found.get_str("word"),
+        second: found.get_str("word2"),
+        third: found.get_str("word3"),
+        fourth: found.get_str("word4"),
     }
 }
 
@@ -112,6 +184,20 @@ fn command_of(name: &str, found: &ArgMatches) -> Command
     if name == "site" {
         return Command::Site {
             site: site_in(found),
+        };
+    }
+    if name == "serve" {
+        return Command::Serve {
+            site: site_in(found),
+            create: create_in(found),
+            wait: wait_in(found),
+        };
+    }
+    if name == "ask" {
+        return Command::Ask {
+            site: site_in(found),
+            create: create_in(found),
+            wait: wait_in(found),
         };
     }
     if name == "judge" {
@@ -132,6 +218,20 @@ fn site_in(found: &ArgMatches) -> u16
     found.get_one::<u16>("site").unwrap_or(0)
 }
 
+// Whether a new store is asked for.
+fn create_in(found: &ArgMatches) -> bool
+    ensures { result ≡ create_in (rows_of (found_of found.now)) }
+{
+    found.get_one::<bool>("create").unwrap_or(false)
+}
+
+// How many seconds to wait for a store in use: 0 where no number is named.
+fn wait_in(found: &ArgMatches) -> u16
+    ensures { result ≡ wait_in (rows_of (found_of found.now)) }
+{
+    found.get_one::<u16>("wait").unwrap_or(0)
+}
+
 // How many turns links have: 100 where no number is named.
 fn turns_in(found: &ArgMatches) -> u16
     ensures { result ≡ turns_in (rows_of (found_of found.now)) }
@@ -146,6 +246,8 @@ fn parser<'a>(alloc: Global) -> Result<Parser<'a>, AllocError>
     let join = join_parser(alloc)?;
     let play = play_parser(alloc)?;
     let site = site_parser(alloc)?;
+    let serve = serve_parser(alloc)?;
+    let ask = ask_parser(alloc)?;
     let judge = judge_parser(alloc)?;
     let run = run_parser(alloc)?;
     Parser::new(alloc, "seat_cli")
@@ -158,6 +260,8 @@ fn parser<'a>(alloc: Global) -> Result<Parser<'a>, AllocError>
         .subcommand(join)?
         .subcommand(play)?
         .subcommand(site)?
+        .subcommand(serve)?
+        .subcommand(ask)?
         .subcommand(judge)?
         .subcommand(run)
 }
@@ -204,6 +308,62 @@ fn site_parser<'a>(alloc: Global) -> Result<Parser<'a>, AllocError>
         .arg(site)?
         .arg(store)?
         .arg(layout)
+}
+
+// A command of this name that serves a site.
+fn serving_parser<'a>(
+    alloc: Global,
+    name: &'a str,
+    usage: &'a str,
+    about: &'a str,
+    notes: &'a str,
+) -> Result<Parser<'a>, AllocError>
+    ensures { IfOk result (λ built. (app_of built ≡ serving_command name.now) × ((fields_of built).has_globals ≡ false)) }
+{
+    let site = site_option(alloc);
+    let store = store_option(alloc);
+    let layout = layout_option(alloc);
+    let group = text_option(alloc, "group", "NAME", help::GROUP);
+    let create = create_flag(alloc);
+    let wait = number_option(alloc, "wait", "SECONDS", help::WAIT);
+    let log = text_option(alloc, "log", "FILE", help::LOG);
+    Parser::new(alloc, name)
+        .override_usage(usage)
+        .about(about)
+        .after_help(notes)
+        .arg(site)?
+        .arg(store)?
+        .arg(layout)?
+        .arg(group)?
+        .arg(create)?
+        .arg(wait)?
+        .arg(log)
+}
+
+// The command `serve`.
+fn serve_parser<'a>(alloc: Global) -> Result<Parser<'a>, AllocError>
+    ensures { IfOk result (λ built. (app_of built ≡ serve_command) × ((fields_of built).has_globals ≡ false)) }
+{
+    let usage =
+        "seat_cli serve --site I --store FILE [--layout FILE] [--group NAME] [--create] [--wait SECONDS] [--log FILE]";
+    serving_parser(alloc, "serve", usage, help::SERVE, help::SERVE_NOTES)
+}
+
+// The command `ask`.
+fn ask_parser<'a>(alloc: Global) -> Result<Parser<'a>, AllocError>
+    ensures { IfOk result (λ built. (app_of built ≡ ask_command) × ((fields_of built).has_globals ≡ false)) }
+{
+    let first = first_word(alloc);
+    let second = word(alloc, "word2", help::WORD2);
+    let third = word(alloc, "word3", help::WORD3);
+    let fourth = word(alloc, "word4", help::WORD4);
+    let usage =
+        "seat_cli ask --site I --store FILE [--layout FILE] [--group NAME] [--create] [--wait SECONDS] [--log FILE] WORD..";
+    serving_parser(alloc, "ask", usage, help::ASK, help::ASK_NOTES)?
+        .arg(first)?
+        .arg(second)?
+        .arg(third)?
+        .arg(fourth)
 }
 
 // The command `judge`.
@@ -253,6 +413,36 @@ fn tables_flag<'a>(alloc: Global) -> Arg<'a>
         .long("tables")
         .help(help::TABLES)
         .action(ArgAction::SetTrue)
+}
+
+// The flag `--create`.
+fn create_flag<'a>(alloc: Global) -> Arg<'a>
+    ensures rule { rule_of result ≡ create_flag }
+    ensures local { result.global ≡ false }
+{
+    Arg::new(alloc, "create")
+        .long("create")
+        .help(help::CREATE)
+        .action(ArgAction::SetTrue)
+}
+
+// A word of a call.
+fn word<'a>(alloc: Global, name: &'a str, about: &'a str) -> Arg<'a>
+    ensures rule { rule_of result ≡ word name.now }
+    ensures local { result.global ≡ false }
+{
+    Arg::new(alloc, name)
+        .value_name("WORD")
+        .help(about)
+        .action(ArgAction::Set)
+}
+
+// The first word of a call, which is needed.
+fn first_word<'a>(alloc: Global) -> Arg<'a>
+    ensures rule { rule_of result ≡ first_word }
+    ensures local { result.global ≡ false }
+{
+    word(alloc, "word", help::WORD).required(true)
 }
 
 // The option `--site I`, which is needed.

@@ -10,14 +10,17 @@ Without arguments it is `join`. It reads standard input and writes standard outp
 
 Exit status:
   0  every line was carried out, whatever the replies; or help or the version was printed
+  1  the call of `ask` was refused
   2  the arguments are wrong, or `judge` was given no cut: `cut refused BadWord` on standard error
   3  there is no layout, or it has no such site: `layout refused NAME` on standard error
   4  a line can't be read, or `join` or `run` refused it, or the input is above 16 MiB: the output says which
   5  the store can't be used: `store refused NAME` on standard error; or it failed: a reply was `refused StoreFault`
   6  out of memory: `memory` on standard error
   7  reading or writing failed: `io` on standard error
+  8  the log can't be used: `log refused NAME` on standard error
 
 Examples:
+  seat_cli ask --site 0 --store site_0.db --create read a 7
   cat site_0.deltas site_1.deltas | seat_cli join --layout three_sites.toml
   printf '0 give a 1 1\\n0 send\\n1 take 0\\n1 read a 8\\n' | seat_cli play --tables
   printf '0 read a 7\\n1 read a 8\\n' | seat_cli run --out sites.log
@@ -91,6 +94,77 @@ committed, the reply is `refused StoreFault`, that to each later call `refused F
 
 Example:
   printf 'read a 7\\nleave a 7\\n' | seat_cli site --site 0 --store site_0.db";
+
+/// What `serve` does.
+pub const SERVE: &str = "Serves one site at once: answers each line before it reads the next one";
+
+/// What stands behind the options of `serve`.
+pub const SERVE_NOTES: &str = "\
+Each line of the input is a call as `site` has them, or one of these:
+  show NAME        the reply is `rights R inside I unfinished U`, from this site's own book
+  sessions NAME    the reply is the number of sessions at record NAME, then `H PHASE` of each, in order of arrival
+Each line gets one reply, which is printed before the next line is read. A change is committed before its reply is
+printed. There is no limit on the number of lines: a program starts `serve` and keeps two pipes to it.
+
+Unlike `site`, the service goes on behind a line that can't be read, whose reply is `refused BadWord`, one above
+2,097,157 bytes, `refused TooLong`, and one for which memory ran out, `refused Memory`. A delta that would give the site
+more rights to a record than it has seats is refused whole: `refused TooManySeats R`.
+
+FILE is the store that `site` makes too. Without --create it must be there, else `store refused NoStore`; with --create
+it must not be there, else `store refused Exists`. While another process has it open, `store refused InUse`: with --wait
+it is tried again for so many seconds, at most 65,535. These end with status 5.
+
+The site freezes when a change can't be committed: that reply is `refused StoreFault`. It also freezes when a delta shows
+that FILE is older than what other sites have seen of this one: that reply is `refused OwnRowAhead R`, and at the end
+`store refused Outdated` is on standard error. Each later reply is `refused Frozen`. The end of the input then has
+status 5, else 0.
+
+With --group the site is one of a group of sites: NAME is kept in a store that is made, and a store of another group, or
+of none, is refused with `store refused WrongGroup`. `send` then prints NAME, a blank and the delta, and `take` wants the
+same; any other text is `refused WrongGroup`, so that deltas of two groups with the same layout can't be mixed up. NAME
+has 1 to 32 bytes: a letter from a to z first, then such letters, digits and `-`.
+
+With --log each call and its reply are appended to FILE before the call is committed, so that `judge` can read the logs
+of all sites behind one another, even after a crash.
+
+Example:
+  printf 'read a 7\\nshow a\\nleave a 7\\n' | seat_cli serve --site 0 --store site_0.db --create";
+
+/// What `ask` does.
+pub const ASK: &str = "Makes one call at one site, and prints its reply";
+
+/// What stands behind the options of `ask`.
+pub const ASK_NOTES: &str = "\
+The words are a call as `serve` reads it. The status is 0 if the call was carried out and 1 if it was refused, so that
+`if seat_cli ask ..; then` works; it is 2 and above as for `serve`. The store is opened for this call alone.
+
+Example:
+  seat_cli ask --site 0 --store site_0.db --wait 5 read a 7";
+
+/// The flag `--create`.
+pub const CREATE: &str = "Make the store, which must not be there yet";
+
+/// The option `--wait`.
+pub const WAIT: &str =
+    "How many seconds to wait while another process has the store open, at most 65535 [default: 0]";
+
+/// The option `--group`.
+pub const GROUP: &str = "The name of the group of sites that this site belongs to [default: none]";
+
+/// The option `--log`.
+pub const LOG: &str = "The file that the site's log is appended to";
+
+/// The first word of a call.
+pub const WORD: &str = "The verb, as `read`";
+
+/// The second word of a call.
+pub const WORD2: &str = "The record, or the delta to take";
+
+/// The third word of a call.
+pub const WORD3: &str = "The holder, or the site to give to";
+
+/// The fourth word of a call.
+pub const WORD4: &str = "The number of seats to give";
 
 /// What `judge` does.
 pub const JUDGE: &str =
@@ -174,7 +248,7 @@ pub const FIRST: &str =
 pub const SITE_NUMBER: &str = "The number of the site in the layout, from 0";
 
 /// What `--store` names.
-pub const STORE: &str = "The file of the site's store, which is made where it is new";
+pub const STORE: &str = "The file of the site's store";
 
 /// What `--turns` says.
 pub const TURNS: &str = "How many turns each link has, from 1 to 1000 [default: 100]";

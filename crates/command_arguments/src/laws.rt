@@ -2,8 +2,8 @@
 ghost use Rattle.std.specs.Prelude.{◌≡◌, ◌∷◌, [], None, Some, codes, false, true};
 ghost use Rattle.clap.specs.Words.{fault_of};
 ghost use Rattle.clap.specs.declared.error.ErrorKind.TheVariants.{ArgumentConflict, InvalidSubcommand, InvalidValue, MissingRequiredArgument, TooManyValues, UnknownArgument, ValueValidation};
-ghost use Rattle.command_arguments.specs.Arguments.{called_with, named_command, named_value, program};
-ghost use Rattle.command_arguments.specs.declared.arguments.Command.TheVariants.{Join, Play, Site, Judge, Run};
+ghost use Rattle.command_arguments.specs.Arguments.{asked_words, called_with, named_command, named_value, program, said};
+ghost use Rattle.command_arguments.specs.declared.arguments.Command.TheVariants.{Join, Play, Site, Serve, Ask, Judge, Run};
 
 /// What arguments the program is called with and how they are read, by computation alone: the layout file that they
 /// name, and the kinds of error that clap may answer with.
@@ -56,6 +56,41 @@ pub fn site_arguments_read()
     ensures two_stores { fault_of program (called_with (codes "site" ∷ codes "--site=0" ∷ codes "--store=a" ∷ codes "--store=b" ∷ [])) ≡ ArgumentConflict ∷ [] }
     ensures stray_argument { fault_of program (called_with (codes "site" ∷ codes "--site=0" ∷ codes "--store=a" ∷ codes "b" ∷ [])) ≡ UnknownArgument ∷ [] }
     ensures store_of_play { fault_of program (called_with (codes "play" ∷ codes "--store=a" ∷ [])) ≡ UnknownArgument ∷ [] }
+{}
+
+/// The same of the command `serve`: the site and its store, which are needed; whether the store is made; how long to wait
+/// for it; the name of the site's group; and the file for the site's log.
+#[tactic(auto, unfolding(clap::proofs::OnLiterals::clap_on_literals))]
+pub fn serve_arguments_read()
+    ensures plain { named_command (called_with (codes "serve" ∷ codes "--site=1" ∷ codes "--store=a" ∷ [])) ≡ Serve 1 false 0 }
+    ensures created { named_command (called_with (codes "serve" ∷ codes "--create" ∷ codes "--store=a" ∷ codes "--site=0" ∷ [])) ≡ Serve 0 true 0 }
+    ensures waits { named_command (called_with (codes "serve" ∷ codes "--wait" ∷ codes "30" ∷ codes "--store=a" ∷ codes "--site=0" ∷ [])) ≡ Serve 0 false 30 }
+    ensures store { named_value (codes "store") (called_with (codes "serve" ∷ codes "--site=1" ∷ codes "--store" ∷ codes "a" ∷ [])) ≡ Some (codes "a") }
+    ensures log { named_value (codes "log") (called_with (codes "serve" ∷ codes "--site=1" ∷ codes "--store=a" ∷ codes "--log=b" ∷ [])) ≡ Some (codes "b") }
+    ensures no_log { named_value (codes "log") (called_with (codes "serve" ∷ codes "--site=1" ∷ codes "--store=a" ∷ [])) ≡ None }
+    ensures group { named_value (codes "group") (called_with (codes "serve" ∷ codes "--site=1" ∷ codes "--store=a" ∷ codes "--group=b" ∷ [])) ≡ Some (codes "b") }
+    ensures no_error { fault_of program (called_with (codes "serve" ∷ codes "--site=1" ∷ codes "--store=a" ∷ codes "--create" ∷ codes "--wait=1" ∷ [])) ≡ [] }
+    ensures no_store { fault_of program (called_with (codes "serve" ∷ codes "--site=1" ∷ [])) ≡ MissingRequiredArgument ∷ [] }
+    ensures bad_wait { fault_of program (called_with (codes "serve" ∷ codes "--site=1" ∷ codes "--store=a" ∷ codes "--wait=-1" ∷ [])) ≡ ValueValidation ∷ [] }
+    ensures stray_word { fault_of program (called_with (codes "serve" ∷ codes "--site=1" ∷ codes "--store=a" ∷ codes "b" ∷ [])) ≡ UnknownArgument ∷ [] }
+    ensures two_groups { fault_of program (called_with (codes "serve" ∷ codes "--site=1" ∷ codes "--store=a" ∷ codes "--group=b" ∷ codes "--group=c" ∷ [])) ≡ ArgumentConflict ∷ [] }
+    ensures create_of_site { fault_of program (called_with (codes "site" ∷ codes "--site=1" ∷ codes "--store=a" ∷ codes "--create" ∷ [])) ≡ UnknownArgument ∷ [] }
+{}
+
+/// The same of the command `ask`: one to four words behind the options.
+#[tactic(auto, unfolding(clap::proofs::OnLiterals::clap_on_literals))]
+pub fn ask_arguments_read()
+    ensures plain { named_command (called_with (codes "ask" ∷ codes "--site=1" ∷ codes "--store=a" ∷ codes "send" ∷ [])) ≡ Ask 1 false 0 }
+    ensures one { asked_words (called_with (codes "ask" ∷ codes "--site=1" ∷ codes "--store=a" ∷ codes "send" ∷ [])) ≡ said (Some (codes "send")) None None None }
+    ensures three { asked_words (called_with (codes "ask" ∷ codes "--site=1" ∷ codes "--store=a" ∷ codes "read" ∷ codes "a" ∷ codes "7" ∷ []))
+        ≡ said (Some (codes "read")) (Some (codes "a")) (Some (codes "7")) None }
+    ensures four { asked_words (called_with (codes "ask" ∷ codes "--site=1" ∷ codes "--store=a" ∷ codes "give" ∷ codes "a" ∷ codes "1" ∷ codes "2" ∷ []))
+        ≡ said (Some (codes "give")) (Some (codes "a")) (Some (codes "1")) (Some (codes "2")) }
+    ensures no_error { fault_of program (called_with (codes "ask" ∷ codes "--site=1" ∷ codes "--store=a" ∷ codes "--wait=5" ∷ codes "help" ∷ codes "a" ∷ [])) ≡ [] }
+    ensures group { named_value (codes "group") (called_with (codes "ask" ∷ codes "--site=1" ∷ codes "--store=a" ∷ codes "--group=b" ∷ codes "send" ∷ [])) ≡ Some (codes "b") }
+    ensures no_word { fault_of program (called_with (codes "ask" ∷ codes "--site=1" ∷ codes "--store=a" ∷ [])) ≡ MissingRequiredArgument ∷ [] }
+    ensures five_words { fault_of program (called_with (codes "ask" ∷ codes "--site=1" ∷ codes "--store=a" ∷ codes "give" ∷ codes "a" ∷ codes "1" ∷ codes "2" ∷ codes "3" ∷ []))
+        ≡ UnknownArgument ∷ [] }
 {}
 
 /// The same of the command `judge`: the word for a cut, and the layout file.

@@ -2,20 +2,13 @@
 use crate::ends::inlet;
 use crate::gates::TestGate;
 use crate::nets::{THREE, has_reports, jobs_of, numbers, run_sites};
-use crate::sites::{Job, Outcome, Shape, job_of, run_site};
+use crate::sites::{Job, Outcome, TWO, job_of, run_site};
 use admission_core::{Ask, Refusal, Reply};
 use crossbeam_channel::unbounded;
 use exchange_threads::End;
 use std::alloc::Global;
 use std::sync::Wait;
 use std::thread::Threads;
-
-const TWO: Shape = Shape {
-    sites: 2,
-    records: 1,
-    seats: 2,
-    problem: 1,
-};
 
 // Site 0 runs 40 turns, and site 1 goes away after 4.
 fn jobs_left(alloc: Global) -> Option<Vec<Job>> {

@@ -1,15 +1,16 @@
-//! Two sites with links that keep their order, one each way: gates that wait for one another, what one site hears of the
-//! other, early ends on either side, and many turns.
+//! Two sites with links that keep their order, one each way: gates, what one site hears of the other, early ends, many turns.
 ghost use Rattle.std.specs.Prelude.{◌≡◌};
 ghost use Rattle.admission_core.specs.Kept.{DurableState};
 
 use crate::gates::{Shared, TestGate};
-use crate::sites::{Job, Outcome, Shape, answered, closed, job_of, marks_of, opened, told};
+use crate::sites::{
+    Job, Outcome, Shape, WRITER_FIRST, answered, closed, job_of, marks_of, opened, told,
+};
 use crate::verdicts::full_verdict;
 use admission_core::{Ask, Refusal, Reply};
 use exchange_threads::Fate;
 use log_judge::Verdict;
-use ruled_pair::{PairReport, RuledEnd, run_ruled_pair};
+use ruled_pair::{PairError, PairReport, RuledEnd, run_ruled_pair};
 use session_book::{Opening, Pass, Site};
 use std::alloc::Global;
 use std::marker::Brand;
@@ -18,13 +19,6 @@ use std::sync::ledger::Blank;
 use std::sync::{Arc, Wait};
 use std::thread::Threads;
 use test_keepers::Fake;
-
-const TWO: Shape = Shape {
-    sites: 2,
-    records: 1,
-    seats: 2,
-    problem: 2,
-};
 
 // The passes of a site: those of its runners, and its caller's.
 const PASSES: u16 = 3;
@@ -38,15 +32,25 @@ struct PairOutcome {
     back: PairReport,
 }
 
+// A site that is open, the ends of its links, its caller's pass, and what its caller was answered before the links ran.
+#[derive(Drop)]
+struct Side<L: Opening> {
+    site: Site<Fake, L>,
+    end: RuledEnd<L, TestGate>,
+    caller: Pass<L>,
+    before: Option<Reply>,
+}
+
 // Takes the passes of a new site apart.
 fn end_of<L: Opening>(
     passes: Vec<Pass<L>>,
     gate: TestGate,
 ) -> Option<(RuledEnd<L, TestGate>, Pass<L>)> {
     let mut passes = passes;
-    let caller = passes.pop()?;
-    let in_pass = passes.pop()?;
-    let out_pass = passes.pop()?;
+    let (Some(caller), Some(in_pass), Some(out_pass)) = (passes.pop(), passes.pop(), passes.pop())
+    else {
+        return None;
+    };
     let end = RuledEnd {
         out_pass,
         in_pass,
@@ -55,27 +59,64 @@ fn end_of<L: Opening>(
     Some((end, caller))
 }
 
-// What came of a site whose runners have ended.
-fn outcome_of<L: Opening, R: Wait>(
+// Opens a site, whose caller then asks what it has to ask first.
+fn side_of<L: Opening, R: Wait>(
     rt: &R,
     alloc: Global,
-    site: Site<Fake, L>,
-    (end, caller): (RuledEnd<L, TestGate>, Pass<L>),
-    before: Option<Reply>,
-    after: Option<Ask>,
-) -> Option<Outcome> {
+    blank: Blank,
+    job: &Job,
+    gate: TestGate,
+) -> Option<Side<L>>
+    requires name { blank.name ≡ L.name }
+    requires parts { blank.parts ≡ L.parts }
+    requires unknown { (d : DurableState) → ¬ L.kept d }
+    requires one_each { blank.parts ≡ 3 }
+{
+    let (site, passes) = opened::<L>(alloc, blank, job, PASSES)?;
+    let (end, mut caller) = end_of(passes, gate)?;
+    let before = answered(rt, &site, &mut caller, job.before);
+    Some(Side {
+        site,
+        end,
+        caller,
+        before,
+    })
+}
+
+// The passes of a site's runners, in a vector with a place more, and how many tell a stopped site, and how many a full log.
+fn passes_of<L: Opening>(
+    alloc: Global,
+    end: RuledEnd<L, TestGate>,
+) -> Option<(Vec<Pass<L>>, (u64, u64))> {
     let RuledEnd {
         out_pass,
         in_pass,
         gate: _,
     } = end;
-    let mut caller = caller;
-    let mut all = Vec::new(alloc);
+    let mut all = Vec::with_capacity(alloc, 3).ok()?;
     all.push(out_pass).ok()?;
     all.push(in_pass).ok()?;
     let marks = marks_of(all.as_slice());
+    Some((all, marks))
+}
+
+// What came of a site whose runners have ended.
+fn outcome_of<L: Opening, R: Wait>(
+    rt: &R,
+    alloc: Global,
+    side: Side<L>,
+    after: Option<Ask>,
+) -> Option<Outcome> {
+    let Side {
+        site,
+        end,
+        caller,
+        before,
+    } = side;
+    let mut caller = caller;
     let after = answered(rt, &site, &mut caller, after);
     let known = told(rt, &site, &mut caller);
+    let (mut all, marks) = passes_of(alloc, end)?;
     all.push(caller).ok()?;
     let transcript = closed(rt, site, all)?;
     Some(Outcome {
@@ -96,7 +137,7 @@ fn run_two_over<L: Opening + Send + Sync, M: Opening + Send + Sync, R: Threads +
     first: &Job,
     second: &Job,
     gates: (TestGate, TestGate),
-) -> Option<PairOutcome>
+) -> Option<Result<PairOutcome, PairError>>
     requires name { one.name ≡ L.name }
     requires parts { one.parts ≡ L.parts }
     requires unknown { (d : DurableState) → ¬ L.kept d }
@@ -106,44 +147,48 @@ fn run_two_over<L: Opening + Send + Sync, M: Opening + Send + Sync, R: Threads +
     requires other_unknown { (d : DurableState) → ¬ M.kept d }
     requires other_each { other.parts ≡ 3 }
 {
-    let (site, passes) = opened::<L>(alloc, one, first, PASSES)?;
-    let (mut end, mut caller) = end_of(passes, gates.0)?;
-    let (peer, passes) = opened::<M>(alloc, other, second, PASSES)?;
-    let (mut peer_end, mut peer_caller) = end_of(passes, gates.1)?;
-    let before = answered(rt, &site, &mut caller, first.before);
-    let peer_before = answered(rt, &peer, &mut peer_caller, second.before);
-    let turns = first.turns.min(1_000_000_000);
-    let (there, back) = run_ruled_pair(
-        rt,
-        alloc,
-        &site,
-        &peer,
-        &mut end,
-        &mut peer_end,
-        turns,
-    ).ok()?;
-    Some(PairOutcome {
-        first: outcome_of(rt, alloc, site, (end, caller), before, first.after)?,
-        second: outcome_of(
-            rt,
-            alloc,
-            peer,
-            (peer_end, peer_caller),
-            peer_before,
-            second.after,
-        )?,
-        there,
-        back,
-    })
+    let mut side = side_of::<L, R>(rt, alloc, one, first, gates.0)?;
+    let mut peer = side_of::<M, R>(rt, alloc, other, second, gates.1)?;
+    let linked = link_sides(rt, alloc, &mut side, &mut peer, first.turns);
+    let first = outcome_of(rt, alloc, side, first.after)?;
+    let second = outcome_of(rt, alloc, peer, second.after)?;
+    match linked {
+        Ok((there, back)) => Some(Ok(PairOutcome {
+            first,
+            second,
+            there,
+            back,
+        })),
+        Err(error) => Some(Err(error)),
+    }
 }
 
-// Opens two sites, runs their links and closes them; `None` where there was no memory to do so.
+// Runs the links of two sites.
+fn link_sides<L: Opening + Send + Sync, M: Opening + Send + Sync, R: Threads + Wait + Sync>(
+    rt: &R,
+    alloc: Global,
+    side: &mut Side<L>,
+    peer: &mut Side<M>,
+    turns: u64,
+) -> Result<(PairReport, PairReport), PairError> {
+    run_ruled_pair(
+        rt,
+        alloc,
+        &side.site,
+        &peer.site,
+        &mut side.end,
+        &mut peer.end,
+        turns.min(1_000_000_000),
+    )
+}
+
+// Opens two sites, runs their links and closes them; `None` where there was no memory to open or to close.
 fn run_pair<R: Threads + Wait + Sync>(
     rt: &R,
     alloc: Global,
     jobs: (&Job, &Job),
     gates: (TestGate, TestGate),
-) -> Option<PairOutcome> {
+) -> Option<Result<PairOutcome, PairError>> {
     let one = Blank::new(3);
     let other = Blank::new(3);
     run_two_over::<Brand, Brand, R>(rt, alloc, one, other, jobs.0, jobs.1, gates)
@@ -189,17 +234,27 @@ fn meeting_gates(alloc: Global, seen: &Shared) -> Option<(TestGate, TestGate)> {
     Some((first, second))
 }
 
-// How often a gate saw the other, and how many texts were put and taken.
-fn meets<R: Threads + Wait + Sync>(rt: &R, alloc: Global) -> Option<(u64, [usize; 4])> {
-    let seen: Shared = Arc::new(alloc, AtomicU64::new(0)).ok()?;
-    let (first, second) = pair_jobs(alloc, TWO, 4);
-    let ended = run_pair(rt, alloc, (&first, &second), meeting_gates(alloc, &seen)?)?;
-    let counts = [
+// How many texts were put and taken from the first site to the second, and from the second to the first.
+fn counts_of<R: Threads + Wait + Sync>(
+    rt: &R,
+    alloc: Global,
+    turns: u64,
+    gates: (TestGate, TestGate),
+) -> Option<[usize; 4]> {
+    let (first, second) = pair_jobs(alloc, WRITER_FIRST, turns);
+    let ended = run_pair(rt, alloc, (&first, &second), gates)?.ok()?;
+    Some([
         ended.there.put.len(),
         ended.there.taken.len(),
         ended.back.put.len(),
         ended.back.taken.len(),
-    ];
+    ])
+}
+
+// How often a gate saw the other, and how many texts were put and taken.
+fn meets<R: Threads + Wait + Sync>(rt: &R, alloc: Global) -> Option<(u64, [usize; 4])> {
+    let seen: Shared = Arc::new(alloc, AtomicU64::new(0)).ok()?;
+    let counts = counts_of(rt, alloc, 4, meeting_gates(alloc, &seen)?)?;
     Some((seen.load(Ordering::SeqCst), counts))
 }
 
@@ -210,9 +265,27 @@ fn gates_of_both_sites_wait_for_each_other(rt: HostRuntime) {
     assert!(rt; found == Some((2, [4, 4, 4, 4])), "{found:?}");
 }
 
+// A gate that is open at turns 1 and 4 of 6, at one of the sites, and one that is open at each turn at the other.
+fn uneven_gates(first: bool) -> (TestGate, TestGate) {
+    if first {
+        (TestGate::Thirds, TestGate::Always)
+    } else {
+        (TestGate::Always, TestGate::Thirds)
+    }
+}
+
+// Each outbox asks the gate of its own site.
+#[test]
+fn a_gate_that_is_shut_stops_its_own_site_alone(rt: HostRuntime) {
+    for (first, counts) in [(true, [2, 2, 6, 6]), (false, [6, 6, 2, 2])] {
+        let found = counts_of(&rt, rt.alloc(), 6, uneven_gates(first));
+        assert!(rt; found == Some(counts), "{first} {found:?}");
+    }
+}
+
 // What a reader at site 0 is answered once site 1 has announced a writer and told of it, and the verdict on both logs.
 fn hears<R: Threads + Wait + Sync>(rt: &R, alloc: Global) -> Option<(bool, Verdict)> {
-    let (mut first, mut second) = pair_jobs(alloc, TWO, 8);
+    let (mut first, mut second) = pair_jobs(alloc, WRITER_FIRST, 8);
     second.before = Some(Ask::Announce { r: 0, h: 5 });
     first.after = Some(Ask::Read { r: 0, h: 1 });
     let gates = (TestGate::Always, TestGate::Always);
@@ -221,13 +294,13 @@ fn hears<R: Threads + Wait + Sync>(rt: &R, alloc: Global) -> Option<(bool, Verdi
         second,
         there,
         back,
-    } = run_pair(rt, alloc, (&first, &second), gates)?;
+    } = run_pair(rt, alloc, (&first, &second), gates)?.ok()?;
     let waits = matches!(
         first.after,
         Some(Reply::Refused(Refusal::WriterAnnounced { site: 1 }))
     );
     let whole = is_prefix(&there) && is_prefix(&back);
-    let verdict = verdict_of(alloc, TWO, first, second)?;
+    let verdict = verdict_of(alloc, WRITER_FIRST, first, second)?;
     Some((waits && whole, verdict))
 }
 
@@ -263,7 +336,7 @@ fn stops<R: Threads + Wait + Sync>(
     site: usize,
     stop: Stop,
 ) -> Option<(bool, Verdict)> {
-    let (mut first, mut second) = pair_jobs(alloc, TWO, LONG);
+    let (mut first, mut second) = pair_jobs(alloc, WRITER_FIRST, LONG);
     first.limit = 65_536;
     second.limit = 65_536;
     second.before = Some(Ask::Announce { r: 0, h: 5 });
@@ -273,7 +346,7 @@ fn stops<R: Threads + Wait + Sync>(
         Stop::Fails => stopped.left = Some(1),
     }
     let gates = (TestGate::Always, TestGate::Always);
-    let ended = run_pair(rt, alloc, (&first, &second), gates)?;
+    let ended = run_pair(rt, alloc, (&first, &second), gates)?.ok()?;
     let PairOutcome {
         first,
         second,
@@ -283,7 +356,7 @@ fn stops<R: Threads + Wait + Sync>(
     let marks = if site == 0 { first.marks } else { second.marks };
     let early = there.out.turns < LONG && back.out.turns < LONG;
     let fits = is_prefix(&there) && is_prefix(&back) && is_stopped(stop, marks);
-    let verdict = verdict_of(alloc, TWO, first, second)?;
+    let verdict = verdict_of(alloc, WRITER_FIRST, first, second)?;
     Some((early && fits, verdict))
 }
 
@@ -327,7 +400,7 @@ fn runs_long<R: Threads + Wait + Sync>(
         second,
         there,
         back,
-    } = run_pair(rt, alloc, (&first, &second), gates)?;
+    } = run_pair(rt, alloc, (&first, &second), gates)?.ok()?;
     let fits = is_prefix(&there) && is_prefix(&back);
     let merged = [merges_in(&there), merges_in(&back)];
     let verdict = verdict_of(alloc, MANY, first, second)?;
@@ -354,51 +427,74 @@ fn a_thousand_turns_with_64_records(rt: HostRuntime) {
     );
 }
 
-// Why two sites with one number are not linked.
-fn links_itself<R: Threads + Wait + Sync>(rt: &R, alloc: Global) -> Option<bool> {
-    let (first, mut second) = pair_jobs(alloc, TWO, 4);
+// Why two sites with one number are not linked, if they are not.
+fn links_itself<R: Threads + Wait + Sync>(rt: &R, alloc: Global) -> Option<PairError> {
+    let (first, mut second) = pair_jobs(alloc, WRITER_FIRST, 4);
     second.site = 0;
     let gates = (TestGate::Always, TestGate::Always);
-    Some(run_pair(rt, alloc, (&first, &second), gates).is_none())
+    run_pair(rt, alloc, (&first, &second), gates)?.err()
 }
 
 #[test]
 fn a_site_is_not_linked_to_itself(rt: HostRuntime) {
-    assert!(rt; links_itself(&rt, rt.alloc()) == Some(true));
+    assert!(rt; links_itself(&rt, rt.alloc()) == Some(PairError::NoLink));
 }
 
-// The turns without memory of both directions, if all that both reports say fits: what was taken is what was put first, and
-// each text has its place or its fate.
-fn lacks_of(ended: &PairOutcome) -> Option<u64> {
-    let PairOutcome {
-        first: _,
-        second: _,
-        there,
-        back,
-    } = ended;
-    if !is_prefix(there) || !is_prefix(back) {
-        return None;
+const GROWTH_TURNS: u64 = 8;
+
+// The turns without memory of a direction, if its report fits: what was taken is what was put first, each text has its place
+// or its fate, and each turn brought a text that was merged or met want of memory.
+fn lacks_of(report: &PairReport) -> Option<u64> {
+    let lacks = report.out.memory.saturating_add(report.got.memory);
+    let each = (merges_in(report) as u64).saturating_add(lacks) == GROWTH_TURNS;
+    if each && report.out.turns == GROWTH_TURNS && is_prefix(report) {
+        Some(lacks)
+    } else {
+        None
     }
-    let there_lacks = there.out.memory.saturating_add(there.got.memory);
-    let back_lacks = back.out.memory.saturating_add(back.got.memory);
-    Some(there_lacks.saturating_add(back_lacks))
 }
 
-// The turns without memory of a run of two sites.
-fn counted_once<R: Threads + Wait + Sync>(rt: &R, alloc: Global) -> Option<u64> {
-    let (first, mut second) = pair_jobs(alloc, TWO, 8);
+// What came of the turns of two sites under a refused allocation.
+#[derive(Clone, Copy, Debug, PartialEq, Eq)]
+enum Growth {
+    // So many turns met want of memory; `None` where a report does not fit.
+    Ran(Option<u64>),
+    // No runner was started.
+    Refused(PairError),
+    // A site was not opened or not closed.
+    NotOpen,
+}
+
+// What came of a run of two sites.
+fn growth_of<R: Threads + Wait + Sync>(rt: &R, alloc: Global) -> Growth {
+    let (first, mut second) = pair_jobs(alloc, WRITER_FIRST, GROWTH_TURNS);
     second.before = Some(Ask::Announce { r: 0, h: 5 });
     let gates = (TestGate::Always, TestGate::Always);
-    lacks_of(&run_pair(rt, alloc, (&first, &second), gates)?)
+    match run_pair(rt, alloc, (&first, &second), gates) {
+        Some(Ok(ended)) => match (lacks_of(&ended.there), lacks_of(&ended.back)) {
+            (Some(there), Some(back)) => Growth::Ran(Some(there.saturating_add(back))),
+            _ => Growth::Ran(None),
+        },
+        Some(Err(error)) => Growth::Refused(error),
+        None => Growth::NotOpen,
+    }
 }
 
-// At most one allocation is refused: before the runners start there is no outcome, and another run, which meets none, has no
-// such turn; later at most one turn is counted.
+// At most one allocation is refused: before the runners start no link is made for want of memory, or a site is not open, and
+// another run, which meets no refusal, has no turn without memory; later at most one turn is counted.
 #[test]
 fn refused_growths_of_a_pair_are_counted(rt: HostRuntime) {
-    let lacks = match counted_once(&rt, rt.alloc()) {
-        Some(lacks) => Some(lacks),
-        None => counted_once(&rt, rt.alloc()),
+    let found = growth_of(&rt, rt.alloc());
+    let again = match found {
+        Growth::Refused(PairError::Memory) | Growth::NotOpen => growth_of(&rt, rt.alloc()),
+        _ => Growth::Ran(Some(0)),
     };
-    assert!(rt; matches!(lacks, Some(0 | 1)), "{lacks:?}");
+    let fits = !matches!(
+        found,
+        Growth::Ran(None | Some(2..)) | Growth::Refused(PairError::NoLink)
+    );
+    assert!(rt;
+        fits && again == Growth::Ran(Some(0)),
+        "{found:?} {again:?}"
+    );
 }

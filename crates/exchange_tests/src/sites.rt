@@ -24,6 +24,22 @@ pub struct Shape {
     pub problem: u16,
 }
 
+/// Two sites with one record of two seats, where readers may go before a waiting writer.
+pub const TWO: Shape = Shape {
+    sites: 2,
+    records: 1,
+    seats: 2,
+    problem: 1,
+};
+
+/// The same where they may not.
+pub const WRITER_FIRST: Shape = Shape {
+    sites: 2,
+    records: 1,
+    seats: 2,
+    problem: 2,
+};
+
 /// A site with the ends of its links, and what happens to it.
 #[derive(Drop)]
 pub struct Job {

@@ -1,7 +1,7 @@
 //! The texts that an outbox sends, and those that an inbox refuses.
 use crate::ends::inlet;
 use crate::gates::TestGate;
-use crate::sites::{Outcome, Shape, job_of, run_site};
+use crate::sites::{Outcome, Shape, TWO, job_of, run_site};
 use crossbeam_channel::unbounded;
 use exchange_threads::{End, RefusalName, Refusals, Report};
 use std::alloc::Global;
@@ -9,13 +9,6 @@ use std::sync::Wait;
 use std::thread::Threads;
 
 // Two sites, one record with two seats.
-const TWO: Shape = Shape {
-    sites: 2,
-    records: 1,
-    seats: 2,
-    problem: 1,
-};
-
 // A text with a blank, one that is cut, and one of a layout of three sites.
 static UNFIT: [&str; 3] = [
     "{\"from\":0, \"rows\":[{\"ann\":0,\"fin\":0,\"out\":[2,1],\"r\":0,\"s\":0,\"taken\":0}],\"v\":1}",

@@ -1,5 +1,5 @@
 -- What came of a text, from what the inbox's report says of it.
-use Rattle.std.proofs.Common.{◌≡◌, ℕ, ◌+◌, Bool, true, false, true≢false, List, [], ◌++◌, refl, sym, arith, append-nil}
+use Rattle.std.proofs.Common.{◌≡◌, ℕ, ◌+◌, Bool, true, false, true≢false, List, [], refl, sym, arith, append-nil}
 use Rattle.std.specs.Prelude.{Err}
 use Rattle.delta_codec.specs.declared.fault.DecodeError.{DecodeError}
 use Rattle.delta_codec.specs.declared.fault.DecodeError.TheVariants.{TooLong, NotUtf8, NotJson, NotCanonical, Memory}

@@ -68,6 +68,11 @@ abbrev pub receipts_from : List Taken → List Receipt
 receipts_from [] = []
 receipts_from (t ∷ ts) = fate_receipts t.fate ++ receipts_from ts
 
+-- the texts themselves, in order
+abbrev pub texts_from : List Taken → List (List ℕ)
+texts_from [] = []
+texts_from (t ∷ ts) = t.text ∷ texts_from ts
+
 -- the names that texts are counted by, in order
 abbrev pub names_from : List Taken → List RefusalName
 names_from [] = []
@@ -81,22 +86,24 @@ raise_of _ = 0
 abbrev pub raised_by : Receipt → ℕ
 raised_by r = raise_of r.reply
 
--- A text that ended the run is counted as taken: the pass was told that the site has stopped, or that its log is full.
-abbrev pub IsInReason : Turn → PassState → ℕ → Type 0
-IsInReason EndsRun p cut = (cut ≡ 0) ⊎ ((cut ≡ 1) × IsMarked p)
-IsInReason _ p cut = cut ≡ 0
+-- A text that ended the run is one of the texts that were taken: the pass was told that the site has stopped, or that its
+-- log is full.
+abbrev pub IsInReason : Turn → PassState → List (List ℕ) → Type 0
+IsInReason EndsRun p cut = (cut ≡ []) ⊎ ((length cut ≡ 1) × IsMarked p)
+IsInReason _ p cut = cut ≡ []
 
--- Turns of an inbox took these texts. Each left a receipt of a `Merge` of its delta, or was counted by the name of its
--- refusal, or by its turn in `memory`; where `cut` is 1 a last text ended the run. Of the turns, `skipped` met want of
--- memory before they took a text, and the last may have ended the run.
-pub record HasHeard (old new : PassState) (before now : InReport) (turns : ℕ) (last : Turn) : Type 0 where
+-- Turns of an inbox took these texts, in order. Each left a receipt of a `Merge` of its delta, or was counted by the name of
+-- its refusal, or by its turn in `memory`; `cut` has the last text where it ended the run. Of the turns, `skipped` met want
+-- of memory before they took a text, and the last may have ended the run.
+pub record HasHeard (texts : List (List ℕ)) (old new : PassState) (before now : InReport) (turns : ℕ) (last : Turn) : Type 0 where
   pub takes : List Taken
   pub skipped : ℕ
-  pub cut : ℕ
+  pub cut : List (List ℕ)
+  pub listed : texts ≡ texts_from takes ++ cut
   pub number : new.number ≡ old.number
   pub grows : new.receipts ≡ old.receipts ++ receipts_from takes
   pub each : All IsTaken takes
-  pub taken : now.taken ≡ before.taken + (length takes + cut)
+  pub taken : now.taken ≡ before.taken + length texts
   pub raised : now.raised ≡ before.raised + sum_by raised_by (receipts_from takes)
   pub refused : now.refused.names ≡ count_names before.refused.names (names_from takes)
   pub memory : now.memory ≡ before.memory + (count_by is_lacking takes + skipped)
@@ -170,16 +177,28 @@ abbrev pub IsInEnd : Turn → ℕ → ℕ → Type 0
 IsInEnd EndsRun asked turns = turns ≤ asked
 IsInEnd _ asked turns = turns ≡ asked
 
--- a whole run of an inbox, how many turns it began, and how its last one went
-pub record HasRunIn (old new : PassState) (asked : ℕ) (r : InReport) : Type 0 where
+-- a turn of an inbox at an inlet whose account had these texts and has those of the turn behind them now
+pub record HasTurned (accounts : List (List ℕ) → ℕ → Bool → Type 0) (earlier : List (List ℕ)) (old new : PassState) (before now : InReport) (last : Turn) : Type 0 where
+  pub texts : List (List ℕ)
+  pub heard : HasHeard texts old new before now 1 last
+  pub ended : Bool
+  pub account : accounts (earlier ++ texts) now.memory ended
+  pub marked : ended ≡ true → (last ≡ EndsRun) × IsMarked new
+
+-- a whole run of an inbox that took these texts, how many turns it began, and how its last one went
+pub record HasRunIn (texts : List (List ℕ)) (old new : PassState) (asked : ℕ) (r : InReport) : Type 0 where
   pub turns : ℕ
   pub last : Turn
-  pub heard : HasHeard old new nothing_heard r turns last
+  pub heard : HasHeard texts old new nothing_heard r turns last
   pub within : IsInAt asked r
   pub ending : IsInEnd last asked turns
 
--- .. at an inlet that is closed or not now: a run that ended early found the site stopped or its log full, or the inlet
--- closed
-pub record HasRunInAt (closed : Type 0) (old new : PassState) (asked : ℕ) (r : InReport) : Type 0 where
-  pub ran : HasRunIn old new asked r
+-- .. at an inlet that is closed or not now, and whose account has these texts now: a run that ended early found the site
+-- stopped or its log full, or the inlet closed
+pub record HasRunInAt (closed : Type 0) (accounts : List (List ℕ) → Bool → Type 0) (old new : PassState) (asked : ℕ) (r : InReport) : Type 0 where
+  pub texts : List (List ℕ)
+  pub ran : HasRunIn texts old new asked r
   pub early : ran.last ≡ EndsRun → closed ⊎ IsMarked new
+  pub ended : Bool
+  pub account : accounts texts ended
+  pub marked : ended ≡ true → IsMarked new

@@ -1,8 +1,8 @@
-ghost use Rattle.std.specs.Prelude.{◌≡◌, ◌⊎◌, ◌+◌, ◌*◌, ◌<◌, ◌≤◌, Bool, true, false};
+ghost use Rattle.std.specs.Prelude.{◌≡◌, ◌⊎◌, ℕ, ◌<◌, ◌≤◌, false, List, []};
 ghost use Rattle.exchange_threads.specs.Turns.{IsMarked};
 ghost use Rattle.exchange_threads.specs.declared.turn.Turn.TheVariants.{EndsRun};
 ghost use Rattle.exchange_threads.specs.Fates.{HasFate};
-ghost use Rattle.exchange_threads.specs.Inbox.{HearsText, HasHeard, HasRunIn, HasRunInAt, CanCount, CountsTurn};
+ghost use Rattle.exchange_threads.specs.Inbox.{HearsText, HasTurned, HasRunIn, HasRunInAt, CanCount, CountsTurn};
 
 use crate::fate::{Fate, merge_fate, unread_fate};
 use crate::inlet::{Inlet, TakeError};
@@ -55,10 +55,10 @@ fn in_turn<K: Keeper, L: Opening, I: Inlet, R: Wait>(
     report: &mut InReport,
 ) -> Turn
     requires fits { CanCount report.old }
-    requires accounts { I.accounts inlet.old pass.old.receipts report.old.taken report.old.memory false }
-    ensures heard { HasHeard pass.old pass.new report.old report.new 1 result }
+    requires accounts { (texts : List (List ℕ)) × I.accounts inlet.old pass.old.receipts texts report.old.memory false }
+    ensures turned { (texts : List (List ℕ)) → I.accounts inlet.old pass.old.receipts texts report.old.memory false
+        → HasTurned (I.accounts inlet.new pass.new.receipts) texts pass.old pass.new report.old report.new result }
     ensures counts { CountsTurn report.old report.new }
-    ensures accounts { (ended : Bool) × I.accounts inlet.new pass.new.receipts report.new.taken report.new.memory ended × (ended ≡ true → (result ≡ EndsRun) × IsMarked pass.new) }
     ensures early { result ≡ EndsRun → I.closed inlet.new ⊎ IsMarked pass.new }
     ensures same { I.same inlet.old inlet.new }
 {
@@ -80,8 +80,8 @@ fn in_turn<K: Keeper, L: Opening, I: Inlet, R: Wait>(
 }
 
 /// Runs an inbox of a site for so many turns, of which there are at most 10^9, at any inlet. As [`run_inbox`] does, whose
-/// channel is one. The caller shows that the inlet's account begins with the pass's receipts; afterwards it is right of
-/// what was taken, and where it says that the last text ended the run, the pass has a mark. A take that is refused as
+/// channel is one. The caller shows that the inlet's account begins with the pass's receipts; afterwards it has the texts
+/// that were taken, and where it says that the last text ended the run, the pass has a mark. A take that is refused as
 /// `Closed` ends the run, and one refused as `Memory` the turn.
 pub fn run_inbox_at<K: Keeper, L: Opening, I: Inlet, R: Wait>(
     rt: &R,
@@ -92,9 +92,8 @@ pub fn run_inbox_at<K: Keeper, L: Opening, I: Inlet, R: Wait>(
     turns: u64,
 ) -> InReport
     requires few { turns ≤ 1000000000 }
-    requires accounts { I.accounts inlet.old pass.old.receipts 0 0 false }
-    ensures ran { HasRunInAt (I.closed inlet.new) pass.old pass.new turns result }
-    ensures accounts { (ended : Bool) × I.accounts inlet.new pass.new.receipts result.taken result.memory ended × (ended ≡ true → IsMarked pass.new) }
+    requires accounts { I.accounts inlet.old pass.old.receipts [] 0 false }
+    ensures ran { HasRunInAt (I.closed inlet.new) (λ texts ended. I.accounts inlet.new pass.new.receipts texts result.memory ended) pass.old pass.new turns result }
     ensures same { I.same inlet.old inlet.new }
 {
     let mut report = InReport::new(alloc);
@@ -125,7 +124,7 @@ pub fn run_inbox<K: Keeper, L: Opening, R: Wait>(
     turns: u64,
 ) -> InReport
     requires few { turns ≤ 1000000000 }
-    ensures { HasRunIn pass.old pass.new turns result }
+    ensures { (texts : List (List ℕ)) × HasRunIn texts pass.old pass.new turns result }
 {
     let mut inlet = receiver;
     run_inbox_at(rt, alloc, site, pass, &mut inlet, turns)

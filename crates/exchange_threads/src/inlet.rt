@@ -1,4 +1,4 @@
-ghost use Rattle.std.specs.Prelude.{◌≡◌, ⊤, ℕ, ◌+◌, Bool, true, false, List, ◌++◌, length, string_bytes, Err, MatchResult};
+ghost use Rattle.std.specs.Prelude.{◌≡◌, ⊤, ℕ, ◌+◌, Bool, true, false, List, [], ◌∷◌, ◌++◌, length, string_bytes, Err, MatchResult};
 ghost use Rattle.exchange_threads.specs.declared.inlet.TakeError.TheVariants.{Closed};
 ghost use Rattle.session_book.specs.declared.pass.Receipt.{Receipt};
 ghost use Rattle.exchange_threads.specs.Fates.{IsFateOf, fate_lacks, is_ended};
@@ -20,12 +20,12 @@ pub enum TakeError {
 
 /// Where an inbox takes its texts from. An inlet may keep an account of them and of what came of each.
 pub trait Inlet {
-    /// The account is right where the pass has these receipts, so many texts were taken, so many turns met want of memory,
-    /// and a last text ended the run or not.
-    ghost accounts: { Self → List Receipt → ℕ → ℕ → Bool → Type 0 };
+    /// The account is right where the pass has these receipts, these texts were taken, so many turns met want of memory, and
+    /// a last text ended the run or not.
+    ghost accounts: { Self → List Receipt → List (List ℕ) → ℕ → Bool → Type 0 };
 
     /// The account is right but for a text in hand.
-    ghost holds: { Self → List ℕ → List Receipt → ℕ → ℕ → Type 0 };
+    ghost holds: { Self → List ℕ → List Receipt → List (List ℕ) → ℕ → Type 0 };
 
     /// No text will come any more.
     ghost closed: { Self → Type 0 };
@@ -35,15 +35,16 @@ pub trait Inlet {
 
     /// Takes the next text. `Memory` leaves it where it is. May wait.
     fn take<R: Wait>(&mut self, rt: &R) -> Result<String, TakeError>
-        ensures taken { (rs : List Receipt) (n m : ℕ) → accounts self.old rs n m false → MatchResult result (λ text. holds self.new (string_bytes text) rs n m) (λ _. accounts self.new rs n m false) }
+        ensures taken { (rs : List Receipt) (ts : List (List ℕ)) (m : ℕ) → accounts self.old rs ts m false
+            → MatchResult result (λ text. holds self.new (string_bytes text) rs ts m) (λ _. accounts self.new rs ts m false) }
         ensures closed { result ≡ Err Closed → closed self.new }
         ensures same { same self.old self.new };
 
     /// Notes what came of the text in hand. The caller shows that it is. Takes no memory.
     fn note(&mut self, text: String, fate: Fate)
-        requires in_hand { (rs : List Receipt) × (n : ℕ) × (m : ℕ) × holds self.old (string_bytes text) rs n m }
-        ensures noted { (rs added : List Receipt) (n m : ℕ) → holds self.old (string_bytes text) rs n m
-            → IsFateOf (string_bytes text) fate (length rs) added → accounts self.new (rs ++ added) (n + 1) (m + fate_lacks fate) (is_ended fate) }
+        requires in_hand { (rs : List Receipt) × (ts : List (List ℕ)) × (m : ℕ) × holds self.old (string_bytes text) rs ts m }
+        ensures noted { (rs added : List Receipt) (ts : List (List ℕ)) (m : ℕ) → holds self.old (string_bytes text) rs ts m
+            → IsFateOf (string_bytes text) fate (length rs) added → accounts self.new (rs ++ added) (ts ++ string_bytes text ∷ []) (m + fate_lacks fate) (is_ended fate) }
         ensures same { same self.old self.new };
 
     ghost same_as_itself: { (e : Self) → same e e };
@@ -51,7 +52,7 @@ pub trait Inlet {
     ghost same_later: { (a b c : Self) → same a b → same b c → same a c };
 
     /// The account stays right as more turns meet want of memory.
-    ghost lacks: { (e : Self) (rs : List Receipt) (n m k : ℕ) (ended : Bool) → accounts e rs n m ended → accounts e rs n (m + k) ended };
+    ghost lacks: { (e : Self) (rs : List Receipt) (ts : List (List ℕ)) (m k : ℕ) (ended : Bool) → accounts e rs ts m ended → accounts e rs ts (m + k) ended };
 }
 
 /// A channel keeps no account.

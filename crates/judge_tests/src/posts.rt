@@ -40,6 +40,17 @@ fn opened<L: Opening>(
     Some(Post { site, passes })
 }
 
+// A site over a new keeper that does not fail.
+fn new_post<L: Opening>(alloc: Global, blank: Blank, layout: &Layout, site: u16) -> Option<Post<L>>
+    requires name { blank.name ≡ L.name }
+    requires parts { blank.parts ≡ L.parts }
+    requires unknown { (d : DurableState) → ¬ L.kept d }
+    requires one { blank.parts ≡ 1 }
+{
+    let layout = layout.try_copy(alloc).ok()?;
+    opened::<L>(alloc, blank, layout, site, store_with(0, Fault::Never))
+}
+
 // What a site answers.
 fn served<L: Opening, R: Wait>(rt: &R, post: &mut Post<L>, call: Call) -> Option<Reply> {
     let pass = post.passes.get_mut(0)?;
@@ -94,6 +105,16 @@ fn go<L: Opening, M: Opening, N: Opening, R: Wait>(
     }
 }
 
+// Closes a site and keeps its log.
+fn push_closed<L: Opening, R: Wait>(
+    rt: &R,
+    all: &mut Vec<Transcript>,
+    post: Post<L>,
+) -> Option<()> {
+    let (transcript, _keeper) = closed(rt, post)?;
+    all.push(transcript).ok()
+}
+
 // Closes three sites.
 fn all_closed<L: Opening, M: Opening, N: Opening, R: Wait>(
     rt: &R,
@@ -107,12 +128,9 @@ fn all_closed<L: Opening, M: Opening, N: Opening, R: Wait>(
         messages: _,
     } = trio;
     let mut all = Vec::new(alloc);
-    let (transcript, _keeper) = closed(rt, first)?;
-    all.push(transcript).ok()?;
-    let (transcript, _keeper) = closed(rt, second)?;
-    all.push(transcript).ok()?;
-    let (transcript, _keeper) = closed(rt, third)?;
-    all.push(transcript).ok()?;
+    push_closed(rt, &mut all, first)?;
+    push_closed(rt, &mut all, second)?;
+    push_closed(rt, &mut all, third)?;
     Some(all)
 }
 
@@ -146,12 +164,9 @@ fn trio_over<L: Opening, M: Opening, N: Opening, R: Wait>(
     requires third { (blank_2.name ≡ N.name) × (blank_2.parts ≡ N.parts) × (blank_2.parts ≡ 1) × ((d : DurableState) → ¬ N.kept d) }
 {
     let layout = layout_of(alloc, plan.sites, plan.seats, plan.problem)?;
-    let never = store_with(0, Fault::Never);
-    let first = opened::<L>(alloc, blank_0, layout.try_copy(alloc).ok()?, 0, never)?;
-    let never = store_with(0, Fault::Never);
-    let second = opened::<M>(alloc, blank_1, layout.try_copy(alloc).ok()?, 1, never)?;
-    let never = store_with(0, Fault::Never);
-    let third = opened::<N>(alloc, blank_2, layout, 2, never)?;
+    let first = new_post::<L>(alloc, blank_0, &layout, 0)?;
+    let second = new_post::<M>(alloc, blank_1, &layout, 1)?;
+    let third = new_post::<N>(alloc, blank_2, &layout, 2)?;
     let mut trio = Trio {
         first,
         second,
@@ -247,23 +262,40 @@ fn run_first<R: Wait>(
     run_opening(rt, alloc, layout, 0, store_of(device, left), steps)
 }
 
+// The log of site 0, which is opened twice: that of the second opening stands behind that of the first.
+fn first_twice<R: Wait>(
+    rt: &R,
+    alloc: Global,
+    layout: &Layout,
+    (first, second): (Opened, Opened),
+) -> Option<Transcript> {
+    let (mut all, mut keeper) = run_first(rt, alloc, layout, first, None)?;
+    let left = keeper.kept.load(alloc).ok()?;
+    let (later, _keeper) = run_first(rt, alloc, layout, second, Some(left))?;
+    all.append(later).ok()?;
+    Some(all)
+}
+
+// The log of site 1, which is opened and does nothing.
+fn idle_second<R: Wait>(rt: &R, alloc: Global, layout: &Layout) -> Option<Transcript> {
+    let layout = layout.try_copy(alloc).ok()?;
+    let store = store_of(Device::New, None);
+    let (transcript, _keeper) = run_opening(rt, alloc, layout, 1, store, &[])?;
+    Some(transcript)
+}
+
 /// The logs of two sites: site 0 is opened twice, and the second log is put behind the first; site 1 is opened and does
 /// nothing.
 pub fn opened_twice<R: Wait>(
     rt: &R,
     alloc: Global,
     layout: &Layout,
-    (first, second): (Opened, Opened),
+    openings: (Opened, Opened),
 ) -> Option<Vec<Transcript>> {
-    let (mut all, mut keeper) = run_first(rt, alloc, layout, first, None)?;
-    let left = keeper.kept.load(alloc).ok()?;
-    let (later, _keeper) = run_first(rt, alloc, layout, second, Some(left))?;
-    all.append(later).ok()?;
-    let layout = layout.try_copy(alloc).ok()?;
-    let store = store_of(Device::New, None);
-    let (other, _keeper) = run_opening(rt, alloc, layout, 1, store, &[])?;
-    let mut transcripts = Vec::new(alloc);
-    transcripts.push(all).ok()?;
-    transcripts.push(other).ok()?;
+    let mut transcripts = Vec::with_capacity(alloc, 2).ok()?;
+    transcripts
+        .push(first_twice(rt, alloc, layout, openings)?)
+        .ok()?;
+    transcripts.push(idle_second(rt, alloc, layout)?).ok()?;
     Some(transcripts)
 }

@@ -40,12 +40,12 @@ still_cut limit ended bytes (Told first ∷ turns) rest text cut = still_cut lim
 still_cut limit ended bytes (Heard heard ∷ turns) rest text (line, more, c, h, later) = (line, more, c, h, still_cut limit ended more turns rest text later)
 
 -- what is told behind the turns
-told_more : (turns : List Turn) (text : List ℕ) → told_in (turns ++ Told text ∷ []) ≡ told_in turns ++ text
+pub told_more : (turns : List Turn) (text : List ℕ) → told_in (turns ++ Told text ∷ []) ≡ told_in turns ++ text
 told_more [] text = append-nil text
 told_more (Told first ∷ turns) text = ap (λ (xs : List ℕ). first ++ xs) (told_more turns text) ∙ sym (append_assoc first (told_in turns) text)
 told_more (Heard line ∷ turns) text = told_more turns text
 
-told_same : (turns : List Turn) (next : Next) (kept : List ℕ) → told_in (turns ++ heard_by next kept) ≡ told_in turns
+pub told_same : (turns : List Turn) (next : Next) (kept : List ℕ) → told_in (turns ++ heard_by next kept) ≡ told_in turns
 told_same [] next.Line kept = refl
 told_same [] next.TooLong kept = refl
 told_same [] next.Memory kept = refl

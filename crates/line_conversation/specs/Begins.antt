@@ -7,7 +7,7 @@ pub nothing_lost : (known : Option (List ℕ)) → Consumes known known []
 nothing_lost None = tt
 nothing_lost (Some xs) = refl
 
-nothing_written : (known : Option (List ℕ)) → Appends known known []
+pub nothing_written : (known : Option (List ℕ)) → Appends known known []
 nothing_written None = tt
 nothing_written (Some xs) = sym (append-nil xs)
 

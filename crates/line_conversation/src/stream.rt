@@ -3,7 +3,7 @@ use crate::ahead::Ahead;
 use crate::conversation::{Conversation, Next};
 use crate::held::Held;
 use crate::reading::read_line;
-use std::alloc::{AllocError, Global};
+use std::alloc::Global;
 use std::io::{Read, Write};
 use std::marker::Model;
 use text_input::{Sink, Source};
@@ -36,19 +36,20 @@ impl<R: Read, W: Write> Model for StreamConversation<R, W> {
     ghost invariant = { λ s. IsStream (record { source = s.source; sink = s.sink; ahead = s.ahead; kept = s.held.bytes; limit = s.held.limit; ended = s.ended; broken = s.broken; reads = s.reads }) };
 }
 
-impl<R: Read + Drop, W: Write + Drop> StreamConversation<R, W> {
-    ghost use Rattle.std.specs.Prelude.{◌≡◌, [], None, false, IfOk};
+impl<R: Read, W: Write> StreamConversation<R, W> {
+    ghost use Rattle.std.specs.Prelude.{◌≡◌, [], false, Err, IfErr, IfOk};
 
-    /// A conversation of which no turn took place. A line has at most so many bytes.
+    /// A conversation of which no turn took place. A line has at most so many bytes. Without memory the source and the
+    /// sink are handed back.
     pub fn new(
         alloc: Global,
-        reader: R,
-        writer: W,
+        source: Source<R>,
+        sink: Sink<W>,
         limit: usize,
-    ) -> Result<StreamConversation<R, W>, AllocError>
-        ensures { IfOk result (λ s. s ≡ record {
-          source = record { remaining = R.remaining reader; fault = None };
-          sink = record { contents = W.contents writer; fault = None; holds = false };
+    ) -> Result<StreamConversation<R, W>, (Source<R>, Sink<W>)>
+        ensures made { IfOk result (λ s. s ≡ record {
+          source = source;
+          sink = sink;
           ahead = [];
           kept = [];
           limit = limit;
@@ -56,17 +57,36 @@ impl<R: Read + Drop, W: Write + Drop> StreamConversation<R, W> {
           broken = false;
           reads = 0;
         }) }
+        ensures handed_back { IfErr result (λ back. back ≡ (source, sink)) }
     {
-        let ahead = Ahead::new(alloc)?;
+        let Ok(ahead) = Ahead::new(alloc) else {
+            return Err((source, sink));
+        };
         Ok(StreamConversation {
-            source: Source::new(reader),
-            sink: Sink::new(writer),
+            source,
+            sink,
             ahead,
             held: Held::new(alloc, limit),
             ended: false,
             broken: false,
             reads: 0,
         })
+    }
+
+    /// The source and the sink, as the turns left them.
+    pub fn into_parts(self) -> (Source<R>, Sink<W>)
+        ensures { result ≡ (self.source, self.sink) }
+    {
+        let StreamConversation {
+            source,
+            sink,
+            ahead: _,
+            held: _,
+            ended: _,
+            broken: _,
+            reads: _,
+        } = self;
+        (source, sink)
     }
 }
 

@@ -20,8 +20,8 @@ use Rattle.desk_log.specs.declared.transcript.Run.{Run}
 use Rattle.desk_log.specs.Log.{is_fault, account_after, account_tried, IsLegal}
 use Rattle.desk_log.proofs.LogLemmas.{after_answered, after_doubted}
 use Rattle.multi_site_world.specs.Laws.{HeardNoMore, StandsIn}
-use Rattle.log_judge.specs.Legal.{started, was_kept, answered_in, tried_in, after_run, AreLegal}
-use Rattle.log_judge.specs.Cut.{account_at, is_merged, is_accepted, merge_rows, rows_brought, brought}
+use Rattle.log_replay.specs.Legal.{started, was_kept, answered_in, tried_in, after_run, AreLegal, account_at}
+use Rattle.log_judge.specs.Cut.{is_merged, is_accepted, merge_rows, rows_brought, brought}
 
 -- no row tells more than its site has done
 abbrev pub AreDone : (ℕ → Account) → List Row → Type 0

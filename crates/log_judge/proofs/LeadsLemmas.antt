@@ -12,9 +12,8 @@ use Rattle.desk_log.specs.declared.entry.Entry.{Entry}
 use Rattle.desk_log.specs.declared.transcript.Run.{Run}
 use Rattle.desk_log.specs.Log.{is_fault, after_entry, account_after, account_tried}
 use Rattle.multi_site_world.specs.Laws.{IsLogged}
-use Rattle.log_judge.specs.Legal.{started, was_kept, answered_in, tried_in, after_run, AreLegal, first_sites, start_account}
-use Rattle.log_judge.specs.Cut.{account_at}
-use Rattle.log_judge.proofs.RunLemmas.{account_after_sites, after_run_sites}
+use Rattle.log_replay.specs.Legal.{started, was_kept, answered_in, tried_in, after_run, AreLegal, first_sites, start_account, account_at}
+use Rattle.log_replay.proofs.RunLemmas.{account_after_sites, after_run_sites}
 
 -- steps lead from one account to another
 pub record Leads (s a : Account) : Type 0 where

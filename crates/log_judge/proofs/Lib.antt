@@ -1,16 +1,7 @@
 pub mod CutLemmas
 pub mod ExcessLemmas
-pub mod ListLemmas
-pub mod SameLemmas
-pub mod WayLemmas
-pub mod RunLemmas
-pub mod PathLemmas
 pub mod LeadsLemmas
 pub mod HeardLemmas
 pub mod TellsLemmas
 pub mod VerdictLemmas
-pub mod JointLemmas
-pub mod ReplayLemmas
-pub mod EntryLemmas
-pub mod RunCode
 pub mod UniqueLemmas

@@ -14,11 +14,11 @@ use Rattle.admission_model.proofs.LawLemmas.{sound_reached}
 use Rattle.admission_model.proofs.ServingLemmas.{origin_replay}
 use Rattle.desk_log.specs.declared.transcript.Run.{Run}
 use Rattle.desk_log.specs.declared.transcript.Transcript.{Transcript}
-use Rattle.log_judge.specs.Legal.{AreLegal, first_sites, start_account}
-use Rattle.log_judge.specs.Cut.{account_at, no_transcript, runs_at, cut_account}
+use Rattle.log_replay.specs.Legal.{AreLegal, first_sites, start_account, account_at}
+use Rattle.log_judge.specs.Cut.{no_transcript, runs_at, cut_account}
 use Rattle.log_judge.specs.Excess.{own_in, no_row}
 use Rattle.log_judge.specs.Verdict.{IsLegalSite, AreLegalSites}
-use Rattle.log_judge.specs.Replay.{TellsOwn, flags_of}
+use Rattle.log_replay.specs.Replay.{TellsOwn, flags_of}
 use Rattle.log_judge.specs.Judging.{AreHistories}
 use Rattle.log_judge.proofs.LeadsLemmas.{leads_at, start_leads, reached_at}
 

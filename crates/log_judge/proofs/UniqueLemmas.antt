@@ -10,7 +10,7 @@ use Rattle.desk_log.specs.declared.transcript.Transcript.{Transcript}
 use Rattle.desk_log.specs.Log.{IsLegal}
 use Rattle.log_judge.specs.declared.verdict.Verdict.{Verdict}
 use Rattle.log_judge.specs.declared.verdict.Verdict.TheVariants.{BadCut, BadJoint, BadReply, Exceeds, Consistent}
-use Rattle.log_judge.specs.Legal.{started, after_run, AreLegal, IsBadJoint, IsFirstBad, IsBadReply, start_account}
+use Rattle.log_replay.specs.Legal.{started, after_run, AreLegal, IsBadJoint, IsFirstBad, IsBadReply, start_account}
 use Rattle.log_judge.specs.Cut.{runs_at, IsBefore}
 use Rattle.log_judge.specs.Verdict.{IsLegalSite, AreLegalSites, IsVerdict}
 

@@ -14,10 +14,10 @@ use Rattle.multi_site_world.proofs.LawLemmas.{separate_seats, separate_writer}
 use Rattle.log_judge.specs.declared.excess.Place.{Place}
 use Rattle.log_judge.specs.declared.verdict.Verdict.{Verdict}
 use Rattle.log_judge.specs.declared.verdict.Verdict.TheVariants.{Exceeds, Consistent}
-use Rattle.log_judge.specs.Legal.{was_kept, after_run, start_account}
+use Rattle.log_replay.specs.Legal.{was_kept, after_run, start_account}
 use Rattle.log_judge.specs.Cut.{no_transcript, runs_at, cut_account, site_brought, brought, rows_brought, IsExcess, IsBefore, IsLeastExcess}
 use Rattle.log_judge.specs.Excess.{IsAhead, IsFirstAhead, IsFoundAt, own_in, brought_by}
-use Rattle.log_judge.specs.Replay.{flags_of}
+use Rattle.log_replay.specs.Replay.{flags_of}
 use Rattle.log_judge.specs.Verdict.{AreLegalSites, IsCut, IsVerdict, IsSafeCut}
 use Rattle.log_judge.specs.Judging.{AreHistories}
 use Rattle.log_judge.proofs.LeadsLemmas.{logged_at}

@@ -1,5 +1,5 @@
 -- Cuts through closed logs: a length for each, the accounts that the sites have there, and what was merged before it.
-use Rattle.std.specs.Prelude.{◌≡◌, ℕ, zero, suc, ◌+◌, ◌-◌, ◌<◌, ◌⊎◌, Bool, true, false, ◌&&◌, ◌||◌, nat_lt, if◌then◌else◌, List, [], ◌∷◌, ◌++◌, map, take, length, slice_index, slice_index_or}
+use Rattle.std.specs.Prelude.{◌≡◌, ℕ, zero, suc, ◌+◌, ◌<◌, ◌⊎◌, Bool, true, false, ◌&&◌, ◌||◌, if◌then◌else◌, List, [], ◌∷◌, ◌++◌, map, length, slice_index, slice_index_or}
 use Rattle.merge_core.specs.declared.cell.Cell.{Cell}
 use Rattle.merge_core.specs.declared.delta.Row.{Row}
 use Rattle.merge_core.specs.Layout.{LayoutState}
@@ -12,22 +12,14 @@ use Rattle.admission_model.specs.Account.{Account, own}
 use Rattle.desk_log.specs.declared.entry.Entry.{Entry}
 use Rattle.desk_log.specs.declared.transcript.Run.{Run}
 use Rattle.desk_log.specs.declared.transcript.Transcript.{Transcript}
-use Rattle.desk_log.specs.Log.{is_fault, account_after}
+use Rattle.desk_log.specs.Log.{is_fault}
 use Rattle.multi_site_world.specs.Laws.{StandsIn}
-use Rattle.log_judge.specs.Legal.{started, was_kept, after_run, start_account}
+use Rattle.log_replay.specs.Legal.{was_kept, after_run, account_at, start_account}
 
 -- how many entries runs have together
 abbrev pub entries_in : List Run → ℕ
 entries_in [] = 0
 entries_in (run ∷ later) = length run.entries + entries_in later
-
--- The account after the first n entries. A cut at the end of a run counts as one before the next run's first entry, so
--- that a call in doubt which was carried out is within it.
-abbrev pub account_at : Account → ℕ → List Run → Account
-account_at a n [] = a
-account_at a n (run ∷ later) =
-    if nat_lt n (length run.entries) then account_after (started a run) (take n run.entries)
-    else account_at (after_run a run later) (n - length run.entries) later
 
 -- the reply is that of a merge that was carried out
 abbrev pub is_merged : Reply → Bool

@@ -5,10 +5,10 @@ use Rattle.merge_core.specs.Layout.{LayoutState}
 use Rattle.desk_log.specs.declared.transcript.Transcript.{Transcript}
 use Rattle.log_judge.specs.declared.judging.Judged.{Judged}
 use Rattle.log_judge.specs.declared.judging.Judged.TheVariants.{Legal, Faulty}
-use Rattle.log_judge.specs.Legal.{start_account}
+use Rattle.log_replay.specs.Legal.{start_account}
 use Rattle.log_judge.specs.Cut.{runs_at, cut_account}
 use Rattle.log_judge.specs.Verdict.{AreLegalSites, IsVerdict}
-use Rattle.log_judge.specs.Replay.{TellsOwn, flags_of}
+use Rattle.log_replay.specs.Replay.{TellsOwn, flags_of}
 
 -- the transcripts of the first n sites are legal, and these are their own rows at the cut and their flags
 pub record AreHistories (layout : LayoutState) (ts : List Transcript) (cut : List ℕ) (n : ℕ) (own : List (List Row)) (kept : List (List Bool)) : Type 0 where

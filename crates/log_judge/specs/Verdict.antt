@@ -6,7 +6,7 @@ use Rattle.desk_log.specs.declared.transcript.Transcript.{Transcript}
 use Rattle.multi_site_world.specs.Laws.{all_inside, IsWriterAlone}
 use Rattle.log_judge.specs.declared.verdict.Verdict.{Verdict}
 use Rattle.log_judge.specs.declared.verdict.Verdict.TheVariants.{BadCut, BadJoint, BadReply, Exceeds, Consistent}
-use Rattle.log_judge.specs.Legal.{start_account, AreLegal, IsBadJoint, IsBadReply}
+use Rattle.log_replay.specs.Legal.{start_account, AreLegal, IsBadJoint, IsBadReply}
 use Rattle.log_judge.specs.Cut.{entries_in, no_transcript, runs_at, cut_account, IsExcess, IsLeastExcess}
 
 -- one transcript for each site of the layout, in order of sites

@@ -5,10 +5,9 @@ ghost use Rattle.merge_core.specs.Rows.{counters_of};
 ghost use Rattle.log_judge.specs.Cut.{is_accepted, rows_brought};
 ghost use Rattle.log_judge.specs.Excess.{IsAbove, IsAhead, IsFoundIn, IsFoundAt, brought_by, first_flag, later_flags, no_row, own_in};
 
-use crate::entries::is_fault;
-use crate::own::OwnRows;
-use admission_core::{Call, Reply};
+use admission_core::{Call, Refusal, Reply};
 use desk_log::{Entry, Run};
+use log_replay::OwnRows;
 use merge_core::Row;
 
 /// The record and the site of a row.
@@ -95,7 +94,11 @@ fn first_ahead(rows: &[Row], tables: &[OwnRows]) -> Option<Named>
 fn is_accepted(kept: bool, reply: &Reply) -> bool
     ensures { result ≡ is_accepted kept reply.now }
 {
-    matches!(reply, Reply::Merged(_)) || (kept && is_fault(reply))
+    match reply {
+        Reply::Merged(_) => true,
+        Reply::Refused(Refusal::StoreFault) => kept,
+        _ => false,
+    }
 }
 
 // The first row that an entry brought and that is above what its site had done.

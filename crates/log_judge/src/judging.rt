@@ -5,10 +5,9 @@ ghost use Rattle.log_judge.specs.Judging.{AreHistories, IsJudged};
 
 use crate::cut::is_cut;
 use crate::excess::site_excess;
-use crate::own::OwnRows;
-use crate::replay::{Flags, Replayed, replay};
 use crate::verdict::Verdict;
 use desk_log::Transcript;
+use log_replay::{Flags, OwnRows, Replayed, replay_runs};
 use merge_core::Layout;
 use std::alloc::{AllocError, Global};
 
@@ -90,7 +89,7 @@ fn replay_all(
     'sites: for i in 0..layout.sites() {
         let transcript = &transcripts[usize::from(i)];
         let runs = transcript.runs.as_slice();
-        match replay(alloc, layout, i, runs, cut[usize::from(i)])? {
+        match replay_runs(alloc, layout, i, runs, cut[usize::from(i)])? {
             Replayed::BadJoint => return Ok(Judged::Faulty(Verdict::BadJoint { site: i })),
             Replayed::BadReply(at) => {
                 return Ok(Judged::Faulty(Verdict::BadReply { site: i, at }));

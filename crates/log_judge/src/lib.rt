@@ -7,12 +7,8 @@ pub use table::cut_table;
 pub use verdict::Verdict;
 
 mod cut;
-mod entries;
 mod excess;
-mod joint;
 mod judging;
 pub mod laws;
-mod own;
-mod replay;
 mod table;
 mod verdict;

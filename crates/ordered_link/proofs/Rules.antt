@@ -1,15 +1,15 @@
 -- Each step on a link keeps its rule.
-use Rattle.std.proofs.Common.{◌≡◌, ◌≢◌, ℕ, zero, suc, true, false, true≢false, List, [], ◌∷◌, ◌++◌, length, set, sym, refl, ap, ◌∙◌, subst, ⊎_elim, append_assoc, append-nil, Bool, String, Global}
+use Rattle.std.proofs.Common.{◌≡◌, ◌≢◌, ◌≤◌, ℕ, zero, suc, true, false, true≢false, List, [], ◌∷◌, ◌++◌, length, set, sym, refl, ap, ◌∙◌, subst, ⊎_elim, append_assoc, append-nil, arith, length-append, Bool, String, Global}
 use mathlib.Core.Option.{some, some-ne-none}
 use lib.ListN.{get_elem?}
 use Rattle.crossbeam_channel.specs.Fifo.{Pushes, Pops, Forks, Merges, Learns}
 use Rattle.atomic_table.proofs.Lists.{at_set, at_snoc}
-use Rattle.std.specs.Prelude.{string_bytes, if◌then◌else◌}
+use Rattle.std.specs.Prelude.{string_bytes, if◌then◌else◌, ◌||◌}
 use Rattle.ordered_link.specs.declared.rule.Parcel.{Parcel}
 use Rattle.ordered_link.specs.declared.rule.Parcel.TheVariants.{Text, Last}
 use Rattle.ordered_link.specs.declared.rule.Log.{Log}
-use Rattle.ordered_link.specs.Rule.{log, Fits, InOrder}
-use Rattle.ordered_link.specs.Ends.{texts_of}
+use Rattle.ordered_link.specs.Rule.{log, link_capacity, Fits, InOrder}
+use Rattle.ordered_link.specs.Ends.{texts_of, is_finished}
 
 at_end : (l : List Log) (a b : Log) (j : ℕ) → get_elem? l j ≢ some b → get_elem? (l ++ a ∷ []) j ≡ some b → j ≡ length l
 at_end [] a b zero n e = refl
@@ -35,10 +35,11 @@ begins = (
   refl,
   each_set (Fits 0 0 [] []) (log true true [] [] ∷ []) 0 (log true true [] []) ((λ _. (refl, refl)), λ _. (refl, refl))
       (λ j u other e. absurd (other (at_end [] _ u j (λ x. some-ne-none u (sym x)) e))),
+  omega arith,
 )
 
-pub puts : (n port : ℕ) (v : Log) (x : Parcel) → v.puts ≡ true → Pushes InOrder n port v x (λ w. w ≡ log v.puts v.takes (v.put ++ x ∷ []) v.taken)
-puts n port v x may items views _ h at =
+pub puts : (n port : ℕ) (v : Log) (x : Parcel) → n ≡ link_capacity → v.puts ≡ true → Pushes InOrder n port v x (λ w. w ≡ log v.puts v.takes (v.put ++ x ∷ []) v.taken)
+puts n port v x holds may items views few h at =
     let w : Log = log v.puts v.takes (v.put ++ x ∷ []) v.taken in
     let mine = h.5 port v at in
     let put = h.2 ++ x ∷ [] in (
@@ -51,6 +52,7 @@ puts n port v x may items views _ h at =
         ap (λ l. l ++ x ∷ []) h.4 ∙ append_assoc h.3 items (x ∷ []),
         each_set (Fits h.0 h.1 put h.3) views port w ((λ _. ((mine.0 may).0, ap (λ l. l ++ x ∷ []) (mine.0 may).1)), mine.1)
             (λ j u other e. ((λ p. absurd (other (((h.5 j u e).0 p).0 ∙ sym (mine.0 may).0))), (h.5 j u e).1)),
+        omega (arith, holds, few, length-append items (x ∷ [])),
       ),
       refl,
     )
@@ -69,6 +71,7 @@ takes port v may x items views h at =
         h.4 ∙ sym (append_assoc h.3 (x ∷ []) items),
         each_set (Fits h.0 h.1 h.2 taken) views port w (mine.0, λ _. ((mine.1 may).0, ap (λ l. l ++ x ∷ []) (mine.1 may).1))
             (λ j u other e. ((h.5 j u e).0, λ p. absurd (other (((h.5 j u e).1 p).0 ∙ sym (mine.1 may).0)))),
+        omega (arith, h.6),
       ),
       refl,
     )
@@ -87,11 +90,12 @@ forks port v a b items views h at =
       h.2,
       h.3,
       h.4,
-      λ j u e. ⊎_elim (λ x. ((old j u x).0, λ p. absurd ((old j u x).1 p)))
+      (λ j u e. ⊎_elim (λ x. ((old j u x).0, λ p. absurd ((old j u x).1 p)))
           (λ (is : r ≡ u). (
             (λ p. absurd (true≢false (sym (ap (λ (y : Log). y.puts) is ∙ p)))),
             λ p. (at_end vs r u j (λ x. (old j u x).1 p) e, ap (λ (y : Log). y.taken) (sym is) ∙ (mine.1 b).1),
-          )) (at_snoc vs r u j e),
+          )) (at_snoc vs r u j e)),
+      h.6,
     )
 
 pub merges : (port : ℕ) (v : Log) (other : ℕ) (u : Log) → v.puts ≡ true → u.takes ≡ true → Merges InOrder port v other u (log true true v.put u.taken) (log false false [] [])
@@ -111,17 +115,40 @@ merges port v other u a b items views h at two at' =
       h.4,
       each_set (Fits h.0 port h.2 h.3) vs other (log false false [] []) ((λ p. absurd (true≢false (sym p))), λ p. absurd (true≢false (sym p)))
           (λ j y apart e. now j y e apart),
+      h.6,
     )
 
-pub totals : (port : ℕ) (v : Log) → v.puts ≡ true → v.takes ≡ true → Learns InOrder port v (λ items. v.put ≡ v.taken ++ items)
+pub totals : (port : ℕ) (v : Log) → v.puts ≡ true → v.takes ≡ true → Learns InOrder port v (λ items. (v.put ≡ v.taken ++ items) × (length items ≤ link_capacity))
 totals port v a b items views h at =
     let mine = h.5 port v at in
-    (mine.0 a).1 ∙ h.4 ∙ ap (λ l. l ++ items) (sym (mine.1 b).1)
+    ((mine.0 a).1 ∙ h.4 ∙ ap (λ l. l ++ items) (sym (mine.1 b).1), h.6)
 
 pub texts_append : (xs ys : List Parcel) → texts_of (xs ++ ys) ≡ texts_of xs ++ texts_of ys
 texts_append [] ys = refl
 texts_append (Text s ∷ xs) ys = ap (λ (ts : List (List ℕ)). string_bytes s ∷ ts) (texts_append xs ys)
 texts_append (Last ∷ xs) ys = texts_append xs ys
+
+-- each text is a parcel
+pub texts_few : (xs : List Parcel) → length (texts_of xs) ≤ length xs
+texts_few [] = omega arith
+texts_few (Text s ∷ xs) = omega (arith, texts_few xs)
+texts_few (Last ∷ xs) = omega (arith, texts_few xs)
+
+finished_append : (xs ys : List Parcel) → is_finished (xs ++ ys) ≡ (is_finished xs || is_finished ys)
+finished_append [] ys = refl
+finished_append (Text s ∷ xs) ys = finished_append xs ys
+finished_append (Last ∷ xs) ys = refl
+
+-- the word that no text will follow was put where it is the parcel, or was before
+pub finished_on : (v w : Log) (x : Parcel) (done : Bool) → done ≡ true → w ≡ log v.puts v.takes (v.put ++ x ∷ []) v.taken
+    → is_finished w.put ≡ (if done then is_finished v.put || is_finished (x ∷ []) else is_finished v.put)
+finished_on v w x true is step = ap (λ (l : Log). is_finished l.put) step ∙ finished_append v.put (x ∷ [])
+finished_on v w x false is step = absurd (true≢false (sym is))
+
+pub finished_back : (v w : Log) (x : Parcel) (done : Bool) → done ≡ false → w ≡ v
+    → is_finished w.put ≡ (if done then is_finished v.put || is_finished (x ∷ []) else is_finished v.put)
+finished_back v w x true is step = absurd (true≢false is)
+finished_back v w x false is step = ap (λ (l : Log). is_finished l.put) step
 
 -- a parcel that was put is the last one
 pub put_on : (v w : Log) (x : Parcel) (done : Bool) → done ≡ true → w ≡ log v.puts v.takes (v.put ++ x ∷ []) v.taken

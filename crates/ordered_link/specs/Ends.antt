@@ -1,5 +1,5 @@
 -- The two ends of a link, as contracts see them (this project's own).
-use Rattle.std.specs.Prelude.{◌≡◌, ℕ, Bool, true, List, [], ◌∷◌, string_bytes}
+use Rattle.std.specs.Prelude.{◌≡◌, ℕ, Bool, true, false, List, [], ◌∷◌, string_bytes}
 use Rattle.atomic_table.specs.Seated.{TableId}
 use Rattle.atomic_table.specs.declared.badge.Badge.{Badge}
 use Rattle.crossbeam_channel.specs.declared.flavors.array.Key.{Key}
@@ -13,6 +13,12 @@ abbrev pub texts_of : List Parcel → List (List ℕ)
 texts_of [] = []
 texts_of (Text s ∷ ps) = string_bytes s ∷ texts_of ps
 texts_of (Last ∷ ps) = texts_of ps
+
+-- the word that no text will follow is among the parcels
+abbrev pub is_finished : List Parcel → Bool
+is_finished [] = false
+is_finished (Text s ∷ ps) = is_finished ps
+is_finished (Last ∷ ps) = true
 
 -- what tells one link from another
 abbrev pub LinkId : Type 0
@@ -29,6 +35,10 @@ link_of p = (p.table_id, p.me.0.of)
 abbrev pub put_by : LinkPass → List (List ℕ)
 put_by p = texts_of (view p).put
 
+-- the pass has put the word that no text will follow
+abbrev pub finished_by : LinkPass → Bool
+finished_by p = is_finished (view p).put
+
 abbrev pub taken_by : LinkPass → List (List ℕ)
 taken_by p = texts_of (view p).taken
 
@@ -42,7 +52,11 @@ MayTake p = (view p).takes ≡ true
 -- an end at which texts are put
 pub record PutterState : Type 0 where
   pub link : LinkId
+  -- how many parcels the link holds at most
+  pub capacity : ℕ
   pub put : List (List ℕ)
+  -- the word that no text will follow was put
+  pub finished : Bool
   -- a put was refused, since the other end is closed
   pub closed : Bool
 
@@ -52,3 +66,5 @@ pub record TakerState : Type 0 where
   pub taken : List (List ℕ)
   -- a take found that no text will come
   pub ended : Bool
+  -- it has a receiver, since it has not been closed
+  pub receives : Bool

@@ -1,7 +1,8 @@
-ghost use Rattle.std.specs.Prelude.{◌≡◌, true, false, ℕ, List, [], ◌∷◌, ◌++◌, if◌then◌else◌, string_bytes, IfOk, IfSome, IfNone};
+ghost use Rattle.std.specs.Prelude.{◌≡◌, ◌≤◌, ◌⊎◌, true, false, ℕ, List, [], ◌∷◌, ◌++◌, ◌||◌, if◌then◌else◌, length, string_bytes, IfOk, IfSome, IfNone};
 ghost use Rattle.crossbeam_channel.specs.Claims.{IsSeatAt};
-ghost use Rattle.crossbeam_channel.specs.Ends.{sends_on, receives_on};
-ghost use Rattle.ordered_link.specs.Ends.{MayPut, MayTake, link_of, put_by, taken_by, texts_of};
+ghost use Rattle.crossbeam_channel.specs.Ends.{sends_on, receives_on, ruled_capacity};
+ghost use Rattle.ordered_link.specs.Rule.{link_capacity};
+ghost use Rattle.ordered_link.specs.Ends.{MayPut, MayTake, finished_by, is_finished, link_of, put_by, taken_by, texts_of};
 
 use crate::rule::{Log, Order, Parcel, PutStep, Roles, TakeStep, Total};
 use crossbeam_channel::{Pass, RuledReceiver, RuledSender, bounded_with};
@@ -17,17 +18,19 @@ pub struct Putter {
     closed: bool,
 }
 
-// Contracts see which link it is, and what was put.
+// Contracts see which link it is, how much it holds, and what was put.
 impl Model for Putter {
+    ghost use Rattle.std.specs.Prelude.{◌≡◌};
     ghost use Rattle.crossbeam_channel.specs.Claims.{IsSeatAt};
-    ghost use Rattle.crossbeam_channel.specs.Ends.{sends_on, receives_on};
-    ghost use Rattle.ordered_link.specs.Ends.{PutterState, MayPut, link_of, put_by};
+    ghost use Rattle.crossbeam_channel.specs.Ends.{sends_on, ruled_capacity};
+    ghost use Rattle.ordered_link.specs.Rule.{link_capacity};
+    ghost use Rattle.ordered_link.specs.Ends.{PutterState, MayPut, finished_by, link_of, put_by};
 
     ghost Value = { PutterState };
 
-    ghost view = { λ p. record { link = link_of p.pass; put = put_by p.pass; closed = p.closed } };
+    ghost view = { λ p. record { link = link_of p.pass; capacity = ruled_capacity (sends_on p.sender); put = put_by p.pass; finished = finished_by p.pass; closed = p.closed } };
 
-    ghost invariant = { λ p. IsSeatAt (sends_on p.sender) p.pass × MayPut p.pass };
+    ghost invariant = { λ p. IsSeatAt (sends_on p.sender) p.pass × MayPut p.pass × (ruled_capacity (sends_on p.sender) ≡ link_capacity) };
 }
 
 /// The end of a link at which texts are taken. It may be closed; then it still knows what was taken.
@@ -38,16 +41,16 @@ pub struct Taker {
     ended: bool,
 }
 
-// Contracts see which link it is, and what was taken.
+// Contracts see which link it is, what was taken, and whether it has a receiver.
 impl Model for Taker {
-    ghost use Rattle.std.specs.Prelude.{◌≡◌, [], IfSome};
+    ghost use Rattle.std.specs.Prelude.{◌≡◌, [], IfSome, is_some};
     ghost use Rattle.crossbeam_channel.specs.Claims.{IsSeatAt};
     ghost use Rattle.crossbeam_channel.specs.Ends.{receives_on};
     ghost use Rattle.ordered_link.specs.Ends.{TakerState, MayTake, link_of, taken_by};
 
     ghost Value = { TakerState };
 
-    ghost view = { λ t. record { link = link_of t.pass; taken = taken_by t.pass; ended = t.ended } };
+    ghost view = { λ t. record { link = link_of t.pass; taken = taken_by t.pass; ended = t.ended; receives = is_some t.receiver } };
 
     ghost invariant = { λ t. IfSome t.receiver (λ r. IsSeatAt (receives_on r) t.pass) × (t.pass.me.1 ≡ []) × MayTake t.pass };
 }
@@ -57,7 +60,10 @@ pub const LINK_CAPACITY: usize = 16;
 
 /// A link that holds at most 16 texts.
 pub fn make_link(alloc: Global) -> Result<(Putter, Taker), AllocError>
-    ensures { IfOk result (λ ends. (ends.0.link ≡ ends.1.link) × (ends.0.put ≡ []) × (ends.1.taken ≡ [])) }
+    ensures new { IfOk result (λ ends. (ends.0.link ≡ ends.1.link) × (ends.0.put ≡ []) × (ends.1.taken ≡ [])) }
+    ensures capacity { IfOk result (λ ends. ends.0.capacity ≡ link_capacity) }
+    ensures unfinished { IfOk result (λ ends. ends.0.finished ≡ false) }
+    ensures receives { IfOk result (λ ends. ends.1.receives ≡ true) }
 {
     let (sender, receiver, mut pass) = bounded_with::<Parcel, Log, Order, Global>(
         alloc,
@@ -87,10 +93,12 @@ fn send<R: Wait>(
 ) -> bool
     requires seat { IsSeatAt (sends_on sender.now) pass.old }
     requires role { MayPut pass.old }
+    requires capacity { ruled_capacity (sends_on sender.now) ≡ link_capacity }
     ensures seat { IsSeatAt (sends_on sender.now) pass.new }
     ensures link { link_of pass.new ≡ link_of pass.old }
     ensures role { MayPut pass.new }
     ensures put { put_by pass.new ≡ (if result then put_by pass.old ++ texts_of (parcel ∷ []) else put_by pass.old) }
+    ensures finished { finished_by pass.new ≡ (if result then finished_by pass.old || is_finished (parcel ∷ []) else finished_by pass.old) }
 {
     match sender.send_as::<PutStep, R>(rt, pass, parcel) {
         Ok(()) => true,
@@ -103,6 +111,8 @@ impl Putter {
     /// `false`. Takes no memory. May wait.
     pub fn put<R: Wait>(&mut self, rt: &R, text: String) -> bool
         ensures link { self.new.link ≡ self.old.link }
+        ensures capacity { self.new.capacity ≡ self.old.capacity }
+        ensures finished { self.new.finished ≡ self.old.finished }
         ensures put { self.new.put ≡ (if result then self.old.put ++ string_bytes text ∷ [] else self.old.put) }
         ensures closed { result ≡ false → self.new.closed ≡ true }
         ensures open { result ≡ true → self.new.closed ≡ self.old.closed }
@@ -114,18 +124,24 @@ impl Putter {
         done
     }
 
-    /// Tells the taker that no text will follow. May wait.
+    /// Tells the taker that no text will follow, unless the other end is closed. May wait.
     pub fn finish<R: Wait>(&mut self, rt: &R)
-        ensures { self.new ≡ self.old }
+        ensures link { self.new.link ≡ self.old.link }
+        ensures capacity { self.new.capacity ≡ self.old.capacity }
+        ensures put { self.new.put ≡ self.old.put }
+        ensures finished { (self.new.finished ≡ true) ⊎ (self.new.closed ≡ true) }
     {
-        let _ = send(rt, &self.sender, &mut self.pass, Parcel::Last);
+        if !send(rt, &self.sender, &mut self.pass, Parcel::Last) {
+            self.closed = true;
+        }
     }
 
-    /// A law of the link, once both ends are in one thread again: what was taken is a prefix of what was put.
+    /// A law of the link, once both ends are in one thread again: what was taken is a prefix of what was put, and at most 16
+    /// texts were put that were not taken.
     pub fn learn_prefix(&mut self, taker: Taker)
         requires link { taker.link ≡ self.old.link }
         ensures same { self.new ≡ self.old }
-        ensures prefix { (rest : List (List ℕ)) × (self.new.put ≡ taker.taken ++ rest) }
+        ensures prefix { (rest : List (List ℕ)) × (self.new.put ≡ taker.taken ++ rest) × (length rest ≤ link_capacity) }
     {
         let Taker {
             receiver: _,
@@ -165,6 +181,7 @@ impl Taker {
         ensures taken { IfSome result (λ text. self.new.taken ≡ self.old.taken ++ string_bytes text ∷ []) }
         ensures none { IfNone result (self.new.taken ≡ self.old.taken) }
         ensures ended { IfNone result (self.new.ended ≡ true) }
+        ensures closed { IfNone result (self.new.receives ≡ false) }
     {
         let taken = match &self.receiver {
             Some(receiver) => take_text(rt, receiver, &mut self.pass),
@@ -172,14 +189,14 @@ impl Taker {
         };
         if taken.is_none() {
             self.ended = true;
-            self.receiver = None;
+            self.close();
         }
         taken
     }
 
     /// Closes this end, so that a putter that waits gets its text back.
     pub fn close(&mut self)
-        ensures { self.new ≡ self.old }
+        ensures { self.new ≡ record self.old { receives = false } }
     {
         self.receiver = None;
     }

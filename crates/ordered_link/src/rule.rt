@@ -1,6 +1,7 @@
-// The rule of the channel: the parcels put so far are those taken so far, and behind them those that it still holds.
-ghost use Rattle.std.specs.Prelude.{◌≡◌, ⊤, true, false, [], ◌∷◌, ◌++◌};
-ghost use Rattle.ordered_link.specs.Rule.{log, InOrder};
+// The rule of the channel: the parcels put so far are those taken so far, and behind them those that it still holds, at most
+// 16.
+ghost use Rattle.std.specs.Prelude.{◌≡◌, ◌≤◌, ⊤, true, false, [], ◌∷◌, ◌++◌, length};
+ghost use Rattle.ordered_link.specs.Rule.{log, InOrder, link_capacity};
 
 use crossbeam_channel::protocol::{Join, Lesson, Outcome, Protocol, Split};
 use std::collections::LinkedList;
@@ -70,5 +71,5 @@ impl Lesson<Parcel, Log> for TakeStep {
 pub struct Total;
 
 impl Lesson<Parcel, Log> for Total {
-    ghost fact = { λ v items. v.put ≡ v.taken ++ items };
+    ghost fact = { λ v items. (v.put ≡ v.taken ++ items) × (length items ≤ link_capacity) };
 }

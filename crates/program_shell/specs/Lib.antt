@@ -1,2 +1,4 @@
+pub mod Groups
 pub mod Runs
+pub mod Services
 pub mod Shell

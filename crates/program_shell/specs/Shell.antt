@@ -1,5 +1,5 @@
 -- What the program does: the command that its arguments ask for, or what is said of them (the project's own).
-use Rattle.std.specs.Prelude.{◌≡◌, ◌⊎◌, ℕ, List, [], ◌∷◌, ◌++◌, codes, Result, Ok, Err, Option, Some, None}
+use Rattle.std.specs.Prelude.{◌≡◌, ◌⊎◌, ℕ, true, false, List, [], ◌∷◌, ◌++◌, codes, Result, Ok, Err, Option, Some, None}
 use Rattle.merge_core.specs.Layout.{LayoutState, shape_of}
 use Rattle.text_input.specs.Source.{HasFault, SourceState}
 use Rattle.text_input.specs.Sink.{Prints, SinkState, Writes}
@@ -9,12 +9,12 @@ use Rattle.clap.specs.Words.{Text, IsAmong}
 use Rattle.clap.specs.declared.error.ErrorKind.{ErrorKind}
 use Rattle.clap.specs.declared.error.ErrorKind.TheVariants.{OutOfMemory, DisplayHelp, DisplayVersion}
 use Rattle.command_arguments.specs.declared.arguments.Command.{Command}
-use Rattle.command_arguments.specs.declared.arguments.Command.TheVariants.{Join, Play, Site, Judge, Run}
+use Rattle.command_arguments.specs.declared.arguments.Command.TheVariants.{Join, Play, Site, Serve, Ask, Judge, Run}
 use Rattle.layout_file.specs.declared.fault.LayoutFault.{LayoutFault}
 use Rattle.layout_file.specs.declared.fault.LayoutFault.TheVariants as layout
 use Rattle.exit_status.specs.declared.status.Status.{Status}
 use Rattle.exit_status.specs.declared.status.Status.TheVariants.{Done, Memory, Io}
-use Rattle.command_arguments.specs.Arguments.{asked_command, asked_cut, asked_layout, asked_out, usage_errors}
+use Rattle.command_arguments.specs.Arguments.{asked_command, asked_cut, asked_group, asked_layout, asked_out, asked_words, usage_errors}
 use Rattle.exit_status.specs.Endings.{EndsWith, without_layout}
 use Rattle.join_engine.specs.Engine.{EndsJoin}
 use Rattle.judge_engine.specs.declared.cut.CutError.{CutError}
@@ -24,7 +24,13 @@ use Rattle.judge_engine.specs.Engine.{EndsJudge}
 use Rattle.layout_file.specs.LayoutFile.{ReadsLayout, built_in_layout}
 use Rattle.play_engine.specs.Plays.{EndsPlay}
 use Rattle.site_databases.specs.Databases.{EndsStored}
+use Rattle.line_conversation.specs.Stream.{StreamState}
+use Rattle.line_conversation.specs.declared.conversation.Conversation.{Ghosts}
+use Rattle.service_talk.specs.Notes.{NotedState}
+use Rattle.service_talk.specs.OneLine.{OneLineState}
+use Rattle.program_shell.specs.Groups.{is_good_group}
 use Rattle.program_shell.specs.Runs.{EndsRunTo}
+use Rattle.program_shell.specs.Services.{EndsAsk, EndsServe}
 
 -- help or the version: it was printed, or the sink met a fault
 abbrev pub EndsPrinted : SinkState → SinkState → SinkState → SinkState → ℕ → Type 0
@@ -97,29 +103,47 @@ abbrev pub EndsWithoutCut : CutError → SinkState → SinkState → ℕ → Typ
 EndsWithoutCut cut.BadWord errors errors_after code = (Writes errors errors_after no_cut_text ⊎ HasFault errors_after.fault) × (code ≡ 2)
 EndsWithoutCut cut.Memory errors errors_after code = EndsWith Memory errors errors_after code
 
--- a command under a layout and a cut, and with a file for closed logs: what its engine did
-abbrev pub EndsCommand : Command → Option (List ℕ) → Option Text → LayoutState → SourceState → SourceState → SinkState → SinkState → Status → Type 0
-EndsCommand Join lengths out layout source source_after sink sink_after ended = EndsJoin (shape_of layout) source source_after sink sink_after ended
-EndsCommand (Play tables first) lengths out layout source source_after sink sink_after ended = EndsPlay layout first tables source source_after sink sink_after ended
-EndsCommand (Site site) lengths out layout source source_after sink sink_after ended = EndsStored layout site source source_after sink sink_after ended
-EndsCommand Judge lengths out layout source source_after sink sink_after ended = EndsJudge layout lengths source source_after sink sink_after ended
-EndsCommand (Run turns) lengths out layout source source_after sink sink_after ended = EndsRunTo out layout source source_after sink sink_after ended
+-- an engine ended so, and the program with it
+abbrev pub EndsBy : (Status → Type 0) → SinkState → SinkState → ℕ → Type 0
+EndsBy Ends errors errors_after code = (ended : Status) × Ends ended × EndsWith ended errors errors_after code
 
--- a command under what was found for a layout: without a layout nothing is read or written
-abbrev pub EndsUnder : Command → Option (List ℕ) → Option Text → Result LayoutState LayoutFault → SourceState → SourceState → SinkState → SinkState → Status → Type 0
-EndsUnder command lengths out (Ok layout) source source_after sink sink_after ended = EndsCommand command lengths out layout source source_after sink sink_after ended
-EndsUnder command lengths out (Err fault) source source_after sink sink_after ended = (source_after ≡ source) × (sink_after ≡ sink) × (ended ≡ without_layout fault)
+module _ (t : Ghosts (NotedState StreamState)) (u : Ghosts (NotedState OneLineState)) where
+  -- a command under a layout: what its engine did, and how the program ended
+  abbrev pub EndsCommand : Command → Option (List ℕ) → Option Text → Option Text → List (Option Text) → LayoutState → SourceState → SourceState → SinkState → SinkState
+      → SinkState → SinkState → ℕ → Type 0
+  EndsCommand Join lengths out group words layout source source_after sink sink_after errors errors_after code =
+      EndsBy (EndsJoin (shape_of layout) source source_after sink sink_after) errors errors_after code
+  EndsCommand (Play tables first) lengths out group words layout source source_after sink sink_after errors errors_after code =
+      EndsBy (EndsPlay layout first tables source source_after sink sink_after) errors errors_after code
+  EndsCommand (Site site) lengths out group words layout source source_after sink sink_after errors errors_after code =
+      EndsBy (EndsStored layout site source source_after sink sink_after) errors errors_after code
+  EndsCommand (Serve site create wait) lengths out group words layout source source_after sink sink_after errors errors_after code =
+      EndsServe t layout site group source source_after sink sink_after errors errors_after code
+  EndsCommand (Ask site create wait) lengths out group words layout source source_after sink sink_after errors errors_after code =
+      (source_after ≡ source) × EndsAsk u layout site group words sink sink_after errors errors_after code
+  EndsCommand Judge lengths out group words layout source source_after sink sink_after errors errors_after code =
+      EndsBy (EndsJudge layout lengths source source_after sink sink_after) errors errors_after code
+  EndsCommand (Run turns) lengths out group words layout source source_after sink sink_after errors errors_after code =
+      EndsBy (EndsRunTo out layout source source_after sink sink_after) errors errors_after code
 
--- a command is asked for, and that one was carried out under the cut and the layout that the arguments name
-pub record RunsCommand (arguments : List Text) (source source_after : SourceState) (sink sink_after errors errors_after : SinkState) (code : ℕ) : Type 0 where
-  pub asked : usage_errors arguments ≡ []
-  pub lengths : Option (List ℕ)
-  pub cut_found : FindsCut (asked_cut arguments) (Ok lengths)
-  pub layout : Result LayoutState LayoutFault
-  pub found : FindsLayout (asked_layout arguments) layout
-  pub ended : Status
-  pub carried_out : EndsUnder (asked_command arguments) lengths (asked_out arguments) layout source source_after sink sink_after ended
-  pub told : EndsWith ended errors errors_after code
+  -- a command under what was found for a layout: without a layout nothing is read or written
+  abbrev pub EndsUnder : Command → Option (List ℕ) → Option Text → Option Text → List (Option Text) → Result LayoutState LayoutFault → SourceState → SourceState
+      → SinkState → SinkState → SinkState → SinkState → ℕ → Type 0
+  EndsUnder command lengths out group words (Ok layout) source source_after sink sink_after errors errors_after code =
+      EndsCommand command lengths out group words layout source source_after sink sink_after errors errors_after code
+  EndsUnder command lengths out group words (Err fault) source source_after sink sink_after errors errors_after code =
+      (source_after ≡ source) × (sink_after ≡ sink) × EndsWith (without_layout fault) errors errors_after code
+
+  -- a command is asked for, and that one was carried out under the cut and the layout that the arguments name
+  pub record RunsCommand (arguments : List Text) (source source_after : SourceState) (sink sink_after errors errors_after : SinkState) (code : ℕ) : Type 0 where
+    pub asked : usage_errors arguments ≡ []
+    pub lengths : Option (List ℕ)
+    pub cut_found : FindsCut (asked_cut arguments) (Ok lengths)
+    pub group_fits : is_good_group (asked_group arguments) ≡ true
+    pub layout : Result LayoutState LayoutFault
+    pub found : FindsLayout (asked_layout arguments) layout
+    pub carried_out : EndsUnder (asked_command arguments) lengths (asked_out arguments) (asked_group arguments) (asked_words arguments) layout source source_after sink sink_after
+        errors errors_after code
 
 -- a command is asked for, and a word that names no cut, or memory ran out: nothing is read or written
 pub record RefusesCut (arguments : List Text) (source source_after : SourceState) (sink sink_after errors errors_after : SinkState) (code : ℕ) : Type 0 where
@@ -130,6 +154,19 @@ pub record RefusesCut (arguments : List Text) (source source_after : SourceState
   pub unwritten : sink_after ≡ sink
   pub told : EndsWithoutCut error errors errors_after code
 
+-- what is said of a name that a group can't have
+abbrev pub no_group_text : List ℕ
+no_group_text = codes "group refused BadWord\n"
+
+-- the arguments name a group by a name that none can have: nothing is read or written
+pub record RefusesGroup (arguments : List Text) (source source_after : SourceState) (sink sink_after errors errors_after : SinkState) (code : ℕ) : Type 0 where
+  pub asked : usage_errors arguments ≡ []
+  pub refused : is_good_group (asked_group arguments) ≡ false
+  pub unread : source_after ≡ source
+  pub unwritten : sink_after ≡ sink
+  pub told : Writes errors errors_after no_group_text ⊎ HasFault errors_after.fault
+  pub status : code ≡ 2
+
 -- no command is asked for, or memory ran out: nothing is read, and what clap says is told
 pub record RunsNone (arguments : List Text) (source source_after : SourceState) (sink sink_after errors errors_after : SinkState) (code : ℕ) : Type 0 where
   pub kind : ErrorKind
@@ -138,8 +175,10 @@ pub record RunsNone (arguments : List Text) (source source_after : SourceState) 
   pub told : EndsUnasked kind sink sink_after errors errors_after code
 
 -- what the program does with its arguments
-abbrev pub RunsProgram : List Text → SourceState → SourceState → SinkState → SinkState → SinkState → SinkState → ℕ → Type 0
-RunsProgram arguments source source_after sink sink_after errors errors_after code =
-    RunsCommand arguments source source_after sink sink_after errors errors_after code
+abbrev pub RunsProgram : Ghosts (NotedState StreamState) → Ghosts (NotedState OneLineState) → List Text → SourceState → SourceState
+    → SinkState → SinkState → SinkState → SinkState → ℕ → Type 0
+RunsProgram t u arguments source source_after sink sink_after errors errors_after code =
+    RunsCommand t u arguments source source_after sink sink_after errors errors_after code
     ⊎ RefusesCut arguments source source_after sink sink_after errors errors_after code
+    ⊎ RefusesGroup arguments source source_after sink sink_after errors errors_after code
     ⊎ RunsNone arguments source source_after sink sink_after errors errors_after code

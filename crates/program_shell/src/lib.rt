@@ -4,6 +4,8 @@
 
 pub use shell::{run, run_with};
 
+mod group;
 mod logs_file;
+mod service;
 mod shell;
 mod standard_error;

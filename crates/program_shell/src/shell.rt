@@ -1,8 +1,11 @@
-ghost use Rattle.std.specs.Prelude.{◌≡◌, None, Some, map, MatchOption, MatchResult, option_map, string_bytes};
+ghost use Rattle.std.specs.Prelude.{◌≡◌, None, Some, map, MatchOption, MatchResult, option_copied, option_map, string_bytes};
 ghost use Rattle.clap.specs.Words.{kind_of};
+ghost use Rattle.command_arguments.specs.Arguments.{words_of};
 ghost use Rattle.program_shell.specs.Shell.{EndsCommand, EndsUnasked, EndsWithoutCut, EndsUnread, FindsBuiltIn, FindsCut, FindsFile, IsUnopened, RunsProgram, unopened};
 
+use crate::group::{end_without_group, is_good_group};
 use crate::logs_file::run_sites;
+use crate::service::{ask_once, serve_lines};
 use crate::standard_error::StandardError;
 use clap::error::ErrorKind as UsageKind;
 use command_arguments::{Command, Request, requested};
@@ -10,8 +13,11 @@ use exit_status::Status;
 use join_engine::join_engine;
 use judge_engine::{Cut, CutError, judge_engine};
 use layout_file::{LayoutFault, built_in, read_layout_file};
+use line_conversation::{Conversation, StreamConversation};
+use live_databases::{LiveDatabases, Opening};
 use merge_core::Layout;
 use play_engine::play_engine;
+use service_talk::{Noted, OneLine};
 use site_databases::{Databases, serve_stored};
 use std::alloc::Global;
 use std::io::{ErrorKind, Read, Write};
@@ -24,19 +30,16 @@ use text_input::{Sink, Source};
 /// Runs the program on a runtime's arguments, files and standard streams, and gives the exit status. The command `run`
 /// starts threads, and may wait; no other command does.
 pub fn run<
-    R: Env + Files + Databases + Input + Print + Eprint + AllocGlobal,
+    R: Env + Files + Databases + LiveDatabases + Input + Print + Eprint + AllocGlobal,
     T: Threads + Wait + Sync,
 >(rt: &R, threads: &T) -> u8 {
     let mut errors = Sink::new(StandardError::of(rt));
     match all_arguments(rt) {
-        Ok(arguments) => run_with(
-            rt,
-            threads,
-            arguments.as_slice(),
-            &mut Source::new(rt.reader()),
-            &mut Sink::new(io::writer(rt)),
-            &mut errors,
-        ),
+        Ok(arguments) => {
+            let source = Source::new(rt.reader());
+            let sink = Sink::new(io::writer(rt));
+            run_with(rt, threads, arguments.as_slice(), source, sink, &mut errors).0
+        }
         Err(error) => end_unread(error.kind(), &mut errors),
     }
 }
@@ -58,9 +61,10 @@ fn all_arguments<R: Env + AllocGlobal>(rt: &R) -> io::Result<Vec<String>> {
     Ok(arguments)
 }
 
-/// Carries out the command that the arguments ask for, or says what is to be said of them. Gives the exit status.
+/// Carries out the command that the arguments ask for, or says what is to be said of them. Gives the exit status, and
+/// hands source and sink back.
 pub fn run_with<
-    R: Files + Databases + AllocGlobal,
+    R: Files + Databases + LiveDatabases + AllocGlobal,
     T: Threads + Wait + Sync,
     I: Read,
     O: Write,
@@ -69,54 +73,112 @@ pub fn run_with<
     rt: &R,
     threads: &T,
     arguments: &[String],
-    source: &mut Source<I>,
-    sink: &mut Sink<O>,
+    source: Source<I>,
+    sink: Sink<O>,
     errors: &mut Sink<E>,
-) -> u8
-    ensures { RunsProgram (map string_bytes arguments.now) source.old source.new sink.old sink.new errors.old errors.new result }
+) -> (u8, Source<I>, Sink<O>)
+    ensures { RunsProgram ⟦<Noted<StreamConversation<I, O>> as Conversation>⟧ ⟦<Noted<OneLine<'static, O>> as Conversation>⟧ (map string_bytes arguments.now)
+        source result.1 sink result.2 errors.old errors.new result.0 }
 {
+    let mut sink = sink;
     let asked = match requested(rt.alloc(), arguments) {
         Ok(asked) => asked,
-        Err(error) => return end_unasked(&error, sink, errors),
+        Err(error) => {
+            let code = end_unasked(&error, &mut sink, errors);
+            return (code, source, sink);
+        }
     };
     let cut = match cut_of(rt.alloc(), asked.cut) {
         Ok(cut) => cut,
-        Err(error) => return end_without_cut(error, errors),
+        Err(error) => return (end_without_cut(error, errors), source, sink),
     };
+    if !is_good_group(asked.group) {
+        return (end_without_group(errors), source, sink);
+    }
     let layout = match layout_at(rt, asked.layout) {
         Ok(layout) => layout,
-        Err(fault) => return Status::without_layout(fault).end(errors),
+        Err(fault) => return (Status::without_layout(fault).end(errors), source, sink),
     };
-    let ended = carry_out(rt, threads, &asked, &cut, layout, source, sink);
-    ended.end(errors)
+    carry_out(rt, threads, &asked, &cut, layout, source, sink, errors)
 }
 
 // Carries out the command that is asked for under a layout.
-fn carry_out<R: Files + Databases + AllocGlobal, T: Threads + Wait + Sync, I: Read, O: Write>(
+fn carry_out<
+    R: Files + Databases + LiveDatabases + AllocGlobal,
+    T: Threads + Wait + Sync,
+    I: Read,
+    O: Write,
+    E: Write,
+>(
     rt: &R,
     threads: &T,
     asked: &Request,
     cut: &Cut,
     layout: Layout,
-    source: &mut Source<I>,
-    sink: &mut Sink<O>,
-) -> Status
-    ensures { EndsCommand asked.now.command cut.now (option_map (λ path. path.now) asked.now.out) layout source.old source.new sink.old sink.new result }
+    source: Source<I>,
+    sink: Sink<O>,
+    errors: &mut Sink<E>,
+) -> (u8, Source<I>, Sink<O>)
+    ensures { EndsCommand ⟦<Noted<StreamConversation<I, O>> as Conversation>⟧ ⟦<Noted<OneLine<'static, O>> as Conversation>⟧ asked.now.command cut.now
+        (option_map (λ path. path.now) asked.now.out) (option_copied asked.now.group) (words_of asked.now.words) layout source result.1 sink result.2 errors.old errors.new result.0 }
 {
+    let mut source = source;
+    let mut sink = sink;
+    let path = asked.store.unwrap_or(""); // clap has refused `site` without one
     match asked.command {
-        Command::Join => join_engine(rt.alloc(), &layout, source, sink),
+        Command::Join => {
+            let ended = join_engine(rt.alloc(), &layout, &mut source, &mut sink);
+            (ended.end(errors), source, sink)
+        }
         Command::Play { tables, first } => {
-            play_engine(rt.alloc(), layout, first, tables, source, sink)
+            let ended = play_engine(rt.alloc(), layout, first, tables, &mut source, &mut sink);
+            (ended.end(errors), source, sink)
         }
         Command::Site { site } => {
-            let path = asked.store.unwrap_or(""); // clap has refused arguments without one
-            serve_stored(rt, path, layout, site, source, sink)
+            let ended = serve_stored(rt, path, layout, site, &mut source, &mut sink);
+            (ended.end(errors), source, sink)
         }
-        Command::Judge => judge_engine(rt.alloc(), &layout, cut, source, sink),
+        Command::Serve { site, create, wait } => {
+            let opening = opening(asked, site, create, wait);
+            serve_lines(rt, opening, layout, source, sink, errors)
+        }
+        Command::Ask { site, create, wait } => {
+            let opening = opening(asked, site, create, wait);
+            let (code, sink) = ask_once(rt, opening, layout, &asked.words, sink, errors);
+            (code, source, sink)
+        }
+        Command::Judge => {
+            let ended = judge_engine(rt.alloc(), &layout, cut, &mut source, &mut sink);
+            (ended.end(errors), source, sink)
+        }
         Command::Run { turns } => {
             let turns = u64::from(turns.min(1000)); // clap has refused more
-            run_sites(rt, threads, &layout, turns, asked.out, source, sink)
+            let ended = run_sites(
+                rt,
+                threads,
+                &layout,
+                turns,
+                asked.out,
+                &mut source,
+                &mut sink,
+            );
+            (ended.end(errors), source, sink)
         }
+    }
+}
+
+// How the store of a service is opened. Clap has refused arguments without one.
+fn opening<'a>(asked: &Request<'a>, site: u16, create: bool, wait: u16) -> Opening<'a>
+    ensures site { result.site ≡ site }
+    ensures group { result.group ≡ asked.now.group }
+{
+    Opening {
+        path: asked.store.unwrap_or(""),
+        site,
+        group: asked.group,
+        create,
+        wait,
+        log: asked.log,
     }
 }
 

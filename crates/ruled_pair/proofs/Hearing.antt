@@ -1,8 +1,8 @@
 -- A text more in the report of a receiving end.
-use Rattle.std.proofs.Common.{◌≡◌, ℕ, ◌+◌, ◌-◌, ◌≤◌, Bool, true, false, true≢false, cond, List, [], ◌∷◌, ◌++◌, length, drop, refl, sym, ap, subst, ◌∙◌, arith, append_assoc, append-nil, length-append}
+use Rattle.std.proofs.Common.{◌≡◌, ℕ, ◌+◌, Bool, true, false, true≢false, cond, List, [], ◌∷◌, ◌++◌, length, drop, refl, sym, ap, subst, ◌∙◌, arith, append_assoc, append-nil, length-append}
 use Rattle.std.proofs.lemmas.List.{drop-append-le, length-drop}
 use Rattle.std.proofs.lemmas.List.Sums.{sum_by-append, sum_by-cons}
-use Rattle.std.specs.Prelude.{count_by, ◌||◌}
+use Rattle.std.specs.Prelude.{◌||◌}
 use Rattle.session_book.specs.declared.pass.Receipt.{Receipt}
 use Rattle.exchange_threads.specs.declared.fate.Fate.{Fate}
 use Rattle.exchange_threads.specs.declared.fate.Fate.TheVariants.{Merge, NoDelta, Memory, Ended}
@@ -51,23 +51,22 @@ fated_one n (s ∷ ts) (g ∷ fs) rs added t f none are is =
       fated_one (n + length are.0) ts fs are.1 added t f both.1 are.5 (subst (λ (k : ℕ). IsFateOf t f k added) (omega (arith, long)) is),
     )
 
-pub heard_one : (rs added : List Receipt) (first : ℕ) (texts : List (List ℕ)) (fates : List Fate) (n m : ℕ) (t : List ℕ) (f : Fate) → AreHeard rs first texts fates n m false → IsFateOf t f (length rs) added
-    → AreHeard (rs ++ added) first (texts ++ t ∷ []) (fates ++ f ∷ []) (n + 1) (m + fate_lacks f) (is_ended f)
-heard_one rs added first texts fates n m t f heard is = record {
+pub heard_one : (rs added : List Receipt) (first : ℕ) (texts : List (List ℕ)) (fates : List Fate) (m : ℕ) (t : List ℕ) (f : Fate) → AreHeard rs first texts fates m false → IsFateOf t f (length rs) added
+    → AreHeard (rs ++ added) first (texts ++ t ∷ []) (fates ++ f ∷ []) (m + fate_lacks f) (is_ended f)
+heard_one rs added first texts fates m t f heard is = record {
   begun = omega (arith, heard.begun, length-append rs added);
   fated =
       subst (λ (xs : List Receipt). AreFated first (texts ++ t ∷ []) (fates ++ f ∷ []) xs) (sym (drop-append-le first rs added heard.begun))
       (fated_one first texts fates (drop first rs) added t f heard.ends heard.fated
       (subst (λ (k : ℕ). IsFateOf t f k added) (omega (arith, heard.begun, length-drop first rs)) is));
-  number = omega (arith, heard.number, length-append fates (f ∷ []));
   lacking = omega (arith, heard.lacking, sum_by-append (λ g. cond (is_lacking g) 1 0) fates (f ∷ []), sum_by-cons (λ g. cond (is_lacking g) 1 0) f [], lacking_one f);
   ends = ended_one fates f heard.ends;
 }
 
 -- the report of a take, and of what came of it
-pub heard_note : (rs added : List Receipt) (first : ℕ) (texts texts' : List (List ℕ)) (fates fates' : List Fate) (n m : ℕ) (t : List ℕ) (f : Fate) → AreHeard rs first texts fates n m false
-    → IsFateOf t f (length rs) added → texts' ≡ texts ++ t ∷ [] → fates' ≡ fates ++ f ∷ [] → AreHeard (rs ++ added) first texts' fates' (n + 1) (m + fate_lacks f) (is_ended f)
-heard_note rs added first texts texts' fates fates' n m t f heard is are come =
-    subst (λ (fs : List Fate). AreHeard (rs ++ added) first texts' fs (n + 1) (m + fate_lacks f) (is_ended f)) (sym come)
-    (subst (λ (ts : List (List ℕ)). AreHeard (rs ++ added) first ts (fates ++ f ∷ []) (n + 1) (m + fate_lacks f) (is_ended f)) (sym are)
-    (heard_one rs added first texts fates n m t f heard is))
+pub heard_note : (rs added : List Receipt) (first : ℕ) (texts texts' : List (List ℕ)) (fates fates' : List Fate) (m : ℕ) (t : List ℕ) (f : Fate) → AreHeard rs first texts fates m false
+    → IsFateOf t f (length rs) added → texts' ≡ texts ++ t ∷ [] → fates' ≡ fates ++ f ∷ [] → AreHeard (rs ++ added) first texts' fates' (m + fate_lacks f) (is_ended f)
+heard_note rs added first texts texts' fates fates' m t f heard is are come =
+    subst (λ (fs : List Fate). AreHeard (rs ++ added) first texts' fs (m + fate_lacks f) (is_ended f)) (sym come)
+    (subst (λ (ts : List (List ℕ)). AreHeard (rs ++ added) first ts (fates ++ f ∷ []) (m + fate_lacks f) (is_ended f)) (sym are)
+    (heard_one rs added first texts fates m t f heard is))

@@ -1,12 +1,12 @@
 -- How the reports of both ends grow. The proofs stand here since the laws of the ends cite them.
-use Rattle.std.specs.Prelude.{◌≡◌, ℕ, ◌+◌, ◌≤◌, ◌<◌, Bool, true, false, List, [], ◌∷◌, ◌++◌, length, Option, Some, None, slice_get, drop, count_by}
-use Rattle.std.proofs.Common.{refl, sym, ap, subst, ◌∙◌, arith, zero, suc, length-append}
+use Rattle.std.specs.Prelude.{◌≡◌, ℕ, ◌+◌, ◌<◌, Bool, List, [], ◌∷◌, ◌++◌, length, Option, Some, slice_get}
+use Rattle.std.proofs.Common.{ap, ◌∙◌, arith, length-append}
 use Rattle.std.proofs.lemmas.Option.{slice_get_within, slice_get-get_or, get_or_from_slice_get}
 use Rattle.std.proofs.lemmas.List.{get_or_append_left}
 use Rattle.merge_core.specs.Delta.{DeltaState}
 use Rattle.session_book.specs.declared.pass.Receipt.{Receipt}
 use Rattle.exchange_threads.specs.declared.fate.Fate.{Fate}
-use Rattle.exchange_threads.specs.Outbox.{sent_text, shown_receipt}
+use Rattle.exchange_threads.specs.Outbox.{shown_receipt}
 use Rattle.ruled_pair.specs.Sent.{AreShownAt, AreSent}
 use Rattle.ruled_pair.specs.Heard.{AreHeard}
 
@@ -34,12 +34,11 @@ sent_grows {first} {ats} rs more sent = record {
   latest = sent.latest;
 }
 
-pub heard_lacks : {first : ℕ} {texts : List (List ℕ)} {fates : List Fate} {n : ℕ} (rs : List Receipt) (m k : ℕ) (ended : Bool) → AreHeard rs first texts fates n m ended
-    → AreHeard rs first texts fates n (m + k) ended
+pub heard_lacks : {first : ℕ} {texts : List (List ℕ)} {fates : List Fate} (rs : List Receipt) (m k : ℕ) (ended : Bool) → AreHeard rs first texts fates m ended
+    → AreHeard rs first texts fates (m + k) ended
 heard_lacks rs m k ended heard = record {
   begun = heard.begun;
   fated = heard.fated;
-  number = heard.number;
   lacking = omega (arith, heard.lacking);
   ends = heard.ends;
 }

@@ -24,11 +24,10 @@ abbrev pub any_ended : List Fate → Bool
 any_ended [] = false
 any_ended (f ∷ fs) = is_ended f || any_ended fs
 
--- Of a pass with these receipts, of which those from the first place on are new: what came of each of the n texts that were
+-- Of a pass with these receipts, of which those from the first place on are new: what came of each of these texts that were
 -- taken; memory ran out over at most m; and whether the last text ended the run.
-pub record AreHeard (rs : List Receipt) (first : ℕ) (texts : List (List ℕ)) (fates : List Fate) (n m : ℕ) (ended : Bool) : Type 0 where
+pub record AreHeard (rs : List Receipt) (first : ℕ) (texts : List (List ℕ)) (fates : List Fate) (m : ℕ) (ended : Bool) : Type 0 where
   pub begun : first ≤ length rs
   pub fated : AreFated first texts fates (drop first rs)
-  pub number : n ≡ length fates
   pub lacking : count_by is_lacking fates ≤ m
   pub ends : any_ended fates ≡ ended

@@ -1,10 +1,11 @@
 -- What the runners of a direction leave, and what its report says (this project's own).
-use Rattle.std.specs.Prelude.{◌≡◌, ◌≢◌, ℕ, Bool, true, List, [], ◌++◌, length, map, string_bytes, Option, Result, Ok, Err}
+use Rattle.std.specs.Prelude.{◌≡◌, ◌≢◌, ◌≤◌, ◌⊎◌, ℕ, Bool, true, false, List, [], ◌++◌, length, map, string_bytes, Option}
 use Rattle.merge_core.specs.Delta.{DeltaState}
 use Rattle.session_book.specs.declared.pass.Receipt.{Receipt}
 use Rattle.session_book.specs.Passes.{PassState}
 use Rattle.exchange_threads.specs.declared.report.OutReport.{OutReport}
 use Rattle.exchange_threads.specs.declared.report.InReport.{InReport}
+use Rattle.ordered_link.specs.Rule.{link_capacity}
 use Rattle.exchange_threads.specs.Turns.{IsMarked}
 use Rattle.exchange_threads.specs.Outbox.{HasRunOut}
 use Rattle.exchange_threads.specs.Inbox.{HasRunIn}
@@ -31,22 +32,24 @@ pub record IsFreshInlet (e : RuledInlet) (count : ℕ) : Type 0 where
   pub fates : e.fates.items ≡ []
   pub link : e.taker.taken ≡ []
 
--- the report of a sending end is right, and tells what was put
+-- the report of a sending end is right, and tells what was put; the link was told that no text follows, or its taker is gone
 pub record HasSent (old new : RuledOutlet) (rs : List Receipt) (n : ℕ) : Type 0 where
   pub first : new.first ≡ old.first
   pub link : new.putter.link ≡ old.putter.link
   pub last : Option DeltaState
   pub sent : AreSent rs new.first new.sent_at.items (map string_bytes new.put.items) n last
   pub put : new.putter.put ≡ map string_bytes new.put.items
+  pub finished : (new.putter.finished ≡ true) ⊎ (new.putter.closed ≡ true)
 
--- the report of a receiving end is right, and tells what was taken
-pub record HasTaken (old new : RuledInlet) (p : PassState) (n m : ℕ) : Type 0 where
+-- the report of a receiving end is right, and tells what was taken; the end is closed
+pub record HasTaken (old new : RuledInlet) (p : PassState) (m : ℕ) : Type 0 where
   pub first : new.first ≡ old.first
   pub link : new.taker.link ≡ old.taker.link
   pub ended : Bool
-  pub heard : AreHeard p.receipts new.first (map string_bytes new.taken.items) new.fates.items n m ended
+  pub heard : AreHeard p.receipts new.first (map string_bytes new.taken.items) new.fates.items m ended
   pub marked : ended ≡ true → IsMarked p
   pub taken : new.taker.taken ≡ map string_bytes new.taken.items
+  pub closed : new.taker.receives ≡ false
 
 -- both ends of a new link, for passes that have so many receipts
 pub record IsFresh (d : Direction) (out_count in_count : ℕ) : Type 0 where
@@ -57,20 +60,22 @@ pub record IsFresh (d : Direction) (out_count in_count : ℕ) : Type 0 where
 -- both runners of a direction have run
 pub record HasRunBoth (records asked : ℕ) (out_old out_new in_old in_new : PassState) (old new : Direction) (out : OutReport) (got : InReport) : Type 0 where
   pub ran_out : HasRunOut records out_old out_new asked out
-  pub ran_in : HasRunIn in_old in_new asked got
+  pub ran_in : HasRunIn (map string_bytes new.inlet.taken.items) in_old in_new asked got
   pub sent : HasSent old.outlet new.outlet out_new.receipts out.sent
-  pub taken : HasTaken old.inlet new.inlet in_new got.taken got.memory
+  pub taken : HasTaken old.inlet new.inlet in_new got.memory
 
--- What was taken is a prefix of what was put, byte for byte; and both runners' reports are right of their passes.
+-- What was taken is a prefix of what was put, byte for byte, and lacks at most as many texts as a link holds; and both
+-- runners' reports are right of their passes, the inbox's of the texts that are listed as taken.
 pub record IsPairReport (records asked : ℕ) (out_old out_new in_old in_new : PassState) (r : PairReport) : Type 0 where
   pub rest : List (List ℕ)
   pub link : map string_bytes r.put.items ≡ map string_bytes r.taken.items ++ rest
+  pub left : length rest ≤ link_capacity
   pub ran_out : HasRunOut records out_old out_new asked r.out
-  pub ran_in : HasRunIn in_old in_new asked r.got
+  pub ran_in : HasRunIn (map string_bytes r.taken.items) in_old in_new asked r.got
   pub last : Option DeltaState
   pub sent : AreSent out_new.receipts (length out_old.receipts) r.sent_at.items (map string_bytes r.put.items) r.out.sent last
   pub ended : Bool
-  pub heard : AreHeard in_new.receipts (length in_old.receipts) (map string_bytes r.taken.items) r.fates.items r.got.taken r.got.memory ended
+  pub heard : AreHeard in_new.receipts (length in_old.receipts) (map string_bytes r.taken.items) r.fates.items r.got.memory ended
   pub marked : ended ≡ true → IsMarked in_new
 
 -- why no runner was started: both sites have one number; or memory ran out, where they have not

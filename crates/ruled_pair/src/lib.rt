@@ -1,5 +1,5 @@
-//! Two sites linked both ways by links that keep their order: what arrives is a prefix of what was sent, and is merged in
-//! that order.
+//! Two sites linked both ways by links that keep their order: what arrives is a prefix of what was sent, and is handed to the
+//! site in that order.
 #![tactic(auto)]
 
 pub use pair::{PairError, PairReport, RuledEnd, run_ruled_pair};

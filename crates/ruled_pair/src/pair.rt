@@ -1,5 +1,6 @@
-ghost use Rattle.std.specs.Prelude.{◌≡◌, ◌≢◌, ◌≤◌, ℕ, List, ◌++◌, length, IfOk, IfErr, OnOk, OnErr};
+ghost use Rattle.std.specs.Prelude.{◌≡◌, ◌≢◌, ◌≤◌, ℕ, List, ◌++◌, length, map, string_bytes, IfOk, IfErr, OnOk, OnErr};
 ghost use denote.Param.Send.{IsSend, IsSync};
+ghost use Rattle.ordered_link.specs.Rule.{link_capacity};
 ghost use Rattle.exchange_threads.specs.Outbox.{HasRunOut};
 ghost use Rattle.exchange_threads.specs.Inbox.{HasRunIn};
 ghost use Rattle.ruled_pair.specs.Pairs.{HasRunBoth, HasSent, HasTaken, IsFresh, IsFreshInlet, IsFreshOutlet, IsPairReport, IsRefusal};
@@ -101,8 +102,8 @@ fn take_texts<K: Keeper, L: Opening, R: Wait>(
 ) -> InReport
     requires few { turns ≤ 1000000000 }
     requires fresh { IsFreshInlet inlet.old (length pass.old.receipts) }
-    ensures ran { HasRunIn pass.old pass.new turns result }
-    ensures taken { HasTaken inlet.old inlet.new pass.new result.taken result.memory }
+    ensures ran { HasRunIn (map string_bytes inlet.new.taken.items) pass.old pass.new turns result }
+    ensures taken { HasTaken inlet.old inlet.new pass.new result.memory }
 {
     let report = run_inbox_at(rt, alloc, site, pass, inlet, turns);
     inlet.taker.close();
@@ -145,7 +146,7 @@ fn run_direction<
 // The report of a direction whose runners have ended.
 fn report_of(direction: Direction, out: OutReport, got: InReport) -> PairReport
     requires link { direction.outlet.putter.link ≡ direction.inlet.taker.link }
-    ensures link { (rest : List (List ℕ)) × (direction.outlet.putter.put ≡ direction.inlet.taker.taken ++ rest) }
+    ensures link { (rest : List (List ℕ)) × (direction.outlet.putter.put ≡ direction.inlet.taker.taken ++ rest) × (length rest ≤ link_capacity) }
     ensures put { result.put ≡ direction.outlet.put }
     ensures taken { result.taken ≡ direction.inlet.taken }
     ensures sent_at { result.sent_at ≡ direction.outlet.sent_at }
@@ -185,6 +186,9 @@ fn report_of(direction: Direction, out: OutReport, got: InReport) -> PairReport
 /// started, runners run in turn, and then may wait for ever for one another. May wait.
 ///
 /// That what is taken is a prefix of what was put goes by a rule that the channel keeps under every schedule.
+///
+/// The reports keep each text twice, once as put and once as taken, until they are dropped: so memory grows with the turns,
+/// linearly in the sum of the lengths of all texts. Each put copies its text.
 pub fn run_ruled_pair<
     K: Keeper + Send,
     L: Opening + Send + Sync,

@@ -1,6 +1,8 @@
-//! The closed logs that a run writes: they are read again, and judged again.
+//! The closed logs that a run writes: they are read again, and judged again. Those of two linked sites have the calls of
+//! their runners.
 use crate::runs::{ONE_SITE, ending};
-use desk_log::Transcript;
+use admission_core::{Ask, Call};
+use desk_log::{Entry, Transcript};
 use exit_status::Status;
 use judge_engine::{Cut, judge_engine};
 use layout_file::read_layout;
@@ -117,4 +119,68 @@ fn logs_are_read_and_judged_again(rt: HostRuntime) {
     for row in &SCRIPTS {
         assert!(rt; are_judged_again(&rt, rt.alloc(), row) == Some(true));
     }
+}
+
+// What the runners of a site called: for help, for a snapshot, to merge, and anything else.
+#[derive(Clone, Copy, Debug, PartialEq, Eq)]
+struct Calls {
+    help: u32,
+    snapshot: u32,
+    merge: u32,
+    other: u32,
+}
+
+// One call more. At each of two sites pass 0 is the caller's, pass 1 the outbox's, and pass 2 the inbox's.
+fn count_entry(calls: &mut Calls, entry: &Entry) {
+    let count = match (entry.pass, &entry.call) {
+        (0, _) => return,
+        (1, Call::Ask(Ask::Help { .. })) => &mut calls.help,
+        (1, Call::Snapshot) => &mut calls.snapshot,
+        (2, Call::Merge(_)) => &mut calls.merge,
+        _ => &mut calls.other,
+    };
+    *count = count.saturating_add(1);
+}
+
+// What the runners of a site called in its last run.
+fn calls_of(transcript: &Transcript) -> Option<Calls> {
+    let mut calls = Calls {
+        help: 0,
+        snapshot: 0,
+        merge: 0,
+        other: 0,
+    };
+    for entry in transcript.runs.as_slice().last()?.entries.as_slice() {
+        count_entry(&mut calls, entry);
+    }
+    Some(calls)
+}
+
+// What the runners of two sites called.
+fn linked_calls<Rt: Threads + Wait + Sync>(
+    rt: &Rt,
+    alloc: Global,
+    script: &str,
+) -> Option<(Calls, Calls)> {
+    let logs = logs_of(rt, alloc, TWO_SITES, script)?;
+    let layout = read_layout(alloc, TWO_SITES.as_bytes()).ok()?;
+    let transcripts = read_transcripts(alloc, &layout, logs.bytes()).ok()?;
+    let transcripts = transcripts.as_slice();
+    Some((
+        calls_of(transcripts.first()?)?,
+        calls_of(transcripts.get(1)?)?,
+    ))
+}
+
+// Two sites are linked both ways: in each of the 30 turns each asks itself to help and tells, and hears the other.
+#[test]
+fn two_sites_tell_each_other_at_each_turn(rt: HostRuntime) {
+    let each = Calls {
+        help: 30,
+        snapshot: 30,
+        merge: 30,
+        other: 0,
+    };
+    let found = linked_calls(&rt, rt.alloc(), "1 announce a 5\n0 read a 1\n");
+    assert!(rt; found == Some((each, each)), "{found:?}");
 }

@@ -1,6 +1,5 @@
 -- From the opening of a site to the end of the service.
-use Rattle.std.proofs.Common.{◌≡◌, ℕ, ◌<◌, ◌≤◌, ◌⊎◌, inl, inr, Bool, true, false, List, [], length, refl, sym, ap, subst, arith}
-use Rattle.merge_core.specs.declared.layout.RecordSpec.{RecordSpec}
+use Rattle.std.proofs.Common.{◌≡◌, ℕ, ◌<◌, ◌≤◌, ◌⊎◌, inl, inr, Bool, true, false, List, [], Option, length, refl, sym, ap, subst, arith}
 use Rattle.merge_core.specs.Layout.{LayoutState, Shape}
 use Rattle.admission_model.specs.Account.{Account}
 use Rattle.admission_core.specs.Core.{Stands}
@@ -14,26 +13,28 @@ use Rattle.line_conversation.specs.declared.conversation.Conversation.{Ghosts as
 use Rattle.live_site.specs.declared.call_log.CallLog.{Ghosts as LogGhosts}
 use Rattle.live_site.specs.Live.{LiveState, IsFreshSite}
 use Rattle.desk_log.specs.declared.entry.Entry.{Entry}
+use Rattle.serve_engine.specs.declared.turns.Turned.{Turned}
+use Rattle.serve_engine.specs.Requests.{Terms, terms_of}
 use Rattle.serve_engine.specs.Exchanges.{Exchange, HasServed, turns_of}
 use Rattle.serve_engine.specs.Ending.{ServedSite, EndsWell, EndsEarly, EndsSite, EndsServing, Serving}
-use Rattle.serve_engine.specs.Steps.{StandsBehind, Works, Fails, ended}
+use Rattle.serve_engine.specs.Steps.{StandsBehind, TurnsTo, Works, Fails, ended}
 
-module _ {K : Type 0} (g : Ghosts K) (records : List RecordSpec) (a : Account) where
+module _ {K : Type 0} (g : Ghosts K) (terms : Terms) (a : Account) where
   -- what is known of a site at work is what it served
-  site_served : (first : DurableState) (keeper : K) (live : LiveState K) (xs : List Exchange) (es : List Entry) → StandsBehind g records a first keeper live xs es
-      → ServedSite g records a first live.frozen keeper live.keeper xs es
+  site_served : (first : DurableState) (keeper : K) (live : LiveState K) (xs : List Exchange) (es : List Entry) → StandsBehind g terms a first keeper live xs es
+      → ServedSite g terms a first live.frozen keeper live.keeper xs es
   site_served first keeper live xs es st = record { fault = st.fault; account = st.account; tried = st.tried; served = st.served; kept = st.kept }
 
   -- the same from what was kept before
   rebased : (first d : DurableState) (frozen : Bool) (keeper k keeper_after : K) (xs : List Exchange) (es : List Entry) → (g.keeps keeper first → g.keeps k d)
-      → ServedSite g records a d frozen k keeper_after xs es → ServedSite g records a first frozen keeper keeper_after xs es
+      → ServedSite g terms a d frozen k keeper_after xs es → ServedSite g terms a first frozen keeper keeper_after xs es
   rebased first d frozen keeper k keeper_after xs es on it =
       record { fault = it.fault; account = it.account; tried = it.tried; served = it.served; kept = λ kept. it.kept (on kept) }
 
-module _ {K C L : Type 0} (g : Ghosts K) (c : TalkGhosts C) (h : LogGhosts L) (records : List RecordSpec) (a : Account) where
+module _ {K C L : Type 0} (g : Ghosts K) (c : TalkGhosts C) (h : LogGhosts L) (terms : Terms) (a : Account) where
   -- no turn took place yet
   pub works_first : (live : LiveState K) (talk : C) (log : L) → live.frozen ≡ false → Stands a live.core → c.took_place talk [] talk → h.took log [] log
-      → Works g c h records a (durable_of a) live.keeper live talk talk log log 0
+      → Works g c h terms a (durable_of a) live.keeper live talk talk log log 0
   works_first live talk log running stands begins none = record {
     exchanges = [];
     entries = [];
@@ -43,7 +44,7 @@ module _ {K C L : Type 0} (g : Ghosts K) (c : TalkGhosts C) (h : LogGhosts L) (r
       fault = false;
       account = a;
       tried = a;
-      served = subst (λ (f : Bool). HasServed records f a [] [] false a a) (sym running) ((refl, refl), refl, refl);
+      served = subst (λ (f : Bool). HasServed terms f a [] [] false a a) (sym running) ((refl, refl), refl, refl);
       stands = stands;
       kept = λ kept. kept;
     };
@@ -52,26 +53,26 @@ module _ {K C L : Type 0} (g : Ghosts K) (c : TalkGhosts C) (h : LogGhosts L) (r
 
   module _ (first : DurableState) (keeper : K) (live : LiveState K) (talk talk_now : C) (log log_now : L) where
     -- the conversation ended
-    pub ends_well : (n : ℕ) → Works g c h records a first keeper live talk talk_now log log_now n → c.has_ended talk_now
-        → EndsSite g c h records a first keeper live.keeper talk talk_now log log_now (ended live.frozen)
+    pub ends_well : (n : ℕ) → Works g c h terms a first keeper live talk talk_now log log_now n → c.has_ended talk_now
+        → EndsSite g c h terms a first keeper live.keeper talk talk_now log log_now (ended live.frozen)
     ends_well n w at_end = at live.frozen refl
       where
-        well : (f : Bool) → live.frozen ≡ f → EndsWell g c h records a first f keeper live.keeper talk talk_now log log_now
+        well : (f : Bool) → live.frozen ≡ f → EndsWell g c h terms a first f keeper live.keeper talk talk_now log log_now
         well f is = record {
           exchanges = w.exchanges;
           entries = w.entries;
           heard = w.heard;
           logged = w.logged;
-          site = subst (λ (b : Bool). ServedSite g records a first b keeper live.keeper w.exchanges w.entries) is (site_served g records a first keeper live w.exchanges w.entries w.site);
+          site = subst (λ (b : Bool). ServedSite g terms a first b keeper live.keeper w.exchanges w.entries) is (site_served g terms a first keeper live w.exchanges w.entries w.site);
           ended = at_end;
         }
 
-        at : (f : Bool) → live.frozen ≡ f → EndsSite g c h records a first keeper live.keeper talk talk_now log log_now (ended f)
+        at : (f : Bool) → live.frozen ≡ f → EndsSite g c h terms a first keeper live.keeper talk talk_now log log_now (ended f)
         at true is = well true is
         at false is = well false is
 
     -- it failed, or the log did
-    pub ends_early : Fails g c h records a first keeper live talk talk_now log log_now → EndsEarly g c h records a first keeper live.keeper talk talk_now log log_now
+    pub ends_early : Fails g c h terms a first keeper live talk talk_now log log_now → EndsEarly g c h terms a first keeper live.keeper talk talk_now log log_now
     ends_early f = record {
       frozen = live.frozen;
       exchanges = f.exchanges;
@@ -80,7 +81,7 @@ module _ {K C L : Type 0} (g : Ghosts K) (c : TalkGhosts C) (h : LogGhosts L) (r
       last = f.last;
       heard = f.heard;
       logged = f.logged;
-      site = site_served g records a first keeper live f.exchanges f.entries f.site;
+      site = site_served g terms a first keeper live f.exchanges f.entries f.site;
       why = cause f.why;
     }
       where
@@ -89,8 +90,8 @@ module _ {K C L : Type 0} (g : Ghosts K) (c : TalkGhosts C) (h : LogGhosts L) (r
         cause (inr failed) = inr (inl failed)
 
     -- no more exchanges are counted
-    pub ends_counted : (n : ℕ) → Works g c h records a first keeper live talk talk_now log log_now n → 18446744073709551615 ≤ n
-        → EndsEarly g c h records a first keeper live.keeper talk talk_now log log_now
+    pub ends_counted : (n : ℕ) → Works g c h terms a first keeper live talk talk_now log log_now n → 18446744073709551615 ≤ n
+        → EndsEarly g c h terms a first keeper live.keeper talk talk_now log log_now
     ends_counted n w many = record {
       frozen = live.frozen;
       exchanges = w.exchanges;
@@ -99,27 +100,62 @@ module _ {K C L : Type 0} (g : Ghosts K) (c : TalkGhosts C) (h : LogGhosts L) (r
       last = inl refl;
       heard = w.heard;
       logged = inl w.logged;
-      site = site_served g records a first keeper live w.exchanges w.entries w.site;
+      site = site_served g terms a first keeper live w.exchanges w.entries w.site;
       why = inr (inr (omega (arith, w.counted, many)));
     }
 
   -- the same from what was kept before
   pub from_kept : (first d : DurableState) (keeper k keeper_after : K) (talk talk_after : C) (log log_after : L) (status : Status) → (g.keeps keeper first → g.keeps k d)
-      → EndsSite g c h records a d k keeper_after talk talk_after log log_after status → EndsSite g c h records a first keeper keeper_after talk talk_after log log_after status
+      → EndsSite g c h terms a d k keeper_after talk talk_after log log_after status → EndsSite g c h terms a first keeper keeper_after talk talk_after log log_after status
   from_kept first d keeper k keeper_after talk talk_after log log_after Done on it =
-      record { exchanges = it.exchanges; entries = it.entries; heard = it.heard; logged = it.logged; ended = it.ended; site = rebased g records a first d false keeper k keeper_after it.exchanges it.entries on it.site }
+      record {
+        exchanges = it.exchanges;
+        entries = it.entries;
+        heard = it.heard;
+        logged = it.logged;
+        ended = it.ended;
+        site = rebased g terms a first d false keeper k keeper_after it.exchanges it.entries on it.site;
+      }
   from_kept first d keeper k keeper_after talk talk_after log log_after Fault on it =
-      record { exchanges = it.exchanges; entries = it.entries; heard = it.heard; logged = it.logged; ended = it.ended; site = rebased g records a first d true keeper k keeper_after it.exchanges it.entries on it.site }
+      record {
+        exchanges = it.exchanges;
+        entries = it.entries;
+        heard = it.heard;
+        logged = it.logged;
+        ended = it.ended;
+        site = rebased g terms a first d true keeper k keeper_after it.exchanges it.entries on it.site;
+      }
   from_kept first d keeper k keeper_after talk talk_after log log_after Io on it =
-      record { frozen = it.frozen; exchanges = it.exchanges; entries = it.entries; turns = it.turns; last = it.last; heard = it.heard; logged = it.logged; why = it.why; site = rebased g records a first d it.frozen keeper k keeper_after it.exchanges it.entries on it.site }
+      record {
+        frozen = it.frozen;
+        exchanges = it.exchanges;
+        entries = it.entries;
+        turns = it.turns;
+        last = it.last;
+        heard = it.heard;
+        logged = it.logged;
+        why = it.why;
+        site = rebased g terms a first d it.frozen keeper k keeper_after it.exchanges it.entries on it.site;
+      }
   from_kept first d keeper k keeper_after talk talk_after log log_after Usage on it = absurd it
   from_kept first d keeper k keeper_after talk talk_after log log_after (NoLayout fault) on it = absurd it
   from_kept first d keeper k keeper_after talk talk_after log log_after (NoStore refusal) on it = absurd it
   from_kept first d keeper k keeper_after talk talk_after log log_after Refused on it = absurd it
   from_kept first d keeper k keeper_after talk talk_after log log_after Memory on it = absurd it
 
+-- a turn at a site whose layout is the one that it began with
+module _ {K C L : Type 0} (g : Ghosts K) (c : TalkGhosts C) (h : LogGhosts L) (group : Option (List ℕ)) (here there : LayoutState) (same : there ≡ here) (a : Account)
+    (first : DurableState) (keeper : K) (before live : LiveState K) (talk talk_before talk_now : C) (log log_before log_now : L) (n : ℕ) where
+  pub turn_there : (turn : Turned) → Works g c h (terms_of here group) a first keeper before talk talk_before log log_before n
+      → (Works g c h (terms_of there group) a first keeper before talk talk_before log log_before n → TurnsTo g c h (terms_of there group) a first keeper live talk talk_now log log_now n turn)
+      → TurnsTo g c h (terms_of here group) a first keeper live talk talk_now log log_now n turn
+  turn_there turn works turns =
+      subst (λ (x : LayoutState). TurnsTo g c h (terms_of x group) a first keeper live talk talk_now log log_now n turn) same
+      (turns (subst (λ (x : LayoutState). Works g c h (terms_of x group) a first keeper before talk talk_before log log_before n) (sym same) works))
+
 -- a site was opened and served its lines
-module _ {K C L : Type 0} (g : Ghosts K) (c : TalkGhosts C) (h : LogGhosts L) (layout : LayoutState) (i : ℕ) (keeper : K) (opened : LiveState K) (there : i < layout.sites) (fresh : IsFreshSite g keeper layout i opened) where
+module _ {K C L : Type 0} (g : Ghosts K) (c : TalkGhosts C) (h : LogGhosts L) (layout : LayoutState) (i : ℕ) (group : Option (List ℕ))
+    (keeper : K) (opened : LiveState K) (there : i < layout.sites) (fresh : IsFreshSite g keeper layout i opened) where
   abbrev first : DurableState
   first = fresh.begins.first
 
@@ -137,8 +173,8 @@ module _ {K C L : Type 0} (g : Ghosts K) (c : TalkGhosts C) (h : LogGhosts L) (l
       subst (λ (d : DurableState). g.keeps opened.keeper d) (sym (durable_begun layout i first there few fresh.begins.cells fresh.begins.sessions)) (fresh.keeps_on.keeps first kept)
 
   pub serving : (keeper_after : K) (talk talk_after : C) (log log_after : L) (status : Status) → (g.is_honest keeper_after → g.is_honest opened.keeper)
-      → ((b : Account) → Stands b opened.core → EndsSite g c h opened.core.layout.records b (durable_of b) opened.keeper keeper_after talk talk_after log log_after status)
-      → Serving g c h layout i keeper keeper_after talk talk_after log log_after status
+      → ((b : Account) → Stands b opened.core → EndsSite g c h (terms_of opened.core.layout group) b (durable_of b) opened.keeper keeper_after talk talk_after log log_after status)
+      → Serving g c h layout i group keeper keeper_after talk talk_after log log_after status
   serving keeper_after talk talk_after log log_after status honest ends = record {
     first = first;
     began = record {
@@ -146,13 +182,13 @@ module _ {K C L : Type 0} (g : Ghosts K) (c : TalkGhosts C) (h : LogGhosts L) (l
       cells = fresh.begins.cells;
       sessions = fresh.begins.sessions;
     };
-    ended = from_kept g c h layout.records a first (durable_of a) keeper opened.keeper keeper_after talk talk_after log log_after status kept_on
-        (subst (λ (rs : List RecordSpec). EndsSite g c h rs a (durable_of a) opened.keeper keeper_after talk talk_after log log_after status)
-        (ap (λ (l : LayoutState). l.records) fresh.of_layout) (ends a fresh.begins.stands));
+    ended = from_kept g c h (terms_of layout group) a first (durable_of a) keeper opened.keeper keeper_after talk talk_after log log_after status kept_on
+        (subst (λ (l : LayoutState). EndsSite g c h (terms_of l group) a (durable_of a) opened.keeper keeper_after talk talk_after log log_after status)
+        fresh.of_layout (ends a fresh.begins.stands));
   }
 
-  pub ends_serving : (keeper_after : K) (talk talk_after : C) (log log_after : L) (status : Status) → Serving g c h layout i keeper keeper_after talk talk_after log log_after status
-      → EndsServing g c h layout i keeper keeper_after talk talk_after log log_after status
+  pub ends_serving : (keeper_after : K) (talk talk_after : C) (log log_after : L) (status : Status) → Serving g c h layout i group keeper keeper_after talk talk_after log log_after status
+      → EndsServing g c h layout i group keeper keeper_after talk talk_after log log_after status
   ends_serving keeper_after talk talk_after log log_after Done it = it
   ends_serving keeper_after talk talk_after log log_after Fault it = it
   ends_serving keeper_after talk talk_after log log_after Io it = it

@@ -1,17 +1,21 @@
 -- The texts that the service answers with (this project's own format), each with its LF.
-use Rattle.std.specs.Prelude.{ℕ, ◌+◌, ◌==◌, nat_lt, Bool, true, false, List, [], ◌∷◌, ◌++◌, length, codes, decimal, if◌then◌else◌}
+use Rattle.std.specs.Prelude.{ℕ, ◌+◌, ◌==◌, nat_lt, Bool, true, false, List, [], ◌∷◌, ◌++◌, length, codes, decimal, if◌then◌else◌, Option, Some, None}
 use Rattle.session_list.specs.declared.session.Session.{Session}
 use Rattle.admission_model.specs.declared.reply.Refusal.TheVariants.{Frozen, Memory, NoRecord, StoreFault}
-use Rattle.admission_model.specs.declared.reply.Reply.TheVariants.{Refused}
+use Rattle.admission_model.specs.declared.reply.Reply.{Reply}
+use Rattle.admission_model.specs.declared.reply.Reply.TheVariants.{Refused, Snapshot}
 use Rattle.admission_model.specs.Account.{Account, layout_of, inside, sessions_of, writers_here}
 use Rattle.admission_model.specs.View.{view_of, rights_of}
 use Rattle.script_text.specs.Replies.{phase_word}
 use Rattle.live_site.specs.Live.{line_of}
 
--- refusals of the service itself: a line that asks for nothing, one that is too long, one without memory, a site that
--- serves no more, and a store that failed
+-- refusals of the service itself: a line that asks for nothing, a text of another group of sites or of none, a line that is
+-- too long, one without memory, a site that serves no more, and a store that failed
 abbrev pub bad_word_line : List ℕ
 bad_word_line = codes "refused BadWord\n"
+
+abbrev pub wrong_group_line : List ℕ
+wrong_group_line = codes "refused WrongGroup\n"
 
 abbrev pub too_long_line : List ℕ
 too_long_line = codes "refused TooLong\n"
@@ -24,6 +28,16 @@ frozen_line = line_of (Refused Frozen)
 
 abbrev pub fault_line : List ℕ
 fault_line = line_of (Refused StoreFault)
+
+-- what stands before the text of a delta that a site sends: the name of its group and a blank
+abbrev pub group_mark : Option (List ℕ) → List ℕ
+group_mark None = []
+group_mark (Some name) = name ++ codes " "
+
+-- a reply as a line of a site of the group: only a delta that is sent is marked
+abbrev pub reply_line : Option (List ℕ) → Reply → List ℕ
+reply_line group (Snapshot delta) = group_mark group ++ line_of (Snapshot delta)
+reply_line group reply = line_of reply
 
 -- a number behind a word
 abbrev pub field : List ℕ → ℕ → List ℕ

@@ -1,6 +1,5 @@
 -- What the service did, by the status that it ended with.
-use Rattle.std.specs.Prelude.{◌≡◌, ℕ, ◌<◌, ◌≤◌, ◌⊎◌, Bool, true, false, List, [], ◌∷◌, ◌++◌, length}
-use Rattle.merge_core.specs.declared.layout.RecordSpec.{RecordSpec}
+use Rattle.std.specs.Prelude.{◌≡◌, ℕ, ◌<◌, ◌≤◌, ◌⊎◌, Bool, true, false, List, [], ◌∷◌, ◌++◌, length, Option}
 use Rattle.merge_core.specs.Layout.{LayoutState}
 use Rattle.admission_model.specs.Account.{Account}
 use Rattle.admission_core.specs.Kept.{DurableState}
@@ -15,6 +14,7 @@ use Rattle.site_engine.specs.Sites.{Began, IsUnfit}
 use Rattle.line_conversation.specs.Turns.{Line, Turn, Heard}
 use Rattle.line_conversation.specs.declared.conversation.Conversation.{Ghosts as TalkGhosts}
 use Rattle.live_site.specs.declared.call_log.CallLog.{Ghosts as LogGhosts}
+use Rattle.serve_engine.specs.Requests.{Terms, terms_of}
 use Rattle.serve_engine.specs.Exchanges.{Exchange, turns_of, HasServed}
 
 -- how many exchanges are counted: behind so many the service ends
@@ -32,27 +32,27 @@ EndsIn xs turns =
 module _ {K : Type 0} where
   -- A site served these exchanges, from an account, and handed these entries to its log; what is then kept is the
   -- durable part of the account behind them, or, where the store failed, that or the one behind the call that met it.
-  pub record ServedSite (g : Ghosts K) (records : List RecordSpec) (a : Account) (first : DurableState)
+  pub record ServedSite (g : Ghosts K) (terms : Terms) (a : Account) (first : DurableState)
       (frozen : Bool) (keeper keeper_after : K) (xs : List Exchange) (entries : List Entry) : Type 0 where
     pub fault : Bool
     pub account : Account
     pub tried : Account
-    pub served : HasServed records frozen a xs entries fault account tried
+    pub served : HasServed terms frozen a xs entries fault account tried
     pub kept : g.keeps keeper first → Leaves g fault keeper_after account tried
 
 module _ {K C L : Type 0} where
   -- The conversation came to its end: it grew by line, answer, line, answer; each answer is the model's.
-  pub record EndsWell (g : Ghosts K) (c : TalkGhosts C) (h : LogGhosts L) (records : List RecordSpec) (a : Account)
+  pub record EndsWell (g : Ghosts K) (c : TalkGhosts C) (h : LogGhosts L) (terms : Terms) (a : Account)
       (first : DurableState) (frozen : Bool) (keeper keeper_after : K) (talk talk_after : C) (log log_after : L) : Type 0 where
     pub exchanges : List Exchange
     pub entries : List Entry
     pub heard : c.took_place talk (turns_of exchanges) talk_after
     pub logged : h.took log entries log_after
-    pub site : ServedSite g records a first frozen keeper keeper_after exchanges entries
+    pub site : ServedSite g terms a first frozen keeper keeper_after exchanges entries
     pub ended : c.has_ended talk_after
 
   -- The conversation or the log failed: the last exchange is perhaps not complete.
-  pub record EndsEarly (g : Ghosts K) (c : TalkGhosts C) (h : LogGhosts L) (records : List RecordSpec) (a : Account)
+  pub record EndsEarly (g : Ghosts K) (c : TalkGhosts C) (h : LogGhosts L) (terms : Terms) (a : Account)
       (first : DurableState) (keeper keeper_after : K) (talk talk_after : C) (log log_after : L) : Type 0 where
     pub frozen : Bool
     pub exchanges : List Exchange
@@ -61,22 +61,22 @@ module _ {K C L : Type 0} where
     pub last : EndsIn exchanges turns
     pub heard : c.took_place talk turns talk_after
     pub logged : h.took log entries log_after ⊎ h.has_failed log_after
-    pub site : ServedSite g records a first frozen keeper keeper_after exchanges entries
+    pub site : ServedSite g terms a first frozen keeper keeper_after exchanges entries
     pub why : c.has_failed talk_after ⊎ (h.has_failed log_after ⊎ (most_exchanges ≤ length exchanges))
 
   -- how a site that was opened ended
-  abbrev pub EndsSite : Ghosts K → TalkGhosts C → LogGhosts L → List RecordSpec → Account → DurableState → K → K → C → C → L → L → Status → Type 0
-  EndsSite g c h records a first keeper keeper_after talk talk_after log log_after Done = EndsWell g c h records a first false keeper keeper_after talk talk_after log log_after
-  EndsSite g c h records a first keeper keeper_after talk talk_after log log_after Fault = EndsWell g c h records a first true keeper keeper_after talk talk_after log log_after
-  EndsSite g c h records a first keeper keeper_after talk talk_after log log_after Io = EndsEarly g c h records a first keeper keeper_after talk talk_after log log_after
-  EndsSite g c h records a first keeper keeper_after talk talk_after log log_after _ = ⊥
+  abbrev pub EndsSite : Ghosts K → TalkGhosts C → LogGhosts L → Terms → Account → DurableState → K → K → C → C → L → L → Status → Type 0
+  EndsSite g c h terms a first keeper keeper_after talk talk_after log log_after Done = EndsWell g c h terms a first false keeper keeper_after talk talk_after log log_after
+  EndsSite g c h terms a first keeper keeper_after talk talk_after log log_after Fault = EndsWell g c h terms a first true keeper keeper_after talk talk_after log log_after
+  EndsSite g c h terms a first keeper keeper_after talk talk_after log log_after Io = EndsEarly g c h terms a first keeper keeper_after talk talk_after log log_after
+  EndsSite g c h terms a first keeper keeper_after talk talk_after log log_after _ = ⊥
 
   -- the same from what was kept
-  pub record Serving (g : Ghosts K) (c : TalkGhosts C) (h : LogGhosts L) (layout : LayoutState) (i : ℕ)
+  pub record Serving (g : Ghosts K) (c : TalkGhosts C) (h : LogGhosts L) (layout : LayoutState) (i : ℕ) (group : Option (List ℕ))
       (keeper keeper_after : K) (talk talk_after : C) (log log_after : L) (status : Status) : Type 0 where
     pub first : DurableState
     pub began : Began g layout i keeper keeper_after first
-    pub ended : EndsSite g c h layout.records (begun layout i first) first keeper keeper_after talk talk_after log log_after status
+    pub ended : EndsSite g c h (terms_of layout group) (begun layout i first) first keeper keeper_after talk talk_after log log_after status
 
   -- where no site was opened nothing was heard, told or logged, and what was kept is kept
   pub record Untouched (g : Ghosts K) (keeper keeper_after : K) (talk talk_after : C) (log log_after : L) : Type 0 where
@@ -84,14 +84,14 @@ module _ {K C L : Type 0} where
     pub silent : talk_after ≡ talk
     pub unlogged : log_after ≡ log
 
-  -- The whole service: a site that was opened served its lines; or what is kept begins no site, there is no such site,
-  -- or memory ran out, and nothing else happened.
-  abbrev pub EndsServing : Ghosts K → TalkGhosts C → LogGhosts L → LayoutState → ℕ → K → K → C → C → L → L → Status → Type 0
-  EndsServing g c h layout i keeper keeper_after talk talk_after log log_after (NoStore refusal) =
+  -- The whole service of a site, in a group or in none: a site that was opened served its lines; or what is kept begins no
+  -- site, there is no such site, or memory ran out, and nothing else happened.
+  abbrev pub EndsServing : Ghosts K → TalkGhosts C → LogGhosts L → LayoutState → ℕ → Option (List ℕ) → K → K → C → C → L → L → Status → Type 0
+  EndsServing g c h layout i group keeper keeper_after talk talk_after log log_after (NoStore refusal) =
       IsUnfit g layout i keeper keeper_after refusal × Untouched g keeper keeper_after talk talk_after log log_after
-  EndsServing g c h layout i keeper keeper_after talk talk_after log log_after (NoLayout fault) =
+  EndsServing g c h layout i group keeper keeper_after talk talk_after log log_after (NoLayout fault) =
       (fault ≡ NoSite) × (¬ (i < layout.sites)) × (keeper_after ≡ keeper) × Untouched g keeper keeper_after talk talk_after log log_after
-  EndsServing g c h layout i keeper keeper_after talk talk_after log log_after Memory = Untouched g keeper keeper_after talk talk_after log log_after
-  EndsServing g c h layout i keeper keeper_after talk talk_after log log_after Usage = ⊥
-  EndsServing g c h layout i keeper keeper_after talk talk_after log log_after Refused = ⊥
-  EndsServing g c h layout i keeper keeper_after talk talk_after log log_after status = Serving g c h layout i keeper keeper_after talk talk_after log log_after status
+  EndsServing g c h layout i group keeper keeper_after talk talk_after log log_after Memory = Untouched g keeper keeper_after talk talk_after log log_after
+  EndsServing g c h layout i group keeper keeper_after talk talk_after log log_after Usage = ⊥
+  EndsServing g c h layout i group keeper keeper_after talk talk_after log log_after Refused = ⊥
+  EndsServing g c h layout i group keeper keeper_after talk talk_after log log_after status = Serving g c h layout i group keeper keeper_after talk talk_after log log_after status

@@ -1,6 +1,5 @@
 -- A line and its answer, one after the other.
 use Rattle.std.specs.Prelude.{◌≡◌, ℕ, Bool, true, false, List, [], ◌∷◌, ◌++◌, Some, None}
-use Rattle.merge_core.specs.declared.layout.RecordSpec.{RecordSpec}
 use Rattle.admission_model.specs.declared.ask.Call.{Call}
 use Rattle.admission_model.specs.Account.{Account}
 use Rattle.admission_model.specs.View.{view_of}
@@ -11,12 +10,12 @@ use Rattle.site_script.specs.Served.{no_delta_line}
 use Rattle.desk_log.specs.declared.entry.Entry.{Entry}
 use Rattle.line_conversation.specs.Turns.{Line, Whole, TooLong, NoRoom, Turn, Heard, Told}
 use Rattle.live_site.specs.Entries.{entry_of}
-use Rattle.live_site.specs.Live.{is_outdated, line_of}
+use Rattle.live_site.specs.Live.{is_outdated}
 use Rattle.live_site.specs.Overfull.{Fits, overfull_in}
 use Rattle.serve_engine.specs.declared.request.Request.{Request}
-use Rattle.serve_engine.specs.declared.request.Request.TheVariants.{Asked, Unread, Show, Sessions}
-use Rattle.serve_engine.specs.Requests.{Asks}
-use Rattle.serve_engine.specs.Answers.{bad_word_line, too_long_line, memory_line, frozen_line, fault_line, too_many_line, show_line, sessions_line}
+use Rattle.serve_engine.specs.declared.request.Request.TheVariants.{Asked, Unread, Show, Sessions, WrongGroup}
+use Rattle.serve_engine.specs.Requests.{Terms, Asks}
+use Rattle.serve_engine.specs.Answers.{bad_word_line, wrong_group_line, too_long_line, memory_line, frozen_line, fault_line, too_many_line, reply_line, show_line, sessions_line}
 
 -- a line that was heard, and the text that was told for it
 pub record Exchange : Type 0 where
@@ -29,64 +28,67 @@ turns_of [] = []
 turns_of (x ∷ xs) = Heard x.line ∷ (Told x.told ∷ turns_of xs)
 
 -- what a line is answered by a site that serves, at an account, the account behind it, and what the log is handed: a
--- line that is too long, without memory, or asks for nothing, and a text that is no delta's, are told, and change
--- nothing; a record's counts and sessions are shown; a delta of too many seats is refused whole; any other call gets the
--- model's reply
-pub data Answers : List RecordSpec → Account → Line → List ℕ → Account → List Entry → Type 0 where
-  told_too_long : (records : List RecordSpec) (a : Account) → Answers records a TooLong too_long_line a []
-  told_no_room : (records : List RecordSpec) (a : Account) → Answers records a NoRoom memory_line a []
-  told_no_memory : (records : List RecordSpec) (a : Account) (line : List ℕ) → Answers records a (Whole line) memory_line a []
-  told_bad_word : (records : List RecordSpec) (a : Account) (line : List ℕ) → Asks records line None → Answers records a (Whole line) bad_word_line a []
-  told_no_delta : (records : List RecordSpec) (a : Account) (line : List ℕ) (e : DecodeError) → Asks records line (Some (Unread e)) → Answers records a (Whole line) (no_delta_line e) a []
-  told_counts : (records : List RecordSpec) (a : Account) (line : List ℕ) (r : ℕ) → Asks records line (Some (Show r)) → Answers records a (Whole line) (show_line a r) a []
-  told_sessions : (records : List RecordSpec) (a : Account) (line : List ℕ) (r : ℕ) → Asks records line (Some (Sessions r)) → Answers records a (Whole line) (sessions_line a r) a []
-  told_too_many : (records : List RecordSpec) (a : Account) (line : List ℕ) (call : Call) (r : ℕ) → Asks records line (Some (Asked call)) → reason (view_of a) call ≡ None
-      → overfull_in (view_of a) call ≡ Some r → Answers records a (Whole line) (too_many_line r) a []
-  told_reply : (records : List RecordSpec) (a : Account) (line : List ℕ) (call : Call) → Asks records line (Some (Asked call)) → Fits a call
+-- line that is too long, without memory, or asks for nothing, a text of another group of sites or of none, and a text that
+-- is no delta's, are told, and change nothing; a record's counts and sessions are shown; a delta of too many seats is
+-- refused whole; any other call gets the model's reply
+pub data Answers : Terms → Account → Line → List ℕ → Account → List Entry → Type 0 where
+  told_too_long : (terms : Terms) (a : Account) → Answers terms a TooLong too_long_line a []
+  told_no_room : (terms : Terms) (a : Account) → Answers terms a NoRoom memory_line a []
+  told_no_memory : (terms : Terms) (a : Account) (line : List ℕ) → Answers terms a (Whole line) memory_line a []
+  told_bad_word : (terms : Terms) (a : Account) (line : List ℕ) → Asks terms line None → Answers terms a (Whole line) bad_word_line a []
+  told_wrong_group : (terms : Terms) (a : Account) (line : List ℕ) → Asks terms line (Some WrongGroup) → Answers terms a (Whole line) wrong_group_line a []
+  told_no_delta : (terms : Terms) (a : Account) (line : List ℕ) (e : DecodeError) → Asks terms line (Some (Unread e)) → Answers terms a (Whole line) (no_delta_line e) a []
+  told_counts : (terms : Terms) (a : Account) (line : List ℕ) (r : ℕ) → Asks terms line (Some (Show r)) → Answers terms a (Whole line) (show_line a r) a []
+  told_sessions : (terms : Terms) (a : Account) (line : List ℕ) (r : ℕ) → Asks terms line (Some (Sessions r)) → Answers terms a (Whole line) (sessions_line a r) a []
+  told_too_many : (terms : Terms) (a : Account) (line : List ℕ) (call : Call) (r : ℕ) → Asks terms line (Some (Asked call)) → reason (view_of a) call ≡ None
+      → overfull_in (view_of a) call ≡ Some r → Answers terms a (Whole line) (too_many_line r) a []
+  told_reply : (terms : Terms) (a : Account) (line : List ℕ) (call : Call) → Asks terms line (Some (Asked call)) → Fits a call
       → is_outdated (reply_of (view_of a) call) ≡ false
-      → Answers records a (Whole line) (line_of (reply_of (view_of a) call)) (after a call) (entry_of call (reply_of (view_of a) call) ∷ [])
+      → Answers terms a (Whole line) (reply_line terms.group (reply_of (view_of a) call)) (after a call) (entry_of call (reply_of (view_of a) call) ∷ [])
 
 -- what a site is answered by that serves no more behind it, whether the store failed, the account if the call was kept,
 -- and what the log is handed: a delta that shows that its store is older than what others have seen; or a call that met
 -- a fault of the store
-pub data Stops : List RecordSpec → Account → List ℕ → List ℕ → Bool → Account → List Entry → Type 0 where
-  stops_outdated : (records : List RecordSpec) (a : Account) (line : List ℕ) (call : Call) → Asks records line (Some (Asked call)) → Fits a call
+pub data Stops : Terms → Account → List ℕ → List ℕ → Bool → Account → List Entry → Type 0 where
+  stops_outdated : (terms : Terms) (a : Account) (line : List ℕ) (call : Call) → Asks terms line (Some (Asked call)) → Fits a call
       → is_outdated (reply_of (view_of a) call) ≡ true
-      → Stops records a line (line_of (reply_of (view_of a) call)) false a (entry_of call (reply_of (view_of a) call) ∷ [])
-  stops_failed : (records : List RecordSpec) (a : Account) (line : List ℕ) (call : Call) → Asks records line (Some (Asked call)) → Fits a call
+      → Stops terms a line (reply_line terms.group (reply_of (view_of a) call)) false a (entry_of call (reply_of (view_of a) call) ∷ [])
+  stops_failed : (terms : Terms) (a : Account) (line : List ℕ) (call : Call) → Asks terms line (Some (Asked call)) → Fits a call
       → ¬ IsEmpty (change_between a (after a call))
-      → Stops records a line fault_line true (after a call) (entry_of call (reply_of (view_of a) call) ∷ [])
+      → Stops terms a line fault_line true (after a call) (entry_of call (reply_of (view_of a) call) ∷ [])
 
 -- what asks something of the site itself
 abbrev pub reaches_site : Request → Bool
 reaches_site (Unread e) = false
+reaches_site WrongGroup = false
 reaches_site _ = true
 
 -- what a line is answered by a site that serves no more
-pub data IsIdle : List RecordSpec → Line → List ℕ → Type 0 where
-  still_too_long : (records : List RecordSpec) → IsIdle records TooLong too_long_line
-  still_no_room : (records : List RecordSpec) → IsIdle records NoRoom memory_line
-  still_no_memory : (records : List RecordSpec) (line : List ℕ) → IsIdle records (Whole line) memory_line
-  still_bad_word : (records : List RecordSpec) (line : List ℕ) → Asks records line None → IsIdle records (Whole line) bad_word_line
-  still_no_delta : (records : List RecordSpec) (line : List ℕ) (e : DecodeError) → Asks records line (Some (Unread e)) → IsIdle records (Whole line) (no_delta_line e)
-  still_frozen : (records : List RecordSpec) (line : List ℕ) (request : Request) → Asks records line (Some request) → reaches_site request ≡ true
-      → IsIdle records (Whole line) frozen_line
+pub data IsIdle : Terms → Line → List ℕ → Type 0 where
+  still_too_long : (terms : Terms) → IsIdle terms TooLong too_long_line
+  still_no_room : (terms : Terms) → IsIdle terms NoRoom memory_line
+  still_no_memory : (terms : Terms) (line : List ℕ) → IsIdle terms (Whole line) memory_line
+  still_bad_word : (terms : Terms) (line : List ℕ) → Asks terms line None → IsIdle terms (Whole line) bad_word_line
+  still_wrong_group : (terms : Terms) (line : List ℕ) → Asks terms line (Some WrongGroup) → IsIdle terms (Whole line) wrong_group_line
+  still_no_delta : (terms : Terms) (line : List ℕ) (e : DecodeError) → Asks terms line (Some (Unread e)) → IsIdle terms (Whole line) (no_delta_line e)
+  still_frozen : (terms : Terms) (line : List ℕ) (request : Request) → Asks terms line (Some request) → reaches_site request ≡ true
+      → IsIdle terms (Whole line) frozen_line
 
 -- exchanges with a site that serves all along, from an account to the one behind them, and all that the log is handed
-abbrev pub Serves : List RecordSpec → Account → List Exchange → List Entry → Account → Type 0
-Serves records a [] entries b = (b ≡ a) × (entries ≡ [])
-Serves records a (x ∷ xs) entries b =
+abbrev pub Serves : Terms → Account → List Exchange → List Entry → Account → Type 0
+Serves terms a [] entries b = (b ≡ a) × (entries ≡ [])
+Serves terms a (x ∷ xs) entries b =
     (c : Account) × (first : List Entry) × (rest : List Entry)
-    × (entries ≡ first ++ rest) × Answers records a x.line x.told c first × Serves records c xs rest b
+    × (entries ≡ first ++ rest) × Answers terms a x.line x.told c first × Serves terms c xs rest b
 
 -- exchanges with a site that serves no more
-abbrev pub AreIdle : List RecordSpec → List Exchange → Type 0
-AreIdle records [] = Unit {0}
-AreIdle records (x ∷ xs) = IsIdle records x.line x.told × AreIdle records xs
+abbrev pub AreIdle : Terms → List Exchange → Type 0
+AreIdle terms [] = Unit {0}
+AreIdle terms (x ∷ xs) = IsIdle terms x.line x.told × AreIdle terms xs
 
 -- exchanges with a site that serves no more behind one of them: the account before it, and the one behind it if its
 -- call was kept
-pub record ServesUpTo (records : List RecordSpec) (a : Account) (xs : List Exchange) (entries : List Entry) (fault : Bool) (b tried : Account) : Type 0 where
+pub record ServesUpTo (terms : Terms) (a : Account) (xs : List Exchange) (entries : List Entry) (fault : Bool) (b tried : Account) : Type 0 where
   pub before : List Exchange
   pub line : List ℕ
   pub told : List ℕ
@@ -95,11 +97,11 @@ pub record ServesUpTo (records : List RecordSpec) (a : Account) (xs : List Excha
   pub first : List Entry
   pub last : List Entry
   pub handed : entries ≡ first ++ last
-  pub served : Serves records a before first b
-  pub stopped : Stops records b line told fault tried last
-  pub idle : AreIdle records behind
+  pub served : Serves terms a before first b
+  pub stopped : Stops terms b line told fault tried last
+  pub idle : AreIdle terms behind
 
 -- one of the two: whether the site serves no more
-abbrev pub HasServed : List RecordSpec → Bool → Account → List Exchange → List Entry → Bool → Account → Account → Type 0
-HasServed records false a xs entries fault b tried = Serves records a xs entries b × (fault ≡ false) × (tried ≡ b)
-HasServed records true a xs entries fault b tried = ServesUpTo records a xs entries fault b tried
+abbrev pub HasServed : Terms → Bool → Account → List Exchange → List Entry → Bool → Account → Account → Type 0
+HasServed terms false a xs entries fault b tried = Serves terms a xs entries b × (fault ≡ false) × (tried ≡ b)
+HasServed terms true a xs entries fault b tried = ServesUpTo terms a xs entries fault b tried

@@ -1,8 +1,9 @@
 -- One exchange, and exchanges so far. For private clauses.
 use Rattle.std.specs.Prelude.{◌≡◌, ℕ, ◌+◌, ◌⊎◌, Bool, true, false, List, [], ◌∷◌, ◌++◌, length}
-use Rattle.std.specs.Prelude.{Result, Ok, Err}
+use Rattle.std.specs.Prelude.{Option, Result, Ok, Err}
 use Rattle.std.specs.declared.alloc.AllocError.{AllocError}
-use Rattle.merge_core.specs.declared.layout.RecordSpec.{RecordSpec}
+use Rattle.admission_model.specs.declared.ask.Call.{Call}
+use Rattle.admission_model.specs.declared.ask.Call.TheVariants.{Snapshot}
 use Rattle.admission_model.specs.Account.{Account}
 use Rattle.admission_core.specs.Core.{Stands}
 use Rattle.admission_core.specs.Kept.{DurableState, durable_of}
@@ -20,10 +21,11 @@ use Rattle.line_conversation.specs.declared.conversation.Conversation.{Ghosts as
 use Rattle.live_site.specs.declared.call_log.CallLog.{Ghosts as LogGhosts}
 use Rattle.live_site.specs.Live.{LiveState}
 use Rattle.serve_engine.specs.declared.answering.Told.{Told}
-use Rattle.serve_engine.specs.declared.answering.Told.TheVariants.{Text, BadWord, Memory, StoreFault, Frozen, LogFailed}
+use Rattle.serve_engine.specs.declared.answering.Told.TheVariants.{Text, BadWord, WrongGroup, Memory, StoreFault, Frozen, LogFailed}
 use Rattle.serve_engine.specs.declared.turns.Turned.{Turned}
 use Rattle.serve_engine.specs.declared.turns.Turned.TheVariants as turned
-use Rattle.serve_engine.specs.Answers.{bad_word_line, memory_line, frozen_line, fault_line}
+use Rattle.serve_engine.specs.Answers.{bad_word_line, wrong_group_line, memory_line, frozen_line, fault_line, group_mark}
+use Rattle.serve_engine.specs.Requests.{Terms}
 use Rattle.serve_engine.specs.Exchanges.{Exchange, turns_of, Answers, Stops, IsIdle, HasServed}
 use Rattle.serve_engine.specs.Ending.{EndsIn}
 
@@ -46,10 +48,16 @@ ended false = status.Done
 abbrev pub told_text : Told → List ℕ → List ℕ
 told_text Text text = text
 told_text BadWord text = bad_word_line
+told_text WrongGroup text = wrong_group_line
 told_text Memory text = memory_line
 told_text StoreFault text = fault_line
 told_text Frozen text = frozen_line
 told_text LogFailed text = []
+
+-- what is written before a call is served: the mark of the delta that it asks for
+abbrev pub mark_before : Option (List ℕ) → Call → List ℕ
+mark_before group Snapshot = group_mark group
+mark_before group call = []
 
 -- what is told where an answer was written, or found no memory
 abbrev pub written : Result (Unit {0}) AllocError → Told
@@ -75,41 +83,41 @@ module _ {L : Type 0} where
 
 module _ {K L : Type 0} where
   -- an exchange behind which the site serves on, from an account
-  pub record ServesOn (g : Ghosts K) (h : LogGhosts L) (records : List RecordSpec) (a : Account) (old new : LiveState K) (log log_after : L) (x : Exchange) : Type 0 where
+  pub record ServesOn (g : Ghosts K) (h : LogGhosts L) (terms : Terms) (a : Account) (old new : LiveState K) (log log_after : L) (x : Exchange) : Type 0 where
     pub entries : List Entry
     pub account : Account
-    pub answers : Answers records a x.line x.told account entries
+    pub answers : Answers terms a x.line x.told account entries
     pub stands : Stands account new.core
     pub running : new.frozen ≡ false
     pub kept : g.keeps old.keeper (durable_of a) → g.keeps new.keeper (durable_of account)
     pub handed : Hands h log log_after entries
 
   -- one behind which it serves no more
-  pub record StopsServing (g : Ghosts K) (h : LogGhosts L) (records : List RecordSpec) (a : Account) (old new : LiveState K) (log log_after : L) (x : Exchange) : Type 0 where
+  pub record StopsServing (g : Ghosts K) (h : LogGhosts L) (terms : Terms) (a : Account) (old new : LiveState K) (log log_after : L) (x : Exchange) : Type 0 where
     pub line : List ℕ
     pub whole : x.line ≡ Whole line
     pub entries : List Entry
     pub fault : Bool
     pub tried : Account
-    pub stops : Stops records a line x.told fault tried entries
+    pub stops : Stops terms a line x.told fault tried entries
     pub stands : Stands a new.core
     pub frozen : new.frozen ≡ true
     pub kept : g.keeps old.keeper (durable_of a) → Leaves g fault new.keeper a tried
     pub handed : Hands h log log_after entries
 
   -- one with a site that serves no more
-  pub record StaysIdle (records : List RecordSpec) (old new : LiveState K) (log log_after : L) (x : Exchange) : Type 0 where
-    pub idle : IsIdle records x.line x.told
+  pub record StaysIdle (terms : Terms) (old new : LiveState K) (log log_after : L) (x : Exchange) : Type 0 where
+    pub idle : IsIdle terms x.line x.told
     pub site : new ≡ old
     pub unlogged : log_after ≡ log
 
   -- by whether the site served before
-  abbrev pub ExchangesAs : Bool → Ghosts K → LogGhosts L → List RecordSpec → Account → LiveState K → LiveState K → L → L → Exchange → Type 0
-  ExchangesAs false g h records a old new log log_after x = ServesOn g h records a old new log log_after x ⊎ StopsServing g h records a old new log log_after x
-  ExchangesAs true g h records a old new log log_after x = StaysIdle records old new log log_after x
+  abbrev pub ExchangesAs : Bool → Ghosts K → LogGhosts L → Terms → Account → LiveState K → LiveState K → L → L → Exchange → Type 0
+  ExchangesAs false g h terms a old new log log_after x = ServesOn g h terms a old new log log_after x ⊎ StopsServing g h terms a old new log log_after x
+  ExchangesAs true g h terms a old new log log_after x = StaysIdle terms old new log log_after x
 
-  abbrev pub Exchanges : Ghosts K → LogGhosts L → List RecordSpec → Account → LiveState K → LiveState K → L → L → Exchange → Type 0
-  Exchanges g h records a old new log log_after x = ExchangesAs old.frozen g h records a old new log log_after x
+  abbrev pub Exchanges : Ghosts K → LogGhosts L → Terms → Account → LiveState K → LiveState K → L → L → Exchange → Type 0
+  Exchanges g h terms a old new log log_after x = ExchangesAs old.frozen g h terms a old new log log_after x
 
   -- a line that the site did not serve, since its log failed
   pub record LosesLog (g : Ghosts K) (h : LogGhosts L) (a : Account) (old new : LiveState K) (log_after : L) : Type 0 where
@@ -120,9 +128,9 @@ module _ {K L : Type 0} where
     pub failed : h.has_failed log_after
 
   -- a line that came whole, by what is told
-  abbrev pub ServesLine : Ghosts K → LogGhosts L → List RecordSpec → Account → LiveState K → LiveState K → L → L → List ℕ → Told → List ℕ → Type 0
-  ServesLine g h records a old new log log_after line LogFailed text = LosesLog g h a old new log_after
-  ServesLine g h records a old new log log_after line told text = Exchanges g h records a old new log log_after (exchange_of line (told_text told text))
+  abbrev pub ServesLine : Ghosts K → LogGhosts L → Terms → Account → LiveState K → LiveState K → L → L → List ℕ → Told → List ℕ → Type 0
+  ServesLine g h terms a old new log log_after line LogFailed text = LosesLog g h a old new log_after
+  ServesLine g h terms a old new log log_after line told text = Exchanges g h terms a old new log log_after (exchange_of line (told_text told text))
 
 module _ {C : Type 0} where
   -- a text was told, or the conversation failed
@@ -133,34 +141,34 @@ module _ {C : Type 0} where
 
 module _ {K C L : Type 0} where
   -- the line that is kept was answered, and the answer told or not; or the log failed
-  abbrev pub AnswersHeard : Ghosts K → TalkGhosts C → LogGhosts L → List RecordSpec → Account → LiveState K → LiveState K → C → C → L → L → List ℕ → Turned → Type 0
-  AnswersHeard g c h records a old new talk talk_after log log_after line turn =
-      ((text : List ℕ) × Exchanges g h records a old new log log_after (exchange_of line text) × Tells c talk talk_after text turn)
+  abbrev pub AnswersHeard : Ghosts K → TalkGhosts C → LogGhosts L → Terms → Account → LiveState K → LiveState K → C → C → L → L → List ℕ → Turned → Type 0
+  AnswersHeard g c h terms a old new talk talk_after log log_after line turn =
+      ((text : List ℕ) × Exchanges g h terms a old new log log_after (exchange_of line text) × Tells c talk talk_after text turn)
       ⊎ (LosesLog g h a old new log_after × (talk_after ≡ talk) × (turn ≡ turned.Failed))
 
 module _ {K : Type 0} where
   -- what a site served so far, from an account
-  pub record StandsBehind (g : Ghosts K) (records : List RecordSpec) (a : Account) (first : DurableState) (keeper : K) (live : LiveState K) (xs : List Exchange) (entries : List Entry) : Type 0 where
+  pub record StandsBehind (g : Ghosts K) (terms : Terms) (a : Account) (first : DurableState) (keeper : K) (live : LiveState K) (xs : List Exchange) (entries : List Entry) : Type 0 where
     pub fault : Bool
     pub account : Account
     pub tried : Account
-    pub served : HasServed records live.frozen a xs entries fault account tried
+    pub served : HasServed terms live.frozen a xs entries fault account tried
     pub stands : Stands account live.core
     pub kept : g.keeps keeper first → Leaves g fault live.keeper account tried
 
 module _ {K C L : Type 0} where
   -- so many exchanges, each of which was told
-  pub record Works (g : Ghosts K) (c : TalkGhosts C) (h : LogGhosts L) (records : List RecordSpec) (a : Account)
+  pub record Works (g : Ghosts K) (c : TalkGhosts C) (h : LogGhosts L) (terms : Terms) (a : Account)
       (first : DurableState) (keeper : K) (live : LiveState K) (talk talk_now : C) (log log_now : L) (n : ℕ) : Type 0 where
     pub exchanges : List Exchange
     pub entries : List Entry
     pub heard : c.took_place talk (turns_of exchanges) talk_now
     pub logged : h.took log entries log_now
-    pub site : StandsBehind g records a first keeper live exchanges entries
+    pub site : StandsBehind g terms a first keeper live exchanges entries
     pub counted : length exchanges ≡ n
 
   -- exchanges of which the last is perhaps not complete, since the conversation or the log failed
-  pub record Fails (g : Ghosts K) (c : TalkGhosts C) (h : LogGhosts L) (records : List RecordSpec) (a : Account)
+  pub record Fails (g : Ghosts K) (c : TalkGhosts C) (h : LogGhosts L) (terms : Terms) (a : Account)
       (first : DurableState) (keeper : K) (live : LiveState K) (talk talk_now : C) (log log_now : L) : Type 0 where
     pub exchanges : List Exchange
     pub entries : List Entry
@@ -168,11 +176,11 @@ module _ {K C L : Type 0} where
     pub last : EndsIn exchanges turns
     pub heard : c.took_place talk turns talk_now
     pub logged : h.took log entries log_now ⊎ h.has_failed log_now
-    pub site : StandsBehind g records a first keeper live exchanges entries
+    pub site : StandsBehind g terms a first keeper live exchanges entries
     pub why : c.has_failed talk_now ⊎ h.has_failed log_now
 
   -- one turn more
-  abbrev pub TurnsTo : Ghosts K → TalkGhosts C → LogGhosts L → List RecordSpec → Account → DurableState → K → LiveState K → C → C → L → L → ℕ → Turned → Type 0
-  TurnsTo g c h records a first keeper live talk talk_now log log_now n turned.Next = Works g c h records a first keeper live talk talk_now log log_now (n + 1)
-  TurnsTo g c h records a first keeper live talk talk_now log log_now n turned.End = Works g c h records a first keeper live talk talk_now log log_now n × c.has_ended talk_now
-  TurnsTo g c h records a first keeper live talk talk_now log log_now n turned.Failed = Fails g c h records a first keeper live talk talk_now log log_now
+  abbrev pub TurnsTo : Ghosts K → TalkGhosts C → LogGhosts L → Terms → Account → DurableState → K → LiveState K → C → C → L → L → ℕ → Turned → Type 0
+  TurnsTo g c h terms a first keeper live talk talk_now log log_now n turned.Next = Works g c h terms a first keeper live talk talk_now log log_now (n + 1)
+  TurnsTo g c h terms a first keeper live talk talk_now log log_now n turned.End = Works g c h terms a first keeper live talk talk_now log log_now n × c.has_ended talk_now
+  TurnsTo g c h terms a first keeper live talk talk_now log log_now n turned.Failed = Fails g c h terms a first keeper live talk talk_now log log_now

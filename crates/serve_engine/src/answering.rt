@@ -1,14 +1,15 @@
 //! Answering one line.
 ghost use Rattle.std.specs.Prelude.{◌≡◌, ◌≢◌, ◌++◌, ℕ, List, [], string_bytes, IfOk, Some};
-ghost use Rattle.merge_core.specs.declared.layout.RecordSpec.{RecordSpec};
+ghost use Rattle.std.specs.Option.{option_copied};
+ghost use Rattle.merge_core.specs.Layout.{LayoutState};
 ghost use Rattle.admission_model.specs.Account.{Account};
 ghost use Rattle.admission_core.specs.Core.{Stands};
 ghost use Rattle.site_script.specs.Served.{no_delta_line};
 ghost use Rattle.serve_engine.specs.declared.request.Request.TheVariants.{Asked};
 ghost use Rattle.serve_engine.specs.declared.answering.Told.TheVariants.{LogFailed};
-ghost use Rattle.serve_engine.specs.Requests.{Asks};
+ghost use Rattle.serve_engine.specs.Requests.{Asks, Terms, terms_of};
 ghost use Rattle.serve_engine.specs.Answers.{sessions_line, show_line, too_many_line};
-ghost use Rattle.serve_engine.specs.Steps.{ServesLine, Shows, told_text, written};
+ghost use Rattle.serve_engine.specs.Steps.{ServesLine, Shows, mark_before, told_text, written};
 
 use crate::listing::push_sessions;
 use crate::request::{Request, request_in};
@@ -27,6 +28,8 @@ pub(crate) enum Told {
     Text,
     /// That the line asks for nothing.
     BadWord,
+    /// That a text is of another group of sites, or of none.
+    WrongGroup,
     /// Want of memory.
     Memory,
     /// That the store failed.
@@ -45,6 +48,7 @@ pub(crate) fn told_text(told: Told, text: &str) -> &str
     match told {
         Told::Text => text,
         Told::BadWord => "refused BadWord\n",
+        Told::WrongGroup => "refused WrongGroup\n",
         Told::Memory => "refused Memory\n",
         Told::StoreFault => "refused StoreFault\n",
         Told::Frozen => "refused Frozen\n",
@@ -56,25 +60,27 @@ pub(crate) fn told_text(told: Told, text: &str) -> &str
 pub(crate) fn serve_line<K: Keeper, L: CallLog>(
     alloc: Global,
     live: &mut LiveSite<K>,
+    group: Option<&str>,
     line: &[u8],
     text: &mut String,
     log: &mut L,
 ) -> Told
     requires { string_bytes text.old ≡ [] }
-    ensures served { (a : Account) → Stands a live.old.core → ServesLine K.Keeper L.CallLog live.old.core.layout.records a live.old live.new
-        log.old log.new line.now result (string_bytes text.new) }
+    ensures served { (a : Account) → Stands a live.old.core → ServesLine K.Keeper L.CallLog (terms_of live.old.core.layout (option_copied group.entry)) a
+        live.old live.new log.old log.new line.now result (string_bytes text.new) }
     ensures layout { live.new.core.layout ≡ live.old.core.layout }
     ensures site { live.new.core.site ≡ live.old.core.site }
     ensures honest { K.is_honest live.new.keeper → K.is_honest live.old.keeper }
 {
-    let Ok(request) = request_in(alloc, live.core().layout(), line) else {
+    let Ok(request) = request_in(alloc, live.core().layout(), group, line) else {
         return Told::Memory;
     };
     match request {
-        Some(Request::Asked(call)) => serve_call(live, &call, text, log),
+        Some(Request::Asked(call)) => serve_call(live, group, &call, text, log),
         Some(Request::Unread(error)) => written(push_no_delta(text, error)),
         Some(Request::Show(r)) => show(live, r, text),
         Some(Request::Sessions(r)) => list(live, r, text),
+        Some(Request::WrongGroup) => Told::WrongGroup,
         None => Told::BadWord,
     }
 }
@@ -109,13 +115,33 @@ fn push_too_many(text: &mut String, r: u16) -> Result<(), AllocError>
 // Answers a call.
 fn serve_call<K: Keeper, L: CallLog>(
     live: &mut LiveSite<K>,
+    group: Option<&str>,
     call: &Call,
     text: &mut String,
     log: &mut L,
 ) -> Told
     requires { string_bytes text.old ≡ [] }
-    ensures served { (records : List RecordSpec) (line : List ℕ) → Asks records line (Some (Asked call.now)) → (a : Account) → Stands a live.old.core
-        → ServesLine K.Keeper L.CallLog records a live.old live.new log.old log.new line result (string_bytes text.new) }
+    ensures served { (layout : LayoutState) (line : List ℕ) → Asks (terms_of layout (option_copied group.entry)) line (Some (Asked call.now)) → (a : Account) → Stands a live.old.core
+        → ServesLine K.Keeper L.CallLog (terms_of layout (option_copied group.entry)) a live.old live.new log.old log.new line result (string_bytes text.new) }
+    ensures layout { live.new.core.layout ≡ live.old.core.layout }
+    ensures site { live.new.core.site ≡ live.old.core.site }
+    ensures honest { K.is_honest live.new.keeper → K.is_honest live.old.keeper }
+{
+    let Ok(()) = push_mark(text, group, call) else {
+        return Told::Memory;
+    };
+    carry_out(live, call, text, log)
+}
+
+// Answers a call, behind the mark of the delta that it asks for.
+fn carry_out<K: Keeper, L: CallLog>(
+    live: &mut LiveSite<K>,
+    call: &Call,
+    text: &mut String,
+    log: &mut L,
+) -> Told
+    ensures served { (terms : Terms) (line : List ℕ) → string_bytes text.old ≡ mark_before terms.group call.now → Asks terms line (Some (Asked call.now))
+        → (a : Account) → Stands a live.old.core → ServesLine K.Keeper L.CallLog terms a live.old live.new log.old log.new line result (string_bytes text.new) }
     ensures layout { live.new.core.layout ≡ live.old.core.layout }
     ensures site { live.new.core.site ≡ live.old.core.site }
     ensures honest { K.is_honest live.new.keeper → K.is_honest live.old.keeper }
@@ -128,6 +154,17 @@ fn serve_call<K: Keeper, L: CallLog>(
         Outcome::Frozen => Told::Frozen,
         Outcome::LogFailed => Told::LogFailed,
     }
+}
+
+// Writes the group's name and a blank, where the call asks for the site's delta.
+fn push_mark(text: &mut String, group: Option<&str>, call: &Call) -> Result<(), AllocError>
+    ensures { IfOk result (λ _. string_bytes text.new ≡ string_bytes text.old ++ mark_before (option_copied group.entry) call.now) }
+{
+    if let (Some(name), Call::Snapshot) = (group, call) {
+        text.push_str(name)?;
+        text.push_str(" ")?;
+    }
+    Ok(())
 }
 
 // Shows a record's counts.

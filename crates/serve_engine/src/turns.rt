@@ -1,9 +1,10 @@
 //! One turn of the conversation.
-ghost use Rattle.std.specs.Prelude.{◌≡◌, ℕ, List};
-ghost use Rattle.merge_core.specs.declared.layout.RecordSpec.{RecordSpec};
+ghost use Rattle.std.specs.Prelude.{◌≡◌, ℕ};
+ghost use Rattle.std.specs.Option.{option_copied};
 ghost use Rattle.admission_model.specs.Account.{Account};
 ghost use Rattle.admission_core.specs.Kept.{DurableState};
 ghost use Rattle.admission_core.specs.Core.{Stands};
+ghost use Rattle.serve_engine.specs.Requests.{terms_of};
 ghost use Rattle.serve_engine.specs.Steps.{AnswersHeard, Tells, TurnsTo, Works};
 
 use crate::answering::{Told, serve_line, told_text};
@@ -27,19 +28,20 @@ pub(crate) enum Turned {
 pub(crate) fn take_turn<K: Keeper, C: Conversation, L: CallLog>(
     alloc: Global,
     live: &mut LiveSite<K>,
+    group: Option<&str>,
     conversation: &mut C,
     log: &mut L,
     text: &mut String,
 ) -> Turned
     ensures turned { (a : Account) (first : DurableState) (keeper : K) (talk : C) (began : L) (n : ℕ)
-        → Works K.Keeper C.Conversation L.CallLog live.old.core.layout.records a first keeper live.old talk conversation.old began log.old n
-        → TurnsTo K.Keeper C.Conversation L.CallLog live.old.core.layout.records a first keeper live.new talk conversation.new began log.new n result }
+        → Works K.Keeper C.Conversation L.CallLog (terms_of live.old.core.layout (option_copied group.entry)) a first keeper live.old talk conversation.old began log.old n
+        → TurnsTo K.Keeper C.Conversation L.CallLog (terms_of live.old.core.layout (option_copied group.entry)) a first keeper live.new talk conversation.new began log.new n result }
     ensures layout { live.new.core.layout ≡ live.old.core.layout }
     ensures site { live.new.core.site ≡ live.old.core.site }
     ensures honest { K.is_honest live.new.keeper → K.is_honest live.old.keeper }
 {
     match conversation.next_line() {
-        Next::Line => answer_line(alloc, live, conversation, log, text),
+        Next::Line => answer_line(alloc, live, group, conversation, log, text),
         Next::TooLong => tell(conversation, "refused TooLong\n"),
         Next::Memory => tell(conversation, "refused Memory\n"),
         Next::End => Turned::End,
@@ -51,18 +53,19 @@ pub(crate) fn take_turn<K: Keeper, C: Conversation, L: CallLog>(
 fn answer_line<K: Keeper, C: Conversation, L: CallLog>(
     alloc: Global,
     live: &mut LiveSite<K>,
+    group: Option<&str>,
     conversation: &mut C,
     log: &mut L,
     text: &mut String,
 ) -> Turned
-    ensures answered { (a : Account) → Stands a live.old.core → AnswersHeard K.Keeper C.Conversation L.CallLog live.old.core.layout.records a
-        live.old live.new conversation.old conversation.new log.old log.new (C.kept conversation.old) result }
+    ensures answered { (a : Account) → Stands a live.old.core → AnswersHeard K.Keeper C.Conversation L.CallLog
+        (terms_of live.old.core.layout (option_copied group.entry)) a live.old live.new conversation.old conversation.new log.old log.new (C.kept conversation.old) result }
     ensures layout { live.new.core.layout ≡ live.old.core.layout }
     ensures site { live.new.core.site ≡ live.old.core.site }
     ensures honest { K.is_honest live.new.keeper → K.is_honest live.old.keeper }
 {
     text.clear();
-    let told = serve_line(alloc, live, conversation.line(), text, log);
+    let told = serve_line(alloc, live, group, conversation.line(), text, log);
     if told == Told::LogFailed {
         return Turned::Failed;
     }

@@ -11,6 +11,7 @@ use serve_engine::{LINE_LIMIT, serve_engine};
 use std::alloc::Global;
 use test_streams::texts::{THREE_SITES, TWO_SITES, WRITERS_FIRST};
 use test_streams::{Giving, Keeping, NEVER};
+use text_input::{Sink, Source};
 
 // The lines of an opening, how it ends, and what it is told.
 type Opening = (&'static [u8], Status, &'static str);
@@ -35,8 +36,14 @@ fn opening(
     }
     let mut reader = Giving::new(lines, NEVER);
     let mut writer = Keeping::new(alloc, NEVER);
-    let mut talk = StreamConversation::new(alloc, &mut reader, &mut writer, LINE_LIMIT).ok()?;
-    let (ended, keeper) = serve_engine(alloc, keeper, copy, site, &mut talk, &mut NoLog {});
+    let mut talk = StreamConversation::new(
+        alloc,
+        Source::new(&mut reader),
+        Sink::new(&mut writer),
+        LINE_LIMIT,
+    )
+    .ok()?;
+    let (ended, keeper) = serve_engine(alloc, keeper, copy, site, None, &mut talk, &mut NoLog {});
     drop(talk);
     if ended != status || writer.bytes() != told.as_bytes() {
         return None;

@@ -9,6 +9,7 @@ use serve_engine::{LINE_LIMIT, serve_engine};
 use std::alloc::Global;
 use std::io::ErrorKind;
 use test_streams::{Giving, Keeping, NEVER};
+use text_input::{Sink, Source};
 
 const FIVE_LINES: &[u8] = b"read a 7\nread a 8\nread a 9\nleave a 7\nleave a 8\n";
 
@@ -37,8 +38,13 @@ static FAULTS: [Fault; 11] = [
 fn ending(alloc: Global, reader: &mut Giving, writer: &mut Keeping) -> Option<Status> {
     let layout = built_in(alloc).ok()?;
     let keeper = MemoryKeeper::new(alloc, &layout, 0).ok()?;
-    let mut talk = StreamConversation::new(alloc, reader, writer, LINE_LIMIT).ok()?;
-    let (ended, _keeper) = serve_engine(alloc, keeper, layout, 0, &mut talk, &mut NoLog {});
+    let mut talk = StreamConversation::new(
+        alloc,
+        Source::new(reader),
+        Sink::new(writer),
+        LINE_LIMIT,
+    ).ok()?;
+    let (ended, _keeper) = serve_engine(alloc, keeper, layout, 0, None, &mut talk, &mut NoLog {});
     Some(ended)
 }
 
@@ -123,8 +129,14 @@ fn stores_so(alloc: Global, row: &Refused) -> Option<bool> {
     let keeper = Failing::new(alloc, &layout, 0, left, refusal).ok()?;
     let mut reader = Giving::new(FIVE_LINES, NEVER);
     let mut writer = Keeping::new(alloc, NEVER);
-    let mut talk = StreamConversation::new(alloc, &mut reader, &mut writer, LINE_LIMIT).ok()?;
-    let (ended, keeper) = serve_engine(alloc, keeper, layout, 0, &mut talk, &mut NoLog {});
+    let mut talk = StreamConversation::new(
+        alloc,
+        Source::new(&mut reader),
+        Sink::new(&mut writer),
+        LINE_LIMIT,
+    )
+    .ok()?;
+    let (ended, keeper) = serve_engine(alloc, keeper, layout, 0, None, &mut talk, &mut NoLog {});
     drop(talk);
     Some(ended == status && writer.bytes() == told.as_bytes() && keeper.told == changes)
 }
@@ -189,8 +201,14 @@ fn logs_so(alloc: Global, row: &Logged) -> Option<bool> {
     };
     let mut reader = Giving::new(FIVE_LINES, NEVER);
     let mut writer = Keeping::new(alloc, NEVER);
-    let mut talk = StreamConversation::new(alloc, &mut reader, &mut writer, LINE_LIMIT).ok()?;
-    let (ended, _keeper) = serve_engine(alloc, keeper, layout, 0, &mut talk, &mut log);
+    let mut talk = StreamConversation::new(
+        alloc,
+        Source::new(&mut reader),
+        Sink::new(&mut writer),
+        LINE_LIMIT,
+    )
+    .ok()?;
+    let (ended, _keeper) = serve_engine(alloc, keeper, layout, 0, None, &mut talk, &mut log);
     drop(talk);
     Some(ended == status && writer.bytes() == told.as_bytes() && log.entries == entries)
 }

@@ -5,6 +5,7 @@ use admission_core::{Call, Change, Durable, Reply};
 use durable_keeper::{Keeper, KeeperError, MemoryKeeper};
 use line_conversation::{Conversation, Next};
 use live_site::{CallLog, LogFault};
+use log_file::LogFile;
 use merge_core::Layout;
 use std::alloc::{AllocError, Global};
 
@@ -170,6 +171,40 @@ impl CallLog for Counting {
 
     fn take_back(&mut self) -> bool {
         self.entries = self.entries.saturating_sub(1);
+        true
+    }
+}
+
+/// A file in memory. It takes so many texts; of the next one it takes half, and it fails from then on.
+#[derive(Drop)]
+pub struct Bytes {
+    pub bytes: Vec<u8>,
+    pub left: u64,
+}
+
+impl LogFile for Bytes {
+    ghost did = { λ _ _ _. Unit {0} };
+
+    ghost has_failed = { λ _. Unit {0} };
+
+    ghost begins = { λ _. tt };
+
+    fn append(&mut self, text: &str) -> bool {
+        let bytes = text.as_bytes();
+        if self.left == 0 {
+            let half = bytes.len() / 2;
+            let _ = self.bytes.extend_from_slice(&bytes[..half]);
+            return false;
+        }
+        self.left -= 1;
+        self.bytes.extend_from_slice(bytes).is_ok()
+    }
+
+    fn cut(&mut self, length: u64) -> bool {
+        if self.left == 0 {
+            return false;
+        }
+        self.bytes.truncate(length as usize);
         true
     }
 }

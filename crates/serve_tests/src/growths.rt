@@ -13,6 +13,7 @@ use serve_engine::{LINE_LIMIT, serve_engine};
 use std::alloc::Global;
 use std::io;
 use std::io::{BufRead, Error, ErrorKind, Read, Write};
+use text_input::{Sink, Source};
 
 static LINES: [&[u8]; 12] = [
     b"announce a 5\n",
@@ -183,8 +184,14 @@ fn served(
         rest: b"",
     };
     let mut writer = Noted::new();
-    let mut talk = StreamConversation::new(alloc, &mut reader, &mut writer, LINE_LIMIT).ok()?;
-    let (ended, keeper) = serve_engine(alloc, keeper, copy, 0, &mut talk, &mut NoLog {});
+    let mut talk = StreamConversation::new(
+        alloc,
+        Source::new(&mut reader),
+        Sink::new(&mut writer),
+        LINE_LIMIT,
+    )
+    .ok()?;
+    let (ended, keeper) = serve_engine(alloc, keeper, copy, 0, None, &mut talk, &mut NoLog {});
     drop(talk);
     if ended == Status::Memory {
         return None;

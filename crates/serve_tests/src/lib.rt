@@ -4,11 +4,21 @@
 #[cfg(test)]
 mod answers;
 #[cfg(test)]
+mod disk;
+#[cfg(test)]
 mod endings;
 #[cfg(test)]
 mod fakes;
 #[cfg(test)]
+mod groups;
+#[cfg(test)]
 mod growths;
+#[cfg(test)]
+mod log_disks;
+#[cfg(test)]
+mod log_files;
+#[cfg(test)]
+mod log_mending;
 #[cfg(test)]
 mod long_lines;
 #[cfg(test)]

@@ -9,6 +9,7 @@ use std::alloc::Global;
 use std::io;
 use std::io::{BufRead, Error, ErrorKind, Read};
 use test_streams::{Keeping, NEVER};
+use text_input::{Sink, Source};
 
 // Gives some bytes, one byte so many times, and some bytes more, at most so many at a call.
 #[derive(Drop)]
@@ -119,8 +120,14 @@ fn is_told(alloc: Global, row: &Long) -> Option<bool> {
         most,
     };
     let mut writer = Keeping::new(alloc, NEVER);
-    let mut talk = StreamConversation::new(alloc, &mut reader, &mut writer, LINE_LIMIT).ok()?;
-    let (ended, _keeper) = serve_engine(alloc, keeper, layout, 0, &mut talk, &mut NoLog {});
+    let mut talk = StreamConversation::new(
+        alloc,
+        Source::new(&mut reader),
+        Sink::new(&mut writer),
+        LINE_LIMIT,
+    )
+    .ok()?;
+    let (ended, _keeper) = serve_engine(alloc, keeper, layout, 0, None, &mut talk, &mut NoLog {});
     drop(talk);
     Some(ended == Status::Done && writer.bytes() == told.as_bytes())
 }

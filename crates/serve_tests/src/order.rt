@@ -18,7 +18,7 @@ fn served(alloc: Global, lines: u64) -> Option<(Status, Marking)> {
         marks: Vec::new(alloc),
         bytes: 0,
     };
-    let (ended, _keeper) = serve_engine(alloc, keeper, layout, 0, &mut talk, &mut NoLog {});
+    let (ended, _keeper) = serve_engine(alloc, keeper, layout, 0, None, &mut talk, &mut NoLog {});
     Some((ended, talk))
 }
 

@@ -74,6 +74,7 @@ refused_end : (layout : LayoutState) (i : ℕ) (source : SourceState) (sink : Si
     → EndsStored layout i source source sink sink (refusal_status error)
 refused_end layout i source sink opening.BadStore there = (there, refl, refl)
 refused_end layout i source sink opening.WrongSite there = (there, refl, refl)
+refused_end layout i source sink opening.WrongGroup there = (there, refl, refl)
 refused_end layout i source sink opening.WrongLayout there = (there, refl, refl)
 refused_end layout i source sink opening.StoreFault there = (there, refl, refl)
 refused_end layout i source sink opening.Memory there = (loses_none source, inl refl, refl)

@@ -44,8 +44,8 @@ fn taken_text(line: &[u8]) -> Option<&[u8]>
     line.strip_prefix(b"take ")
 }
 
-// What a line says that takes these bytes.
-fn said_by_text(alloc: Global, bytes: &[u8]) -> Result<Option<Said>, AllocError>
+/// What the line `take TEXT` says, by its TEXT alone, as [`said_in`] says. Linear in the text.
+pub fn said_by_text(alloc: Global, bytes: &[u8]) -> Result<Option<Said>, AllocError>
     ensures { IfOk result (λ said. (records : List RecordSpec) → Says records (codes "take " ++ bytes.now) said) }
 {
     if std::str::from_utf8(bytes).is_err() {

@@ -1,3 +1,4 @@
 pub mod OpenLemmas
 pub mod OwnLemmas
+pub mod SiteTextLemmas
 pub mod SqlLemmas

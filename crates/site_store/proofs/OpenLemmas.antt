@@ -1,5 +1,5 @@
 -- What the opening of a store comes to.
-use Rattle.std.proofs.Common.{◌≡◌, ◌⊎◌, ℕ, inl, inr, refl, sym, ap, subst, List, ◌∙◌, decimal, Option, Some, None, Result, Ok, Err, IfOk}
+use Rattle.std.proofs.Common.{◌≡◌, ◌⊎◌, ℕ, inl, inr, refl, sym, ap, subst, List, ◌∙◌, Option, Some, None, Result, Ok, Err, IfOk}
 use Rattle.std.proofs.lemmas.Option.{none-some, same_Some}
 use Rattle.std.proofs.Math.Logic.{∥∥₁_elim, ∥∥₁_map}
 use Rattle.sqlite_trees.specs.Tree.{Trees}
@@ -26,6 +26,8 @@ use Rattle.store_tables.proofs.KeepLemmas.{leaves_first}
 use Rattle.site_store.specs.declared.error.OpenError.{OpenError}
 use Rattle.site_store.specs.declared.error.OpenError.TheVariants as opening
 use Rattle.site_store.specs.Errors.{open_error}
+use Rattle.site_store.specs.SiteText.{site_text}
+use Rattle.site_store.specs.Sql.{Stores}
 use Rattle.site_store.specs.Opened.{Fits, IsFor, IsSound, IsLeft, IsLeftBlank, IsReady, IsRefused, IsRefusedBlank, Readies, ReadiesBlank}
 
 -- a line that is not another's is that of the layout or of an earlier one
@@ -64,12 +66,18 @@ module _ {S : Type 0} (g : Ghosts S) (c : Held S) where
   pub twice : (it : Stored) → Keeps g c it → KeepsEither g c it it
   twice it keeps = record { left = λ clean db left. ∥∥₁_map (keeps.left clean db left) (λ h. inl h) }
 
+  -- what is stored for a layout and a site is so for those that are the same
+  pub stored_again : (layout copy : LayoutState) (site row : List ℕ) (index : Index) (it : Stored) → copy ≡ layout → row ≡ site
+      → Stores g layout site c index it → Stores g copy row c index it
+  stored_again layout copy site row index it same same_row stores =
+      subst (λ (l : LayoutState). Stores g l row c index it) (sym same) (subst (λ (t : List ℕ). Stores g layout t c index it) (sym same_row) stores)
+
   -- a content of this site is ready once it is renewed and kept
-  pub is_ready : (layout : LayoutState) (i : ℕ) (it content : Stored) (index : Index) → (HasCleanDisk (state g c) → content ≡ it) → IsFor layout i content → Knows index content
-      → (HasCleanDisk (state g c) → Keeps g c (renewed (line_of layout) it)) → IsReady g layout i it c index
-  is_ready layout i it content index found fits knows kept =
+  pub is_ready : (layout : LayoutState) (i : ℕ) (group : Option (List ℕ)) (it content : Stored) (index : Index) → (HasCleanDisk (state g c) → content ≡ it)
+      → IsFor layout i group content → Knows index content → (HasCleanDisk (state g c) → Keeps g c (renewed (line_of layout) it)) → IsReady g layout i group it c index
+  is_ready layout i group it content index found fits knows kept =
       let line = line_of layout in
-      let is_for : HasCleanDisk (state g c) → IsFor layout i it = λ clean. subst (IsFor layout i) (found clean) fits in
+      let is_for : HasCleanDisk (state g c) → IsFor layout i group it = λ clean. subst (IsFor layout i group) (found clean) fits in
       record {
         fits = is_for;
         stores = λ clean. record {
@@ -80,22 +88,24 @@ module _ {S : Type 0} (g : Ghosts S) (c : Held S) where
       }
 
   -- a refusal of the tables
-  pub refused : (layout : LayoutState) (i : ℕ) (it : Stored) (e : TableError) → (e ≡ tables.BadStore → HasCleanDisk (state g c) → ¬ IsSound it) → Keeps g c it → IsRefused g layout i it c (open_error e)
-  refused layout i it tables.BadStore bad keeps = record { cause = bad refl; left = keeps }
-  refused layout i it tables.Memory bad keeps = record { cause = λ _. _; left = keeps }
-  refused layout i it tables.StoreFault bad keeps = record { cause = λ _. _; left = leaves_first g c (Holds it) (Holds (renewed (line_of layout) it)) keeps }
+  pub refused : (layout : LayoutState) (i : ℕ) (group : Option (List ℕ)) (it : Stored) (e : TableError) → (e ≡ tables.BadStore → HasCleanDisk (state g c) → ¬ IsSound it)
+      → Keeps g c it → IsRefused g layout i group it c (open_error e)
+  refused layout i group it tables.BadStore bad keeps = record { cause = bad refl; left = keeps }
+  refused layout i group it tables.Memory bad keeps = record { cause = λ _. _; left = keeps }
+  refused layout i group it tables.StoreFault bad keeps = record { cause = λ _. _; left = leaves_first g c (Holds it) (Holds (renewed (line_of layout) it)) keeps }
 
   -- a refused renewal leaves what was kept, or after a fault perhaps what was to come
-  pub refused_renewal : (layout : LayoutState) (i : ℕ) (it : Stored) (e : TableError) → (e ≡ tables.BadStore → ⊥) → (e ≡ tables.Memory → Keeps g c it)
-      → (e ≡ tables.StoreFault → KeepsEither g c it (renewed (line_of layout) it)) → IsRefused g layout i it c (open_error e)
-  refused_renewal layout i it tables.BadStore good memory fault = absurd (good refl)
-  refused_renewal layout i it tables.Memory good memory fault = record { cause = λ _. _; left = memory refl }
-  refused_renewal layout i it tables.StoreFault good memory fault = record { cause = λ _. _; left = fault refl }
+  pub refused_renewal : (layout : LayoutState) (i : ℕ) (group : Option (List ℕ)) (it : Stored) (e : TableError) → (e ≡ tables.BadStore → ⊥) → (e ≡ tables.Memory → Keeps g c it)
+      → (e ≡ tables.StoreFault → KeepsEither g c it (renewed (line_of layout) it)) → IsRefused g layout i group it c (open_error e)
+  refused_renewal layout i group it tables.BadStore good memory fault = absurd (good refl)
+  refused_renewal layout i group it tables.Memory good memory fault = record { cause = λ _. _; left = memory refl }
+  refused_renewal layout i group it tables.StoreFault good memory fault = record { cause = λ _. _; left = fault refl }
 
-  pub refused_blank : (layout : LayoutState) (i : ℕ) (e : TableError) → (e ≡ tables.BadStore → HasCleanDisk (state g c) → ⊥) → KeepsNothing g c → IsRefusedBlank g layout i c (open_error e)
-  refused_blank layout i tables.BadStore bad keeps = record { cause = bad refl; left = keeps }
-  refused_blank layout i tables.Memory bad keeps = record { cause = λ _. _; left = keeps }
-  refused_blank layout i tables.StoreFault bad keeps = record { cause = λ _. _; left = leaves_first g c HoldsNothing (Holds (made (decimal i) (line_of layout))) keeps }
+  pub refused_blank : (layout : LayoutState) (i : ℕ) (group : Option (List ℕ)) (e : TableError) → (e ≡ tables.BadStore → HasCleanDisk (state g c) → ⊥)
+      → KeepsNothing g c → IsRefusedBlank g layout i group c (open_error e)
+  refused_blank layout i group tables.BadStore bad keeps = record { cause = bad refl; left = keeps }
+  refused_blank layout i group tables.Memory bad keeps = record { cause = λ _. _; left = keeps }
+  refused_blank layout i group tables.StoreFault bad keeps = record { cause = λ _. _; left = leaves_first g c HoldsNothing (Holds (made (site_text i group) (line_of layout))) keeps }
 
   -- nothing needs to be shown of a device that can't be honest
   module _ (never : HasCleanDisk (state g c) → ⊥) where
@@ -105,37 +115,40 @@ module _ {S : Type 0} (g : Ghosts S) (c : Held S) where
     left_any : (layout : LayoutState) (it : Stored) (e : OpenError) → IsLeft g layout it c e
     left_any layout it opening.BadStore = leaves_any (Holds it)
     left_any layout it opening.WrongSite = leaves_any (Holds it)
+    left_any layout it opening.WrongGroup = leaves_any (Holds it)
     left_any layout it opening.WrongLayout = leaves_any (Holds it)
     left_any layout it opening.StoreFault = leaves_any (λ db. Holds it db ⊎ Holds (renewed (line_of layout) it) db)
     left_any layout it opening.Memory = leaves_any (Holds it)
 
-    left_blank_any : (layout : LayoutState) (i : ℕ) (e : OpenError) → IsLeftBlank g layout i c e
-    left_blank_any layout i opening.BadStore = leaves_any HoldsNothing
-    left_blank_any layout i opening.WrongSite = leaves_any HoldsNothing
-    left_blank_any layout i opening.WrongLayout = leaves_any HoldsNothing
-    left_blank_any layout i opening.StoreFault = leaves_any (λ db. HoldsNothing db ⊎ Holds (made (decimal i) (line_of layout)) db)
-    left_blank_any layout i opening.Memory = leaves_any HoldsNothing
+    left_blank_any : (layout : LayoutState) (i : ℕ) (group : Option (List ℕ)) (e : OpenError) → IsLeftBlank g layout i group c e
+    left_blank_any layout i group opening.BadStore = leaves_any HoldsNothing
+    left_blank_any layout i group opening.WrongSite = leaves_any HoldsNothing
+    left_blank_any layout i group opening.WrongGroup = leaves_any HoldsNothing
+    left_blank_any layout i group opening.WrongLayout = leaves_any HoldsNothing
+    left_blank_any layout i group opening.StoreFault = leaves_any (λ db. HoldsNothing db ⊎ Holds (made (site_text i group) (line_of layout)) db)
+    left_blank_any layout i group opening.Memory = leaves_any HoldsNothing
 
-    pub readies_any : (layout : LayoutState) (i : ℕ) (it : Stored) (r : Result Index OpenError) → Readies g layout i it c r
-    readies_any layout i it (Ok index) = record { fits = λ clean. absurd (never clean); stores = λ clean. absurd (never clean) }
-    readies_any layout i it (Err e) = record { cause = λ clean. absurd (never clean); left = left_any layout it e }
+    pub readies_any : (layout : LayoutState) (i : ℕ) (group : Option (List ℕ)) (it : Stored) (r : Result Index OpenError) → Readies g layout i group it c r
+    readies_any layout i group it (Ok index) = record { fits = λ clean. absurd (never clean); stores = λ clean. absurd (never clean) }
+    readies_any layout i group it (Err e) = record { cause = λ clean. absurd (never clean); left = left_any layout it e }
 
-    pub readies_blank_any : (layout : LayoutState) (i : ℕ) (r : Result Index OpenError) → ReadiesBlank g layout i c r
-    readies_blank_any layout i (Ok index) = λ clean. absurd (never clean)
-    readies_blank_any layout i (Err e) = record { cause = λ clean. absurd (never clean); left = left_blank_any layout i e }
+    pub readies_blank_any : (layout : LayoutState) (i : ℕ) (group : Option (List ℕ)) (r : Result Index OpenError) → ReadiesBlank g layout i group c r
+    readies_blank_any layout i group (Ok index) = λ clean. absurd (never clean)
+    readies_blank_any layout i group (Err e) = record { cause = λ clean. absurd (never clean); left = left_blank_any layout i group e }
 
   -- one of two contents was kept, and a look found it or none
-  module _ (layout : LayoutState) (i : ℕ) (a b : Stored) (P Q C : Type 0) (early : HasCleanDisk (state g c) → C) where
+  module _ (layout : LayoutState) (i : ℕ) (group : Option (List ℕ)) (a b : Stored) (P Q C : Type 0) (early : HasCleanDisk (state g c) → C) where
     pub settled_none : (t : Option Stored) → t ≡ None → (r : Result Index OpenError) → ∥ (P × (C → t ≡ Some a)) ⊎ (Q × (C → t ≡ Some b)) ∥₁
-        → IfOk r (λ index. ∥ IsReady g layout i a c index ⊎ IsReady g layout i b c index ∥₁)
+        → IfOk r (λ index. ∥ IsReady g layout i group a c index ⊎ IsReady g layout i group b c index ∥₁)
     settled_none t none (Err e) found = _
     settled_none t none (Ok index) found = ∥∥₁_map found (λ f. elim f [
-      | inl x ↦ inl (readies_any (λ clean. none-some a (sym none ∙ x.1 (early clean))) layout i a (Ok index))
-      | inr y ↦ inr (readies_any (λ clean. none-some b (sym none ∙ y.1 (early clean))) layout i b (Ok index))
+      | inl x ↦ inl (readies_any (λ clean. none-some a (sym none ∙ x.1 (early clean))) layout i group a (Ok index))
+      | inr y ↦ inr (readies_any (λ clean. none-some b (sym none ∙ y.1 (early clean))) layout i group b (Ok index))
     ])
 
-    pub settled : (t : Option Stored) (content : Stored) → t ≡ Some content → (r : Result Index OpenError) → (P → (C → content ≡ a) → Readies g layout i a c r) → (Q → (C → content ≡ b) → Readies g layout i b c r)
-        → ∥ (P × (C → t ≡ Some a)) ⊎ (Q × (C → t ≡ Some b)) ∥₁ → IfOk r (λ index. ∥ IsReady g layout i a c index ⊎ IsReady g layout i b c index ∥₁)
+    pub settled : (t : Option Stored) (content : Stored) → t ≡ Some content → (r : Result Index OpenError) → (P → (C → content ≡ a) → Readies g layout i group a c r)
+        → (Q → (C → content ≡ b) → Readies g layout i group b c r)
+        → ∥ (P × (C → t ≡ Some a)) ⊎ (Q × (C → t ≡ Some b)) ∥₁ → IfOk r (λ index. ∥ IsReady g layout i group a c index ⊎ IsReady g layout i group b c index ∥₁)
     settled t content is (Err e) first second found = _
     settled t content is (Ok index) first second found = ∥∥₁_map found (λ f. elim f [
       | inl x ↦ inl (first x.0 (λ clean. same_Some content a (sym is ∙ x.1 clean)))

@@ -22,6 +22,7 @@ use Rattle.store_tables.proofs.LookLemmas.{found_once}
 use Rattle.site_store.specs.declared.error.OpenError.{OpenError}
 use Rattle.site_store.specs.declared.error.OpenError.TheVariants as opening
 use Rattle.site_store.specs.Errors.{open_error}
+use Rattle.site_store.specs.SiteText.{site_text}
 use Rattle.site_store.specs.Opened.{Fits, IsCause, IsDeviceCause, IsOwn}
 use Rattle.site_store.proofs.OpenLemmas.{made_content}
 
@@ -40,12 +41,13 @@ other_line layout i it (inl same) is = is.0 same
 other_line layout i it (inr earlier) is = is.1 earlier.0 earlier.1
 
 -- the site's own content is refused for no cause of its own
-pub own_cause : (layout : LayoutState) (i : ℕ) (it : Stored) (e : OpenError) → IsOwn layout i it → IsCause layout i it e → IsDeviceCause e
-own_cause layout i it opening.BadStore own cause = absurd (cause (record { in_range = own.in_range; content = own.fits.content }))
-own_cause layout i it opening.WrongSite own cause = absurd (cause.1 own.fits.its_site)
-own_cause layout i it opening.WrongLayout own cause = absurd (other_line layout i it own.fits.its_layout cause.1.1)
-own_cause layout i it opening.StoreFault own cause = _
-own_cause layout i it opening.Memory own cause = _
+pub own_cause : (layout : LayoutState) (i : ℕ) (group : Option (List ℕ)) (it : Stored) (e : OpenError) → IsOwn layout i group it → IsCause layout i group it e → IsDeviceCause e
+own_cause layout i group it opening.BadStore own cause = absurd (cause (record { in_range = own.in_range; content = own.fits.content }))
+own_cause layout i group it opening.WrongSite own cause = absurd (cause.1 group own.fits.its_site)
+own_cause layout i group it opening.WrongGroup own cause = absurd (cause.1.0 own.fits.its_site)
+own_cause layout i group it opening.WrongLayout own cause = absurd (other_line layout i it own.fits.its_layout cause.1.1)
+own_cause layout i group it opening.StoreFault own cause = _
+own_cause layout i group it opening.Memory own cause = _
 
 -- nor do tables refuse it
 pub table_cause : (e : TableError) → (e ≡ tables.BadStore → ⊥) → IsDeviceCause (open_error e)
@@ -56,6 +58,7 @@ table_cause tables.StoreFault good = _
 pub device_two : (e : OpenError) → IsDeviceCause e → e ≢ opening.StoreFault → e ≢ opening.Memory → ⊥
 device_two opening.BadStore cause fault memory = cause
 device_two opening.WrongSite cause fault memory = cause
+device_two opening.WrongGroup cause fault memory = cause
 device_two opening.WrongLayout cause fault memory = cause
 device_two opening.StoreFault cause fault memory = fault refl
 device_two opening.Memory cause fault memory = memory refl
@@ -66,15 +69,16 @@ memory_cause e is = subst IsDeviceCause (sym is) _
 device_prop : (e : OpenError) → IsProp (IsDeviceCause e)
 device_prop opening.BadStore = λ a b. absurd a
 device_prop opening.WrongSite = λ a b. absurd a
+device_prop opening.WrongGroup = λ a b. absurd a
 device_prop opening.WrongLayout = λ a b. absurd a
 device_prop opening.StoreFault = λ a b. refl
 device_prop opening.Memory = λ a b. refl
 
 -- a new store is one of its site
-pub made_own : (layout : LayoutState) (i : ℕ) → IsOwn layout i (made (decimal i) (line_of layout))
-made_own layout i = record {
+pub made_own : (layout : LayoutState) (i : ℕ) (group : Option (List ℕ)) → IsOwn layout i group (made (site_text i group) (line_of layout))
+made_own layout i group = record {
   in_range = record { cells = All-from_recursion IsCellInRange [] tt; sessions = All-from_recursion IsSessionInRange [] tt; notices = All-from_recursion IsNoticeInRange [] tt };
-  fits = record { content = made_content (decimal i) (line_of layout); its_site = refl; its_layout = inl refl };
+  fits = record { content = made_content (site_text i group) (line_of layout); its_site = refl; its_layout = inl refl };
 }
 
 module _ {S : Type 0} (g : Ghosts S) (c : Held S) (Such : Stored → Type 0) where
@@ -109,12 +113,13 @@ module _ {S : Type 0} (g : Ghosts S) (c : Held S) (it : Stored) (H : Type 0) (cl
       same_Some content it (sym is ∙ ∥∥₁_elim found (found_once {E = TableError} (Ok t) (Some it)) (λ f. elim f [ inl x ↦ absurd (none-some content (sym (x.1 clean) ∙ is)) | inr y ↦ y.1 clean ]))
 
 -- one of two contents was kept, each of them the site's own, and a look found it
-pub either_own : (layout : LayoutState) (i : ℕ) (a b content : Stored) (P Q H : Type 0) → H → (t : Option Stored) → t ≡ Some content → IsOwn layout i a → IsOwn layout i b
-    → ∥ (P × (H → t ≡ Some a)) ⊎ (Q × (H → t ≡ Some b)) ∥₁ → (e : OpenError) → (IsOwn layout i content → IsDeviceCause e) → IsDeviceCause e
-either_own layout i a b content P Q H clean t is first second found e refused =
+pub either_own : (layout : LayoutState) (i : ℕ) (group : Option (List ℕ)) (a b content : Stored) (P Q H : Type 0) → H → (t : Option Stored) → t ≡ Some content
+    → IsOwn layout i group a → IsOwn layout i group b
+    → ∥ (P × (H → t ≡ Some a)) ⊎ (Q × (H → t ≡ Some b)) ∥₁ → (e : OpenError) → (IsOwn layout i group content → IsDeviceCause e) → IsDeviceCause e
+either_own layout i group a b content P Q H clean t is first second found e refused =
     ∥∥₁_elim found (device_prop e) (λ f. elim f [
-      | inl x ↦ refused (subst (IsOwn layout i) (sym (same_Some content a (sym is ∙ x.1 clean))) first)
-      | inr y ↦ refused (subst (IsOwn layout i) (sym (same_Some content b (sym is ∙ y.1 clean))) second)
+      | inl x ↦ refused (subst (IsOwn layout i group) (sym (same_Some content a (sym is ∙ x.1 clean))) first)
+      | inr y ↦ refused (subst (IsOwn layout i group) (sym (same_Some content b (sym is ∙ y.1 clean))) second)
     ])
 
 -- what holds of an error

@@ -31,45 +31,46 @@ fault_is tables.Memory own is = grind (arith, is)
 fault_is tables.StoreFault own is = refl
 
 -- a content with rows put is one of the same site
-after_own : (layout : LayoutState) (i : ℕ) (it : Stored) (change : ChangeState) (rows : RowsState) → IsOf layout i it → Makes change it rows → IsOf layout i (after rows it)
-after_own layout i it change rows own makes = record { second = own.second; its_site = own.its_site; its_layout = own.its_layout; content = makes.content }
+after_own : (layout : LayoutState) (site : List ℕ) (it : Stored) (change : ChangeState) (rows : RowsState) → IsOf layout site it → Makes change it rows → IsOf layout site (after rows it)
+after_own layout site it change rows own makes = record { second = own.second; its_site = own.its_site; its_layout = own.its_layout; content = makes.content }
 
-pub takes_rows : (layout : LayoutState) (i : ℕ) (it : Stored) (change : ChangeState) (rows : RowsState) → IsOf layout i it → Makes change it rows → Takes rows.edit it
-takes_rows layout i it change rows own makes = record { second = own.second; free = makes.place }
+pub takes_rows : (layout : LayoutState) (site : List ℕ) (it : Stored) (change : ChangeState) (rows : RowsState) → IsOf layout site it → Makes change it rows → Takes rows.edit it
+takes_rows layout site it change rows own makes = record { second = own.second; free = makes.place }
 
 -- one of two that are the same is one of any two of which it is the first
 pub either_first : {S : Type 0} (g : Ghosts S) (c : Held S) (it other : Stored) → KeepsEither g c it it → KeepsEither g c it other
 either_first g c it other keeps = record { left = λ clean db left. ∥∥₁_map (keeps.left clean db left) (λ h. elim h [ inl x ↦ inl x | inr y ↦ inl y ]) }
 
-module _ {S : Type 0} (g : Ghosts S) (c : Held S) (layout : LayoutState) (i : ℕ) (change : ChangeState) (it : Stored) (own : IsOf layout i it) where
-  is_old : IsOneOf layout i (durable_in it) (changed change (durable_in it)) it
+module _ {S : Type 0} (g : Ghosts S) (c : Held S) (layout : LayoutState) (site : List ℕ) (change : ChangeState) (it : Stored) (own : IsOf layout site it) where
+  is_old : IsOneOf layout site (durable_in it) (changed change (durable_in it)) it
   is_old = record { own = own; part = inl refl }
 
   -- nothing was changed
-  pub unchanged : Keeps g c it → ChangesEither g layout i change it c
+  pub unchanged : Keeps g c it → ChangesEither g layout site change it c
   unchanged keeps = record { second = it; left = twice g c it keeps; which = inl refl; is_first = is_old; is_second = is_old }
 
   -- the rows of the change were put
-  pub made_change : (rows : RowsState) → IsPlan change it rows → Makes change it rows → (index : Index) → Keeps g c (after rows it) → Knows index (after rows it) → Changes g layout i change it c index
+  pub made_change : (rows : RowsState) → IsPlan change it rows → Makes change it rows → (index : Index) → Keeps g c (after rows it) → Knows index (after rows it)
+      → Changes g layout site change it c index
   made_change rows plan makes index kept knows =
       let same = ap (λ (r : RowsState). after r it) (same_rows change it rows plan) in
       record {
-        stores = subst (Stores g layout i c index) same (record { own = after_own layout i it change rows own makes; kept = kept; known = knows });
+        stores = subst (Stores g layout site c index) same (record { own = after_own layout site it change rows own makes; kept = kept; known = knows });
         part = subst (λ (x : Stored). durable_in x ≡ changed change (durable_in it)) same makes.durable;
       }
 
   -- it is not known what was
-  pub in_doubt : (rows : RowsState) → IsPlan change it rows → Makes change it rows → KeepsEither g c it (after rows it) → ChangesEither g layout i change it c
+  pub in_doubt : (rows : RowsState) → IsPlan change it rows → Makes change it rows → KeepsEither g c it (after rows it) → ChangesEither g layout site change it c
   in_doubt rows plan makes left = record {
     second = after rows it;
     left = left;
     which = inr (ap (λ (r : RowsState). after r it) (same_rows change it rows plan));
     is_first = is_old;
-    is_second = record { own = after_own layout i it change rows own makes; part = inr makes.durable };
+    is_second = record { own = after_own layout site it change rows own makes; part = inr makes.durable };
   }
 
   -- and so the content is left, or that after the change
-  pub left_or : ChangesEither g layout i change it c → KeepsEither g c it (after_change change it)
+  pub left_or : ChangesEither g layout site change it c → KeepsEither g c it (after_change change it)
   left_or e = elim e.which [
     | inl same ↦ either_first g c it (after_change change it) (subst (λ (x : Stored). KeepsEither g c it x) same e.left)
     | inr next ↦ subst (λ (x : Stored). KeepsEither g c it x) next e.left

@@ -1,3 +1,4 @@
 pub mod Errors
 pub mod Opened
+pub mod SiteText
 pub mod Sql

@@ -1,5 +1,5 @@
 -- What the opening of a store comes to.
-use Rattle.std.specs.Prelude.{◌≡◌, ◌≢◌, ◌⊎◌, ℕ, decimal, Result, Ok, Err, ⊤}
+use Rattle.std.specs.Prelude.{◌≡◌, ◌≢◌, ◌⊎◌, ℕ, List, Option, Result, Ok, Err, ⊤}
 use Rattle.sqlite_trees.specs.declared.store.Store.{Ghosts}
 use Rattle.sqlite.specs.State.{HasCleanDisk, Survives}
 use Rattle.sqlite.specs.Held.{Held, state}
@@ -19,18 +19,19 @@ use Rattle.store_content.specs.Content.{IsContent, durable_in}
 use Rattle.store_content.specs.Known.{Knows}
 use Rattle.durable_keeper.specs.Keeping.{nothing_kept}
 use Rattle.site_store.specs.declared.error.OpenError.{OpenError}
-use Rattle.site_store.specs.declared.error.OpenError.TheVariants.{BadStore, WrongSite, WrongLayout, StoreFault, Memory}
+use Rattle.site_store.specs.declared.error.OpenError.TheVariants.{BadStore, WrongSite, WrongGroup, WrongLayout, StoreFault, Memory}
 use Rattle.site_store.specs.declared.sql.SqlKeeper.{SqlKeeper}
-use Rattle.site_store.specs.Sql.{Stores, KeepsPart, below, layout_of, site_of, faults_of, is_honest}
+use Rattle.site_store.specs.SiteText.{NamesOther, NamesSite, site_text}
+use Rattle.site_store.specs.Sql.{Stores, KeepsPart, below, group_of, layout_of, site_of, faults_of, is_honest}
 
 -- a layout line is that of a layout, or of an earlier one that has the site
 abbrev pub Fits : LayoutState → ℕ → Stored → Type 0
 Fits layout i it = IsLine layout i it.layout lines.Same ⊎ IsLine layout i it.layout lines.Earlier
 
--- a content is one that a keeper of a site takes
-pub record IsFor (layout : LayoutState) (i : ℕ) (it : Stored) : Type 0 where
+-- a content is one that a keeper of a site takes, which is of a group or of none
+pub record IsFor (layout : LayoutState) (i : ℕ) (group : Option (List ℕ)) (it : Stored) : Type 0 where
   pub content : IsContent it
-  pub its_site : it.site ≡ decimal i
+  pub its_site : it.site ≡ site_text i group
   pub its_layout : Fits layout i it
 
 -- a content is one that some site's store has: its numbers are such as the tables take, and it is that of a site
@@ -39,9 +40,9 @@ pub record IsSound (it : Stored) : Type 0 where
   pub content : IsContent it
 
 -- a content is one that a site's store of a layout has: it is for the site, and its numbers are such as the tables take
-pub record IsOwn (layout : LayoutState) (i : ℕ) (it : Stored) : Type 0 where
+pub record IsOwn (layout : LayoutState) (i : ℕ) (group : Option (List ℕ)) (it : Stored) : Type 0 where
   pub in_range : IsInRange it
-  pub fits : IsFor layout i it
+  pub fits : IsFor layout i group it
 
 -- a content has the second version and the layout's own line, so that an opening has nothing to write
 pub record IsCurrent (layout : LayoutState) (it : Stored) : Type 0 where
@@ -49,29 +50,31 @@ pub record IsCurrent (layout : LayoutState) (it : Stored) : Type 0 where
   pub its_line : it.layout ≡ line_of layout
 
 -- an opening has to write: the content is for the site, and has the first version or an earlier layout's line
-abbrev pub IsDue : LayoutState → ℕ → Stored → Type 0
-IsDue layout i it = IsFor layout i it × (¬ IsCurrent layout it)
+abbrev pub IsDue : LayoutState → ℕ → Option (List ℕ) → Stored → Type 0
+IsDue layout i group it = IsFor layout i group it × (¬ IsCurrent layout it)
 
 -- why a store is refused: the first of these that is so. When a fault comes, IsFault says.
-abbrev pub IsCause : LayoutState → ℕ → Stored → OpenError → Type 0
-IsCause layout i it BadStore = ¬ IsSound it
-IsCause layout i it WrongSite = IsContent it × (it.site ≢ decimal i)
-IsCause layout i it WrongLayout = IsContent it × ((it.site ≡ decimal i) × IsLine layout i it.layout lines.Other)
-IsCause layout i it StoreFault = ⊤
-IsCause layout i it Memory = ⊤
+abbrev pub IsCause : LayoutState → ℕ → Option (List ℕ) → Stored → OpenError → Type 0
+IsCause layout i group it BadStore = ¬ IsSound it
+IsCause layout i group it WrongSite = IsContent it × NamesOther i it.site
+IsCause layout i group it WrongGroup = IsContent it × ((it.site ≢ site_text i group) × NamesSite i it.site)
+IsCause layout i group it WrongLayout = IsContent it × ((it.site ≡ site_text i group) × IsLine layout i it.layout lines.Other)
+IsCause layout i group it StoreFault = ⊤
+IsCause layout i group it Memory = ⊤
 
 -- an empty database is refused by the device alone
 abbrev pub IsDeviceCause : OpenError → Type 0
 IsDeviceCause BadStore = ⊥
 IsDeviceCause WrongSite = ⊥
+IsDeviceCause WrongGroup = ⊥
 IsDeviceCause WrongLayout = ⊥
 IsDeviceCause StoreFault = ⊤
 IsDeviceCause Memory = ⊤
 
 -- a content was judged: it is one of this site, with its index and how its line compares; or why not
-abbrev pub IsJudged : LayoutState → ℕ → Stored → Result (Index × Line) OpenError → Type 0
-IsJudged layout i it (Ok x) = IsFor layout i it × (Knows x.0 it × IsLine layout i it.layout x.1)
-IsJudged layout i it (Err e) = IsCause layout i it e × (e ≢ StoreFault)
+abbrev pub IsJudged : LayoutState → ℕ → Option (List ℕ) → Stored → Result (Index × Line) OpenError → Type 0
+IsJudged layout i group it (Ok x) = IsFor layout i group it × (Knows x.0 it × IsLine layout i it.layout x.1)
+IsJudged layout i group it (Err e) = IsCause layout i group it e × (e ≢ StoreFault)
 
 module _ {S : Type 0} (g : Ghosts S) where
   -- what a connection keeps after a refusal: what it kept, or after a fault perhaps the content that was to come
@@ -79,31 +82,33 @@ module _ {S : Type 0} (g : Ghosts S) where
   IsLeft layout it c StoreFault = KeepsEither g c it (renewed (line_of layout) it)
   IsLeft layout it c BadStore = Keeps g c it
   IsLeft layout it c WrongSite = Keeps g c it
+  IsLeft layout it c WrongGroup = Keeps g c it
   IsLeft layout it c WrongLayout = Keeps g c it
   IsLeft layout it c Memory = Keeps g c it
 
   -- the same of a database without tables
-  abbrev pub IsLeftBlank : LayoutState → ℕ → Held S → OpenError → Type 0
-  IsLeftBlank layout i c StoreFault = KeepsNothingOr g c (made (decimal i) (line_of layout))
-  IsLeftBlank layout i c BadStore = KeepsNothing g c
-  IsLeftBlank layout i c WrongSite = KeepsNothing g c
-  IsLeftBlank layout i c WrongLayout = KeepsNothing g c
-  IsLeftBlank layout i c Memory = KeepsNothing g c
+  abbrev pub IsLeftBlank : LayoutState → ℕ → Option (List ℕ) → Held S → OpenError → Type 0
+  IsLeftBlank layout i group c StoreFault = KeepsNothingOr g c (made (site_text i group) (line_of layout))
+  IsLeftBlank layout i group c BadStore = KeepsNothing g c
+  IsLeftBlank layout i group c WrongSite = KeepsNothing g c
+  IsLeftBlank layout i group c WrongGroup = KeepsNothing g c
+  IsLeftBlank layout i group c WrongLayout = KeepsNothing g c
+  IsLeftBlank layout i group c Memory = KeepsNothing g c
 
   -- a store with a content was refused
-  pub record IsRefused (layout : LayoutState) (i : ℕ) (it : Stored) (c : Held S) (e : OpenError) : Type 0 where
-    pub cause : HasCleanDisk (state g c) → IsCause layout i it e
+  pub record IsRefused (layout : LayoutState) (i : ℕ) (group : Option (List ℕ)) (it : Stored) (c : Held S) (e : OpenError) : Type 0 where
+    pub cause : HasCleanDisk (state g c) → IsCause layout i group it e
     pub left : IsLeft layout it c e
 
   -- a database without tables was refused
-  pub record IsRefusedBlank (layout : LayoutState) (i : ℕ) (c : Held S) (e : OpenError) : Type 0 where
+  pub record IsRefusedBlank (layout : LayoutState) (i : ℕ) (group : Option (List ℕ)) (c : Held S) (e : OpenError) : Type 0 where
     pub cause : HasCleanDisk (state g c) → IsDeviceCause e
-    pub left : IsLeftBlank layout i c e
+    pub left : IsLeftBlank layout i group c e
 
   -- a store with a content is ready, of this layout now
-  pub record IsReady (layout : LayoutState) (i : ℕ) (it : Stored) (c : Held S) (index : Index) : Type 0 where
-    pub fits : HasCleanDisk (state g c) → IsFor layout i it
-    pub stores : HasCleanDisk (state g c) → Stores g layout i c index (renewed (line_of layout) it)
+  pub record IsReady (layout : LayoutState) (i : ℕ) (group : Option (List ℕ)) (it : Stored) (c : Held S) (index : Index) : Type 0 where
+    pub fits : HasCleanDisk (state g c) → IsFor layout i group it
+    pub stores : HasCleanDisk (state g c) → Stores g layout (site_text i group) c index (renewed (line_of layout) it)
 
   -- nothing was committed: what a crash leaves now, it could leave before
   abbrev pub CommitsNothing : Held S → Held S → Type 0
@@ -114,8 +119,8 @@ module _ {S : Type 0} (g : Ghosts S) where
   IsRefusal old new = HasRefused (state g old) (state g new)
 
   -- A fault told by an honest device: a call was refused so; or a content was to be written, and that was refused.
-  abbrev pub IsFault : LayoutState → ℕ → Stored → Held S → (OpenError × Held S) → Type 0
-  IsFault layout i it old x = x.0 ≡ StoreFault → HasCleanDisk (state g x.1) → IsRefusal old x.1 ⊎ IsDue layout i it
+  abbrev pub IsFault : LayoutState → ℕ → Option (List ℕ) → Stored → Held S → (OpenError × Held S) → Type 0
+  IsFault layout i group it old x = x.0 ≡ StoreFault → HasCleanDisk (state g x.1) → IsRefusal old x.1 ⊎ IsDue layout i group it
 
   -- a refusal by an honest device alone, and not for what the store holds
   abbrev pub IsByDevice : (OpenError × Held S) → Type 0
@@ -126,19 +131,20 @@ module _ {S : Type 0} (g : Ghosts S) where
   IsJudgedFirst old x = x.0 ≢ StoreFault → x.0 ≢ Memory → CommitsNothing old x.1
 
   -- the answer to the opening of a connection that keeps a content, and of one without tables
-  abbrev pub Readies : LayoutState → ℕ → Stored → Held S → Result Index OpenError → Type 0
-  Readies layout i it c (Ok index) = IsReady layout i it c index
-  Readies layout i it c (Err e) = IsRefused layout i it c e
+  abbrev pub Readies : LayoutState → ℕ → Option (List ℕ) → Stored → Held S → Result Index OpenError → Type 0
+  Readies layout i group it c (Ok index) = IsReady layout i group it c index
+  Readies layout i group it c (Err e) = IsRefused layout i group it c e
 
-  abbrev pub ReadiesBlank : LayoutState → ℕ → Held S → Result Index OpenError → Type 0
-  ReadiesBlank layout i c (Ok index) = HasCleanDisk (state g c) → Stores g layout i c index (made (decimal i) (line_of layout))
-  ReadiesBlank layout i c (Err e) = IsRefusedBlank layout i c e
+  abbrev pub ReadiesBlank : LayoutState → ℕ → Option (List ℕ) → Held S → Result Index OpenError → Type 0
+  ReadiesBlank layout i group c (Ok index) = HasCleanDisk (state g c) → Stores g layout (site_text i group) c index (made (site_text i group) (line_of layout))
+  ReadiesBlank layout i group c (Err e) = IsRefusedBlank layout i group c e
 
 module _ {S : Type 0} {g : Ghosts S} where
-  -- a keeper is one of a site of a layout, whose device has refused no call
-  pub record IsKeeperOf (layout : LayoutState) (i : ℕ) (k : SqlKeeper S g) : Type 0 where
+  -- a keeper is one of a site of a layout, of a group or of none, whose device has refused no call
+  pub record IsKeeperOf (layout : LayoutState) (i : ℕ) (group : Option (List ℕ)) (k : SqlKeeper S g) : Type 0 where
     pub its_layout : layout_of k ≡ layout
     pub its_site : site_of k ≡ i
+    pub its_group : group_of k ≡ group
     pub sound : faults_of k ≡ 0
 
   -- the connection after an opening
@@ -148,14 +154,14 @@ module _ {S : Type 0} {g : Ghosts S} where
 
   -- The answer to an opening. Where the connection kept a content: a keeper of its durable part, the content being one
   -- of this site; or the connection again, with what it kept.
-  abbrev pub Opens : LayoutState → ℕ → Stored → Result (SqlKeeper S g) (OpenError × Held S) → Type 0
-  Opens layout i it (Ok k) = (is_honest k → IsFor layout i it) × KeepsPart k (durable_in it)
-  Opens layout i it (Err x) = IsRefused g layout i it x.1 x.0
+  abbrev pub Opens : LayoutState → ℕ → Option (List ℕ) → Stored → Result (SqlKeeper S g) (OpenError × Held S) → Type 0
+  Opens layout i group it (Ok k) = (is_honest k → IsFor layout i group it) × KeepsPart k (durable_in it)
+  Opens layout i group it (Err x) = IsRefused g layout i group it x.1 x.0
 
   -- where it kept a database without tables: a keeper of nothing, or the connection again
-  abbrev pub OpensBlank : LayoutState → ℕ → Result (SqlKeeper S g) (OpenError × Held S) → Type 0
-  OpensBlank layout i (Ok k) = KeepsPart k nothing_kept
-  OpensBlank layout i (Err x) = IsRefusedBlank g layout i x.1 x.0
+  abbrev pub OpensBlank : LayoutState → ℕ → Option (List ℕ) → Result (SqlKeeper S g) (OpenError × Held S) → Type 0
+  OpensBlank layout i group (Ok k) = KeepsPart k nothing_kept
+  OpensBlank layout i group (Err x) = IsRefusedBlank g layout i group x.1 x.0
 
   -- where it was not known which of two contents a connection keeps, a keeper of one of them
   abbrev pub Settles : Stored → Stored → SqlKeeper S g → Type 0

@@ -24,9 +24,13 @@ pub enum OpenError {
     /// of a site holds.
     #[error("BadStore")]
     BadStore,
-    /// It is the store of another site.
+    /// It is the store of a site of another number, or of no number.
     #[error("WrongSite")]
     WrongSite,
+    /// It is the store of the site of this number, but of another group, or of none where one is named, or of one where
+    /// none is named.
+    #[error("WrongGroup")]
+    WrongGroup,
     /// It was made for a layout that is neither this one nor an earlier one that has the site.
     #[error("WrongLayout")]
     WrongLayout,

@@ -1,5 +1,5 @@
 //! A database is opened as the store of a site, or made one.
-ghost use Rattle.std.specs.Prelude.{◌≡◌, ◌≢◌, ◌⊎◌, ◌↔◌, string_bytes, decimal, false, IsTrue, IsOk, IfOk, IfErr};
+ghost use Rattle.std.specs.Prelude.{◌≡◌, ◌≢◌, ◌⊎◌, ◌↔◌, string_bytes, false, IsTrue, IsOk, IfOk, IfErr};
 ghost use Rattle.sqlite.specs.State.{HasCleanDisk};
 ghost use Rattle.sqlite.specs.Held.{state};
 ghost use Rattle.layout_line.specs.Line.{line_of};
@@ -7,6 +7,7 @@ ghost use Rattle.store_rows.specs.Holding.{Keeps, KeepsBeside, KeepsEither, Keep
 ghost use Rattle.store_tables.specs.Kept.{has_failed, connection_of, CommitsNothing, IsRefusal};
 ghost use Rattle.store_tables.specs.Transacts.{made};
 ghost use Rattle.site_store.specs.declared.error.OpenError.TheVariants.{StoreFault, Memory};
+ghost use Rattle.site_store.specs.SiteText.{IsApart, IsForeign, NamesSite, named, site_text};
 ghost use Rattle.site_store.specs.Sql.{Stores};
 ghost use Rattle.site_store.specs.Opened.{IsCurrent, IsDeviceCause, IsDue, IsJudged, IsOwn, IsReady, Readies, ReadiesBlank};
 
@@ -18,15 +19,46 @@ use std::alloc::{AllocError, Global};
 use store_content::Index;
 use store_rows::{Content, Version};
 use store_tables::Tables;
-use text_parts::push_field;
+use text_parts::{number_at, push_field};
 
-/// The site's number, as the table `meta` has it.
-fn site_text(alloc: Global, site: u16) -> Result<String, AllocError>
-    ensures { IfOk result (λ text. string_bytes text ≡ decimal site) }
+/// The site's number and the name of its group, if it has one, as the row `site` of the table `meta` has them.
+fn site_text(alloc: Global, site: u16, group: Option<&str>) -> Result<String, AllocError>
+    ensures { IfOk result (λ text. string_bytes text ≡ site_text site (named group.entry)) }
 {
     let mut text = String::new(alloc);
     push_field(&mut text, "", u64::from(site))?;
+    if let Some(name) = group {
+        text.push_str(" ")?;
+        text.push_str(name)?;
+    }
     Ok(text)
+}
+
+/// Whether what stands behind a number is nothing, or begins with a blank.
+fn is_apart(behind: &[u8]) -> bool
+    ensures { IsTrue result ↔ IsApart behind.now }
+{
+    matches!(behind, [] | [b' ', ..])
+}
+
+/// Whether a text is such a row of the site of this number, whatever its group.
+fn names_site(text: &[u8], site: u16) -> bool
+    ensures { IsTrue result ↔ NamesSite site text.now }
+{
+    let Ok((number, behind)) = number_at(text) else {
+        return false;
+    };
+    number == u64::from(site) && is_apart(behind)
+}
+
+/// Why a store is refused whose row for the site is not this site's own.
+fn foreign_site(text: &[u8], site: u16) -> OpenError
+    ensures { IsForeign site text.now result }
+{
+    if names_site(text, site) {
+        return OpenError::WrongGroup;
+    }
+    OpenError::WrongSite
 }
 
 /// Whether two texts are the same.
@@ -43,15 +75,16 @@ fn judge(
     content: &Content,
     layout: &Layout,
     site: u16,
+    group: Option<&str>,
 ) -> Result<(Index, Line), OpenError>
-    ensures { IsJudged layout.now site content.now result }
+    ensures { IsJudged layout.now site (named group.entry) content.now result }
 {
-    let own = site_text(alloc, site)?;
+    let own = site_text(alloc, site, group)?;
     let Some(index) = Index::of(alloc, content)? else {
         return Err(OpenError::BadStore);
     };
     if !is_same(content.site.as_slice(), own.as_bytes()) {
-        return Err(OpenError::WrongSite);
+        return Err(foreign_site(content.site.as_slice(), site));
     }
     match compare(alloc, content.layout.as_slice(), layout, site)? {
         Line::Other => Err(OpenError::WrongLayout),
@@ -77,21 +110,22 @@ fn open_found<S: Alter>(
     line: &str,
     layout: &Layout,
     site: u16,
+    group: Option<&str>,
 ) -> Result<Index, OpenError>
     requires { line.now ≡ line_of layout.now }
     ensures ready { (it : _) → Keeps S.Store (connection_of tables.old) it → (HasCleanDisk (state S.Store (connection_of tables.old)) → content.now ≡ it)
-        → Readies S.Store layout.now site it (connection_of tables.new) result }
+        → Readies S.Store layout.now site (named group.entry) it (connection_of tables.new) result }
     ensures beside { (it : _) → (others : _) → Keeps S.Store (connection_of tables.old) it → (HasCleanDisk (state S.Store (connection_of tables.old)) → content.now ≡ it)
         → KeepsBeside S.Store (connection_of tables.old) others → KeepsBeside S.Store (connection_of tables.new) others }
     ensures honest { HasCleanDisk (state S.Store (connection_of tables.new)) → HasCleanDisk (state S.Store (connection_of tables.old)) }
     ensures sound { has_failed tables.old ≡ false → IsOk result → has_failed tables.new ≡ false }
-    ensures own { IsOwn layout.now site content.now → IfErr result IsDeviceCause }
-    ensures due { IfErr result (λ e. e ≡ StoreFault → IsDue layout.now site content.now) }
+    ensures own { IsOwn layout.now site (named group.entry) content.now → IfErr result IsDeviceCause }
+    ensures due { IfErr result (λ e. e ≡ StoreFault → IsDue layout.now site (named group.entry) content.now) }
     ensures judged { IfErr result (λ e. e ≢ StoreFault → e ≢ Memory → tables.new ≡ tables.old) }
     ensures current { IsCurrent layout.now content.now → tables.new ≡ tables.old }
 {
     let _ = layout.sites(); // tells that the layout is one
-    let (index, found) = judge(alloc, content, layout, site)?;
+    let (index, found) = judge(alloc, content, layout, site, group)?;
     if !is_due(found, content.version) {
         return Ok(index);
     }
@@ -105,15 +139,16 @@ fn make_new<S: Alter>(
     tables: &mut Tables<S>,
     layout: &Layout,
     site: u16,
+    group: Option<&str>,
     line: &str,
 ) -> Result<Index, OpenError>
     requires { line.now ≡ line_of layout.now }
-    ensures made { KeepsNothing S.Store (connection_of tables.old) → ReadiesBlank S.Store layout.now site (connection_of tables.new) result }
+    ensures made { KeepsNothing S.Store (connection_of tables.old) → ReadiesBlank S.Store layout.now site (named group.entry) (connection_of tables.new) result }
     ensures honest { HasCleanDisk (state S.Store (connection_of tables.new)) → HasCleanDisk (state S.Store (connection_of tables.old)) }
     ensures sound { IsOk result → has_failed tables.new ≡ false }
     ensures device { IfErr result IsDeviceCause }
 {
-    let own = site_text(alloc, site)?;
+    let own = site_text(alloc, site, group)?;
     tables.make(own.as_str(), line)?;
     Ok(Index::new(alloc))
 }
@@ -124,21 +159,24 @@ pub(crate) fn prepare<S: Alter>(
     tables: &mut Tables<S>,
     layout: &Layout,
     site: u16,
+    group: Option<&str>,
 ) -> Result<Index, OpenError>
-    ensures ready { (it : _) → Keeps S.Store (connection_of tables.old) it → Readies S.Store layout.now site it (connection_of tables.new) result }
-    ensures made { KeepsNothing S.Store (connection_of tables.old) → ReadiesBlank S.Store layout.now site (connection_of tables.new) result }
+    ensures ready { (it : _) → Keeps S.Store (connection_of tables.old) it → Readies S.Store layout.now site (named group.entry) it (connection_of tables.new) result }
+    ensures made { KeepsNothing S.Store (connection_of tables.old) → ReadiesBlank S.Store layout.now site (named group.entry) (connection_of tables.new) result }
     ensures settles { (a b : _) → KeepsEither S.Store (connection_of tables.old) a b
-        → IfOk result (λ index. ∥ IsReady S.Store layout.now site a (connection_of tables.new) index ⊎ IsReady S.Store layout.now site b (connection_of tables.new) index ∥₁) }
-    ensures settles_or { KeepsNothingOr S.Store (connection_of tables.old) (made (decimal site) (line_of layout.now))
-        → IfOk result (λ index. HasCleanDisk (state S.Store (connection_of tables.new)) → Stores S.Store layout.now site (connection_of tables.new) index (made (decimal site) (line_of layout.now))) }
-    ensures own { (a b : _) → IsOwn layout.now site a → IsOwn layout.now site b → KeepsEither S.Store (connection_of tables.old) a b
+        → IfOk result (λ index. ∥ IsReady S.Store layout.now site (named group.entry) a (connection_of tables.new) index
+        ⊎ IsReady S.Store layout.now site (named group.entry) b (connection_of tables.new) index ∥₁) }
+    ensures settles_or { KeepsNothingOr S.Store (connection_of tables.old) (made (site_text site (named group.entry)) (line_of layout.now))
+        → IfOk result (λ index. HasCleanDisk (state S.Store (connection_of tables.new))
+        → Stores S.Store layout.now (site_text site (named group.entry)) (connection_of tables.new) index (made (site_text site (named group.entry)) (line_of layout.now))) }
+    ensures own { (a b : _) → IsOwn layout.now site (named group.entry) a → IsOwn layout.now site (named group.entry) b → KeepsEither S.Store (connection_of tables.old) a b
         → IfErr result (λ e. HasCleanDisk (state S.Store (connection_of tables.new)) → IsDeviceCause e) }
-    ensures own_or { KeepsNothingOr S.Store (connection_of tables.old) (made (decimal site) (line_of layout.now))
+    ensures own_or { KeepsNothingOr S.Store (connection_of tables.old) (made (site_text site (named group.entry)) (line_of layout.now))
         → IfErr result (λ e. HasCleanDisk (state S.Store (connection_of tables.new)) → IsDeviceCause e) }
     ensures beside { (a b : _) → (others : _) → KeepsEither S.Store (connection_of tables.old) a b → KeepsBeside S.Store (connection_of tables.old) others
         → KeepsBeside S.Store (connection_of tables.new) others }
     ensures fault { has_failed tables.old ≡ false → (it : _) → Keeps S.Store (connection_of tables.old) it
-        → IfErr result (λ e. e ≡ StoreFault → HasCleanDisk (state S.Store (connection_of tables.new)) → IsRefusal tables.old tables.new ⊎ IsDue layout.now site it) }
+        → IfErr result (λ e. e ≡ StoreFault → HasCleanDisk (state S.Store (connection_of tables.new)) → IsRefusal tables.old tables.new ⊎ IsDue layout.now site (named group.entry) it) }
     ensures judged { IfErr result (λ e. e ≢ StoreFault → e ≢ Memory → CommitsNothing tables.old tables.new) }
     ensures current { (it : _) → IsCurrent layout.now it → Keeps S.Store (connection_of tables.old) it → HasCleanDisk (state S.Store (connection_of tables.new))
         → CommitsNothing tables.old tables.new }
@@ -147,8 +185,16 @@ pub(crate) fn prepare<S: Alter>(
 {
     let line = layout_line(alloc, layout)?;
     match tables.look(alloc) {
-        Ok(Some(content)) => open_found(alloc, tables, &content, line.as_str(), layout, site),
-        Ok(None) => make_new(alloc, tables, layout, site, line.as_str()),
+        Ok(Some(content)) => open_found(
+            alloc,
+            tables,
+            &content,
+            line.as_str(),
+            layout,
+            site,
+            group,
+        ),
+        Ok(None) => make_new(alloc, tables, layout, site, group, line.as_str()),
         Err(error) => Err(OpenError::from(error)),
     }
 }

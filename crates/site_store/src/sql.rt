@@ -1,5 +1,5 @@
 //! A keeper over an SQLite database.
-ghost use Rattle.std.specs.Prelude.{◌≡◌, ◌≢◌, ◌↔◌, ℕ, ◌<◌, ◌^◌, All, Err, false, IsTrue, OnOk};
+ghost use Rattle.std.specs.Prelude.{◌≡◌, ◌≢◌, ◌↔◌, ℕ, ◌<◌, ◌^◌, List, All, Err, false, string_bytes, option_map, IsTrue, IfOk, OnOk};
 ghost use Rattle.sqlite.specs.Effect.{Database};
 ghost use Rattle.sqlite.specs.State.{HasCleanDisk};
 ghost use Rattle.sqlite.specs.Held.{state};
@@ -12,6 +12,7 @@ ghost use Rattle.store_rows.specs.Holding.{Keeps, KeepsBeside, KeepsEither};
 ghost use Rattle.store_tables.specs.Transacts.{Takes};
 ghost use Rattle.store_tables.specs.declared.error.TableError.TheVariants.{BadStore, Memory as NoMemory, StoreFault as NoStore};
 ghost use Rattle.store_content.specs.Plan.{IsTellable, LacksPlace, after};
+ghost use Rattle.site_store.specs.SiteText.{named};
 ghost use Rattle.site_store.specs.Sql.{Stores, Changes, ChangesEither};
 ghost use Rattle.durable_keeper.specs.declared.error.KeeperError.TheVariants.{Memory, StoreFault};
 
@@ -21,7 +22,7 @@ use admission_core::{Change, Durable};
 use durable_keeper::{Keeper, KeeperError};
 use merge_core::Layout;
 use sqlite::{Alter, Connection};
-use std::alloc::Global;
+use std::alloc::{AllocError, Global};
 use store_content::{Index, Rows, durable_of};
 use store_rows::{SessionEdit, StoredCell, StoredNotice};
 use store_tables::{TableError, Tables};
@@ -96,15 +97,15 @@ fn commit_rows<S: Alter>(
 ) -> Result<(), KeeperError>
     requires tellable { IsTellable change.now }
     requires sound { has_failed tables.old ≡ false }
-    ensures ok { (layout : LayoutState) (i : ℕ) (it : Stored) → Stores S.Store layout i (connection_of tables.old) index.old it
-        → OnOk result (Changes S.Store layout i change.now it (connection_of tables.new) index.new) }
-    ensures memory { (layout : LayoutState) (i : ℕ) (it : Stored) → Stores S.Store layout i (connection_of tables.old) index.old it
-        → result ≡ Err Memory → Stores S.Store layout i (connection_of tables.new) index.new it }
-    ensures fault { (layout : LayoutState) (i : ℕ) (it : Stored) → Stores S.Store layout i (connection_of tables.old) index.old it
-        → result ≡ Err StoreFault → ChangesEither S.Store layout i change.now it (connection_of tables.new) }
-    ensures full { (layout : LayoutState) (i : ℕ) (it : Stored) → Stores S.Store layout i (connection_of tables.old) index.old it
+    ensures ok { (layout : LayoutState) (site : List ℕ) (it : Stored) → Stores S.Store layout site (connection_of tables.old) index.old it
+        → OnOk result (Changes S.Store layout site change.now it (connection_of tables.new) index.new) }
+    ensures memory { (layout : LayoutState) (site : List ℕ) (it : Stored) → Stores S.Store layout site (connection_of tables.old) index.old it
+        → result ≡ Err Memory → Stores S.Store layout site (connection_of tables.new) index.new it }
+    ensures fault { (layout : LayoutState) (site : List ℕ) (it : Stored) → Stores S.Store layout site (connection_of tables.old) index.old it
+        → result ≡ Err StoreFault → ChangesEither S.Store layout site change.now it (connection_of tables.new) }
+    ensures full { (layout : LayoutState) (site : List ℕ) (it : Stored) → Stores S.Store layout site (connection_of tables.old) index.old it
         → LacksPlace change.now.session it → result ≡ Err StoreFault }
-    ensures beside { (layout : LayoutState) (i : ℕ) (it : Stored) (others : Database) → Stores S.Store layout i (connection_of tables.old) index.old it
+    ensures beside { (layout : LayoutState) (site : List ℕ) (it : Stored) (others : Database) → Stores S.Store layout site (connection_of tables.old) index.old it
         → KeepsBeside S.Store (connection_of tables.old) others → KeepsBeside S.Store (connection_of tables.new) others }
     ensures honest { HasCleanDisk (state S.Store (connection_of tables.new)) → HasCleanDisk (state S.Store (connection_of tables.old)) }
     ensures told { result ≡ Err StoreFault → IsTrue (has_failed tables.new) }
@@ -128,6 +129,16 @@ fn commit_rows<S: Alter>(
     }
 }
 
+/// The name of a group in memory of its own.
+fn copied_group(alloc: Global, group: Option<&str>) -> Result<Option<String>, AllocError>
+    ensures { IfOk result (λ copy. option_map string_bytes copy ≡ named group.entry) }
+{
+    match group {
+        Some(name) => Ok(Some(String::from_str(alloc, name)?)),
+        None => Ok(None),
+    }
+}
+
 /// It keeps a site's durable part in an SQLite database, each change in a transaction of its own.
 ///
 /// Beside the connection it has the places of the sessions and the notices in memory, so that a change asks the
@@ -138,6 +149,7 @@ pub struct SqlKeeper<S: Alter> {
     index: Index,
     layout: Layout,
     site: u16,
+    group: Option<String>,
 }
 
 impl<S: Alter + Drop> Drop for SqlKeeper<S> {
@@ -148,12 +160,13 @@ impl<S: Alter + Drop> Drop for SqlKeeper<S> {
             index: _,
             layout: _,
             site: _,
+            group: _,
         } = self;
     }
 }
 
 impl<S: Alter> SqlKeeper<S> {
-    ghost use Rattle.std.specs.Prelude.{◌≡◌, ◌≢◌, [], None, Err, decimal, false, IfOk, IfErr, OnOk};
+    ghost use Rattle.std.specs.Prelude.{◌≡◌, ◌≢◌, [], None, Err, false, IfOk, IfErr, OnOk};
     ghost use Rattle.admission_core.specs.Kept.{DurableState};
     ghost use Rattle.durable_keeper.specs.Keeping.{IsChange, changed, nothing_kept};
     ghost use Rattle.layout_line.specs.Line.{line_of};
@@ -163,30 +176,34 @@ impl<S: Alter> SqlKeeper<S> {
     ghost use Rattle.store_tables.specs.Transacts.{made};
     ghost use Rattle.store_content.specs.Plan.{LacksPlace, after_change};
     ghost use Rattle.durable_keeper.specs.declared.error.KeeperError.TheVariants.{Memory, StoreFault};
-    ghost use Rattle.site_store.specs.Sql.{KeepsContent, KeepsContentOr, KeepsEitherPart, KeepsPart, below, faults_of, is_honest, layout_of, site_of};
+    ghost use Rattle.site_store.specs.Sql.{KeepsContent, KeepsContentOr, KeepsEitherPart, KeepsPart, below, faults_of, group_of, is_honest, layout_of, site_of};
+    ghost use Rattle.site_store.specs.SiteText.{named, site_text};
     ghost use Rattle.site_store.specs.Opened.{CommitsNothing, IsByDevice, IsCurrent, IsFault, IsJudgedFirst, IsKeeperOf, IsOwn, Opens, OpensBlank, Settles, left_by};
 
-    /// Opens a database as the store of a site of a layout, with no transaction open, as the caller shows.
+    /// Opens a database as the store of a site of a layout, with no transaction open, as the caller shows. Where a group
+    /// of sites is named, by any text, the store is that of the site in this group; without a name it is in no group.
     ///
-    /// Where the database has none of the tables, they are made in one transaction. A store of the first version gets
-    /// the second, and one whose layout is an earlier one of this layout's growth gets this layout's line, in one
-    /// transaction where both are due. Everything is judged before. A refusal hands the connection back. Tables of other
-    /// names, which were made behind those of a store, keep their rows. Linear in what is stored.
+    /// Where the database has none of the tables, they are made in one transaction, for this site and group. A store of
+    /// the first version gets the second, and one whose layout is an earlier one of this layout's growth gets this
+    /// layout's line, in one transaction where both are due. Everything is judged before. A refusal hands the connection
+    /// back. Tables of other names, which were made behind those of a store, keep their rows. Linear in what is stored.
     pub fn open(
         alloc: Global,
         connection: Connection<S>,
         layout: &Layout,
         site: u16,
+        group: Option<&str>,
     ) -> Result<SqlKeeper<S>, (OpenError, Connection<S>)>
         requires { connection.in_transaction ≡ false }
-        ensures keeper { IfOk result (IsKeeperOf layout.now site) }
-        ensures store { (it : Stored) → Keeps S.Store connection it → Opens layout.now site it result }
-        ensures blank { KeepsNothing S.Store connection → OpensBlank layout.now site result }
+        ensures keeper { IfOk result (IsKeeperOf layout.now site (named group.entry)) }
+        ensures store { (it : Stored) → Keeps S.Store connection it → Opens layout.now site (named group.entry) it result }
+        ensures blank { KeepsNothing S.Store connection → OpensBlank layout.now site (named group.entry) result }
         ensures settles { (a b : Stored) → KeepsEither S.Store connection a b → IfOk result (Settles a b) }
-        ensures own { (a b : Stored) → IsOwn layout.now site a → IsOwn layout.now site b → KeepsEither S.Store connection a b → IfErr result (IsByDevice S.Store) }
-        ensures settles_or { KeepsNothingOr S.Store connection (made (decimal site) (line_of layout.now)) → IfOk result (λ k. KeepsPart k nothing_kept) }
-        ensures own_or { KeepsNothingOr S.Store connection (made (decimal site) (line_of layout.now)) → IfErr result (IsByDevice S.Store) }
-        ensures fault { (it : Stored) → Keeps S.Store connection it → IfErr result (IsFault S.Store layout.now site it connection) }
+        ensures own { (a b : Stored) → IsOwn layout.now site (named group.entry) a → IsOwn layout.now site (named group.entry) b → KeepsEither S.Store connection a b
+            → IfErr result (IsByDevice S.Store) }
+        ensures settles_or { KeepsNothingOr S.Store connection (made (site_text site (named group.entry)) (line_of layout.now)) → IfOk result (λ k. KeepsPart k nothing_kept) }
+        ensures own_or { KeepsNothingOr S.Store connection (made (site_text site (named group.entry)) (line_of layout.now)) → IfErr result (IsByDevice S.Store) }
+        ensures fault { (it : Stored) → Keeps S.Store connection it → IfErr result (IsFault S.Store layout.now site (named group.entry) it connection) }
         ensures judged { IfErr result (IsJudgedFirst S.Store connection) }
         ensures current { (it : Stored) → IsCurrent layout.now it → Keeps S.Store connection it → HasCleanDisk (state S.Store (left_by result))
             → CommitsNothing S.Store connection (left_by result) }
@@ -197,14 +214,18 @@ impl<S: Alter> SqlKeeper<S> {
         let Ok(copy) = layout.try_copy(alloc) else {
             return Err((OpenError::Memory, connection));
         };
+        let Ok(name) = copied_group(alloc, group) else {
+            return Err((OpenError::Memory, connection));
+        };
         let mut tables = Tables::over(connection);
-        match prepare(alloc, &mut tables, layout, site) {
+        match prepare(alloc, &mut tables, layout, site, group) {
             Ok(index) => Ok(SqlKeeper {
                 alloc,
                 tables,
                 index,
                 layout: copy,
                 site,
+                group: name,
             }),
             Err(error) => Err((error, tables.into_connection())),
         }
@@ -229,6 +250,7 @@ impl<S: Alter> SqlKeeper<S> {
         ensures nothing { change.now.cells ≡ [] → change.now.session ≡ None → self.new ≡ self.old }
         ensures layout { layout_of self.new ≡ layout_of self.old }
         ensures site { site_of self.new ≡ site_of self.old }
+        ensures group { group_of self.new ≡ group_of self.old }
     {
         if self.tables.faults() > 0 {
             return Err(KeeperError::StoreFault);
@@ -250,15 +272,17 @@ impl<S: Alter> SqlKeeper<S> {
             index: _,
             layout: _,
             site: _,
+            group: _,
         } = self;
         tables.into_connection()
     }
 
-    /// The tables, the layout and the site.
-    pub(crate) fn into_parts(self) -> (Tables<S>, Layout, u16)
+    /// The tables, the layout, the site and the name of its group.
+    pub(crate) fn into_parts(self) -> (Tables<S>, Layout, u16, Option<String>)
         ensures tables { result.0 ≡ self.tables }
         ensures layout { result.1 ≡ self.layout }
         ensures site { result.2 ≡ self.site }
+        ensures group { result.3 ≡ self.group }
     {
         let SqlKeeper {
             alloc: _,
@@ -266,8 +290,9 @@ impl<S: Alter> SqlKeeper<S> {
             index: _,
             layout,
             site,
+            group,
         } = self;
-        (tables, layout, site)
+        (tables, layout, site, group)
     }
 }
 

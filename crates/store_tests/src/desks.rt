@@ -58,7 +58,7 @@ pub fn over<S: Alter + Drop, W: DeskWork>(
     if !connection.is_autocommit() {
         return Some((None, connection));
     }
-    match SqlKeeper::open(alloc, connection, &layout, 0) {
+    match SqlKeeper::open(alloc, connection, &layout, 0, None) {
         Ok(keeper) => {
             let (found, keeper) = over_keeper(alloc, keeper, layout, work)?;
             Some((found, keeper.into_connection()))

@@ -57,6 +57,7 @@ fn is_judged(alloc: Global, row: (&'static str, u16, u16, Opened)) -> bool {
         sites: row.1,
         seats: 2,
         site: row.2,
+        group: None,
     };
     are_told(
         alloc,

@@ -83,6 +83,7 @@ fn finds_reader<S: Alter + Drop>(alloc: Global, empty: Connection<S>, sites: u16
         sites,
         seats: 2,
         site: 0,
+        group: None,
     };
     match serves_over(alloc, empty, ENTERS) {
         Some(connection) => opens_now_or_then(alloc, connection, at),

@@ -3,4 +3,5 @@ mod helps;
 mod programs;
 mod run_programs;
 mod runtime;
+mod service_programs;
 mod site_programs;

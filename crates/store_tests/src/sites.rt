@@ -151,7 +151,7 @@ pub fn run_site<S: Alter + Drop, R: Wait>(
     if !connection.is_autocommit() {
         return Some((At::Unopened, None, connection));
     }
-    match SqlKeeper::open(alloc, connection, &layout, 0) {
+    match SqlKeeper::open(alloc, connection, &layout, 0, None) {
         Ok(keeper) => {
             let (at, transcript, keeper) = run_keeper(rt, alloc, keeper, layout, calls)?;
             Some((at, transcript, keeper.into_connection()))

@@ -93,7 +93,7 @@ fn entries_in_store<R: Wait>(rt: &R, alloc: Global) -> Option<usize> {
     if !connection.is_autocommit() {
         return None;
     }
-    let Ok(keeper) = SqlKeeper::<MemStore>::open(alloc, connection, &layout, 0) else {
+    let Ok(keeper) = SqlKeeper::<MemStore>::open(alloc, connection, &layout, 0, None) else {
         return None;
     };
     let (transcript, _keeper) = called_over(rt, alloc, keeper, layout, 0)?;

@@ -6,19 +6,21 @@ use site_store::{Keeper, KeeperError, OpenError, SqlKeeper};
 use sqlite::{Alter, Connection};
 use std::alloc::Global;
 
-/// For which site a store is opened, and under which layout: so many sites, and so many seats of record `a`.
+/// For which site and group a store is opened, and under which layout: so many sites, and so many seats of record `a`.
 #[derive(Clone, Copy)]
 pub struct At {
     pub sites: u16,
     pub seats: u32,
     pub site: u16,
+    pub group: Option<&'static str>,
 }
 
-/// Site 0 of two, with two seats.
+/// Site 0 of two, with two seats, in no group.
 pub const HERE: At = At {
     sites: 2,
     seats: 2,
     site: 0,
+    group: None,
 };
 
 /// What an opening comes to.
@@ -67,7 +69,7 @@ pub fn opened_at<S: Alter + Drop>(
     if !connection.is_autocommit() {
         return (Opened::Untried, connection);
     }
-    match SqlKeeper::open(alloc, connection, &layout, at.site) {
+    match SqlKeeper::open(alloc, connection, &layout, at.site, at.group) {
         Ok(mut keeper) => {
             let held = held_by(alloc, &mut keeper);
             (held, keeper.into_connection())

@@ -12,21 +12,69 @@ const OTHER_SITE: At = At {
     sites: 2,
     seats: 2,
     site: 1,
+    group: None,
 };
 
 const OTHER_SEATS: At = At {
     sites: 2,
     seats: 3,
     site: 0,
+    group: None,
 };
 
 const MORE_SITES: At = At {
     sites: 3,
     seats: 2,
     site: 0,
+    group: None,
+};
+
+/// The same site in groups of sites, one of which has a name that begins as the other's, and one of which has a name of 32 bytes.
+const PAYROLL: At = At {
+    sites: 2,
+    seats: 2,
+    site: 0,
+    group: Some("payroll"),
+};
+
+const PAYROLL_2: At = At {
+    sites: 2,
+    seats: 2,
+    site: 0,
+    group: Some("payroll-2"),
+};
+
+const LONG: At = At {
+    sites: 2,
+    seats: 2,
+    site: 0,
+    group: Some("long-name-of-a-group-of-32-bytes"),
+};
+
+const PAYROLL_SITE_1: At = At {
+    sites: 2,
+    seats: 2,
+    site: 1,
+    group: Some("payroll"),
+};
+
+const PAYROLL_SEATS: At = At {
+    sites: 2,
+    seats: 3,
+    site: 0,
+    group: Some("payroll"),
+};
+
+const PAYROLL_SITES: At = At {
+    sites: 3,
+    seats: 2,
+    site: 0,
+    group: Some("payroll"),
 };
 
 const WRONG_SITE: Opened = Opened::Refused(OpenError::WrongSite);
+
+const WRONG_GROUP: Opened = Opened::Refused(OpenError::WrongGroup);
 
 const WRONG_LAYOUT: Opened = Opened::Refused(OpenError::WrongLayout);
 
@@ -40,6 +88,39 @@ static IN_TURN: [Step; 6] = [
     Step::Open(OTHER_SEATS, WRONG_LAYOUT),
     Step::Open(MORE_SITES, EMPTY),
     Step::Open(HERE, WRONG_LAYOUT),
+];
+
+/// A new store of a group: again; in no group, in another one, and under a name that the group's begins with; at site 1; with
+/// other seats, also in another group; at three sites; and then at two again.
+static IN_A_GROUP: [Step; 10] = [
+    Step::Open(PAYROLL, EMPTY),
+    Step::Open(PAYROLL, EMPTY),
+    Step::Open(HERE, WRONG_GROUP),
+    Step::Open(LONG, WRONG_GROUP),
+    Step::Open(PAYROLL_2, WRONG_GROUP),
+    Step::Open(PAYROLL_SITE_1, WRONG_SITE),
+    Step::Open(PAYROLL_SEATS, WRONG_LAYOUT),
+    Step::Open(OTHER_SEATS, WRONG_GROUP),
+    Step::Open(PAYROLL_SITES, EMPTY),
+    Step::Open(PAYROLL, WRONG_LAYOUT),
+];
+
+/// A new store of no group, and one of a group with a longer name, opened in a group; and what the row of the site has then.
+static IN_ANOTHER: [Step; 4] = [
+    Step::Open(HERE, EMPTY),
+    Step::Open(PAYROLL, WRONG_GROUP),
+    Step::Run("UPDATE meta SET value = '0 payroll-2' WHERE name = 'site'"),
+    Step::Open(PAYROLL, WRONG_GROUP),
+];
+
+static NAMED: [Step; 5] = [
+    Step::Open(LONG, EMPTY),
+    Step::Run(
+        "UPDATE meta SET value = '0 payroll' WHERE name = 'site' AND value = '0 long-name-of-a-group-of-32-bytes'",
+    ),
+    Step::Open(PAYROLL, EMPTY),
+    Step::Run("UPDATE meta SET value = '0payroll' WHERE name = 'site'"),
+    Step::Open(PAYROLL, WRONG_SITE),
 ];
 
 static BESIDE: [Step; 2] = [
@@ -116,6 +197,18 @@ fn a_store_is_judged_before_it_is_opened(rt: HostRuntime) {
 }
 
 #[test]
+fn a_store_of_a_group_is_its_own(rt: HostRuntime) {
+    let alloc = rt.alloc();
+    assert!(rt;
+        [
+            are_told(alloc, &IN_A_GROUP),
+            are_told(alloc, &IN_ANOTHER),
+            are_told(alloc, &NAMED)
+        ] == [true, true, true]
+    );
+}
+
+#[test]
 fn a_new_store_is_its_own(rt: HostRuntime) {
     let alloc = rt.alloc();
     assert!(rt;
@@ -147,7 +240,7 @@ fn keeper_over<S: Alter + Drop>(alloc: Global, connection: Connection<S>) -> Opt
     if !connection.is_autocommit() {
         return None;
     }
-    SqlKeeper::open(alloc, connection, &layout, 0).ok()
+    SqlKeeper::open(alloc, connection, &layout, 0, None).ok()
 }
 
 /// A keeper of a store with one counter and one session.

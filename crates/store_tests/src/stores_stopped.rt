@@ -164,7 +164,7 @@ fn opened_over<S: Alter + Drop>(
     if !connection.is_autocommit() {
         return (Came::Other, connection);
     }
-    match SqlKeeper::open(alloc, connection, &layout, 0) {
+    match SqlKeeper::open(alloc, connection, &layout, 0, None) {
         Ok(mut keeper) => {
             let came = read_by(alloc, &mut keeper, story.part);
             (came, keeper.into_connection())

@@ -11,7 +11,7 @@ use std::alloc::Global;
 use std::io::{Read, Write};
 use text_input::{Sink, Source};
 
-/// Serves a site over a database in which no transaction is open, and hands the database back.
+/// Serves a site that is in no group over a database in which no transaction is open, and hands the database back.
 pub fn serve_over<S: Alter + Drop, I: Read, O: Write>(
     alloc: Global,
     connection: Connection<S>,
@@ -23,7 +23,7 @@ pub fn serve_over<S: Alter + Drop, I: Read, O: Write>(
     requires { connection.in_transaction ≡ false }
     ensures { EndsOver S.Store ⟦<SqlKeeper<S> as Keeper>⟧ layout site connection result.1 source.old source.new sink.old sink.new result.0 }
 {
-    let keeper = match SqlKeeper::open(alloc, connection, &layout, site) {
+    let keeper = match SqlKeeper::open(alloc, connection, &layout, site, None) {
         Ok(keeper) => keeper,
         Err((error, connection)) => return (refusal_status(error), connection),
     };
@@ -38,6 +38,8 @@ fn refusal_status(error: OpenError) -> Status
     match error {
         OpenError::BadStore => Status::NoStore(StoreRefusal::BadStore),
         OpenError::WrongSite => Status::NoStore(StoreRefusal::WrongSite),
+        // These names are fixed and none of them is for a group: a store of another group counts as another site's.
+        OpenError::WrongGroup => Status::NoStore(StoreRefusal::WrongSite),
         OpenError::WrongLayout => Status::NoStore(StoreRefusal::WrongLayout),
         OpenError::StoreFault => Status::NoStore(StoreRefusal::StoreFault),
         OpenError::Memory => Status::Memory,

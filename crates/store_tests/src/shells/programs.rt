@@ -225,7 +225,7 @@ static WRONG: [Wrong; 18] = [
     ),
     (
         &[b"seat_cli", b"walk"],
-        "error: unrecognized subcommand 'walk'\n\nUsage: seat_cli [COMMAND]\n\nFor more information, try '--help'.\n",
+        "error: unrecognized subcommand 'walk'\n\n  tip: a similar subcommand exists: 'ask'\n\nUsage: seat_cli [COMMAND]\n\nFor more information, try '--help'.\n",
     ),
     (
         &[b"seat_cli", b"help"],
@@ -233,7 +233,8 @@ static WRONG: [Wrong; 18] = [
     ),
     (
         &[b"seat_cli", b"--"],
-        "error: 'seat_cli' requires a subcommand but one was not provided\n  [subcommands: join, play, site, judge, run]\n\nUsage: seat_cli [COMMAND]\n\nFor more information, try '--help'.\n",
+        "error: 'seat_cli' requires a subcommand but one was not provided\n  [subcommands: join, play, site, serve, ask, judge, run]\n\n\
+         Usage: seat_cli [COMMAND]\n\nFor more information, try '--help'.\n",
     ),
     (
         &[b"seat_cli", b"play", b"--from", b"x"],

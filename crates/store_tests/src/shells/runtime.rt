@@ -1,5 +1,8 @@
 //! A runtime whose arguments, files and standard streams the test chooses.
 use exit_status::{Status, StoreRefusal};
+use line_conversation::Conversation;
+use live_databases::{Absence, LiveDatabases, Opening, ServiceEnd, serve_live_over};
+use live_site::NoLog;
 use merge_core::Layout;
 use site_databases::Databases;
 use sqlite::Connection;
@@ -300,6 +303,42 @@ impl Databases for Fake {
             return Status::Memory;
         };
         let (ended, _connection) = serve_over(self.alloc, connection, layout, site, source, sink);
+        ended
+    }
+}
+
+impl LiveDatabases for Fake {
+    // One database is new, one is there, and one is in use.
+    fn serve_conversation<C: Conversation>(
+        &self,
+        opening: Opening<'_>,
+        layout: Layout,
+        conversation: &mut C,
+    ) -> ServiceEnd {
+        if kept(&self.opened, opening.path).is_err() || kept(&self.opened, "\n").is_err() {
+            return ServiceEnd::Ended(Status::Memory);
+        }
+        if opening.path == "used.db" {
+            return ServiceEnd::Absent(Absence::InUse);
+        }
+        if !opening.create && opening.path != "old.db" {
+            return ServiceEnd::Absent(Absence::NoStore);
+        }
+        if opening.create && opening.path != "new.db" {
+            return ServiceEnd::Absent(Absence::Exists);
+        }
+        let Ok(connection) = Connection::open_in_memory(self.alloc) else {
+            return ServiceEnd::Ended(Status::Memory);
+        };
+        let (ended, _connection) = serve_live_over(
+            self.alloc,
+            connection,
+            layout,
+            opening.site,
+            opening.group,
+            conversation,
+            &mut NoLog {},
+        );
         ended
     }
 }

@@ -16,7 +16,11 @@ returns c =
     ∙ ap₂ with_subcommand with_join (ap (λ (a : App). a.top) c.in_ok-play.ensures.0) in
     let with_site = c.in_ok-subcommand-3.ensures.shape c.in_ok-site.ensures.1
     ∙ ap₂ with_subcommand with_play (ap (λ (a : App). a.top) c.in_ok-site.ensures.0) in
-    let with_judge = c.in_ok-subcommand-4.ensures.shape c.in_ok-judge.ensures.1
-    ∙ ap₂ with_subcommand with_site (ap (λ (a : App). a.top) c.in_ok-judge.ensures.0) in
-    IfOk-weaker c.subcommand-5.result _ _ (λ built added. added.shape c.in_ok-run.ensures.1
-    ∙ ap₂ with_subcommand with_judge (ap (λ (a : App). a.top) c.in_ok-run.ensures.0)) c.subcommand-5.ensures
+    let with_serve = c.in_ok-subcommand-4.ensures.shape c.in_ok-serve.ensures.1
+    ∙ ap₂ with_subcommand with_site (ap (λ (a : App). a.top) c.in_ok-serve.ensures.0) in
+    let with_ask = c.in_ok-subcommand-5.ensures.shape c.in_ok-ask.ensures.1
+    ∙ ap₂ with_subcommand with_serve (ap (λ (a : App). a.top) c.in_ok-ask.ensures.0) in
+    let with_judge = c.in_ok-subcommand-6.ensures.shape c.in_ok-judge.ensures.1
+    ∙ ap₂ with_subcommand with_ask (ap (λ (a : App). a.top) c.in_ok-judge.ensures.0) in
+    IfOk-weaker c.subcommand-7.result _ _ (λ built added. added.shape c.in_ok-run.ensures.1
+    ∙ ap₂ with_subcommand with_judge (ap (λ (a : App). a.top) c.in_ok-run.ensures.0)) c.subcommand-7.ensures

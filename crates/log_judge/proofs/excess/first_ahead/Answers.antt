@@ -1,6 +1,6 @@
 use Rattle.std.proofs.Common.{[], subst}
 use Rattle.multi_site_world.specs.Laws.{StandsIn}
-use Rattle.log_judge.proofs.ListLemmas.{parts, none_left}
+use Rattle.log_replay.proofs.ListLemmas.{parts, none_left}
 use Rattle.log_judge.proofs.ExcessLemmas.{first_found, rows_passed}
 use Rattle.log_judge.proofs.excess.first_ahead.Goals as goal
 

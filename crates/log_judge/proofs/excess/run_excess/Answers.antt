@@ -2,7 +2,7 @@ use Rattle.std.proofs.Common.{List, [], ap, sym, subst, ◌∙◌, map, get_or, 
 use Rattle.merge_core.specs.declared.delta.Row.{Row}
 use Rattle.log_judge.specs.Cut.{rows_brought}
 use Rattle.log_judge.specs.Excess.{NoneAhead, IsFirstAhead}
-use Rattle.log_judge.proofs.ListLemmas.{parts, none_left}
+use Rattle.log_replay.proofs.ListLemmas.{parts, none_left}
 use Rattle.log_judge.proofs.ExcessLemmas.{here_now, here_next, none_more, none_behind}
 use Rattle.log_judge.proofs.excess.run_excess.Goals as goal
 

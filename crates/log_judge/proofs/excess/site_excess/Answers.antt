@@ -3,7 +3,7 @@ use Rattle.std.proofs.lemmas.List.{length-map}
 use Rattle.desk_log.specs.declared.transcript.Run.{Run}
 use Rattle.log_judge.specs.Cut.{rows_brought}
 use Rattle.log_judge.specs.Excess.{brought_by}
-use Rattle.log_judge.proofs.ListLemmas.{parts, none_left}
+use Rattle.log_replay.proofs.ListLemmas.{parts, none_left}
 use Rattle.log_judge.proofs.ExcessLemmas.{none_behind, none_along, found_along, found_within, behind_next, opened}
 use Rattle.log_judge.proofs.excess.site_excess.Goals as goal
 

@@ -1,5 +1,4 @@
-use Rattle.std.proofs.Common.{rules, inl, Err}
-use Rattle.exit_status.specs.Endings.{without_layout}
+use Rattle.std.proofs.Common.{rules, inl, sym, Ok, Err}
 use Rattle.program_shell.proofs.shell.run_with.Goals as goal
 
 pub returns-in-Err-layout_at : goal.returns-in-Err-layout_at
@@ -8,9 +7,20 @@ returns-in-Err-layout_at g c =
       asked = search rules;
       lengths = c.in-Ok-cut_of.cut;
       cut_found = search rules;
+      group_fits = search rules;
       layout = Err c.in-Err-layout_at.fault;
       found = search rules;
-      ended = without_layout c.in-Err-layout_at.fault;
       carried_out = search rules;
-      told = search rules;
+    })
+
+pub returns : goal.returns
+returns g c =
+    inl (record {
+      asked = search rules;
+      lengths = c.in-Ok-cut_of.cut;
+      cut_found = search rules;
+      group_fits = search rules;
+      layout = Ok c.in-Ok-layout_at.layout;
+      found = search rules;
+      carried_out = rw (sym c.in-Ok.ensures.command, sym c.in-Ok.ensures.out, sym c.in-Ok.ensures.group, sym c.in-Ok.ensures.words) c.carry_out.ensures;
     })

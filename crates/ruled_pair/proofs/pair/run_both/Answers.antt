@@ -1,3 +1,4 @@
+use Rattle.std.proofs.Common.{rules}
 use denote.Param.{param}
 use denote.Param.Send.{IsSend, IsSync, sendable}
 use Rattle.std.proofs.Crossing.{crosses}
@@ -16,3 +17,9 @@ join_mut-requires-send-F g c κs within =
     let other : IsSend (param 4 g.row.M) = c.type_bounds.send-M in
     let gate : IsSend (param 2 g.row.G) = c.type_bounds.send-G in
     search (crosses, sendable, pass.the_send, direction.the_send) depth 60 fits 20000
+
+pub returns-clause-there : goal.returns-clause-there
+returns-clause-there g c = search rules depth 30 fits 20000
+
+pub returns-clause-back : goal.returns-clause-back
+returns-clause-back g c = search rules depth 30 fits 20000

@@ -1,46 +1,15 @@
-use Rattle.std.proofs.Common.{◌++◌, List, ℕ, refl}
-use Rattle.std.specs.Prelude.{string_bytes}
-use Rattle.serve_engine.specs.declared.answering.Told.{Told}
-use Rattle.serve_engine.specs.Answers.{too_many_line}
-use Rattle.serve_engine.specs.Steps.{ServesLine}
-use Rattle.serve_engine.proofs.ExchangeLemmas.{was_answered, too_many, too_many_untold, found_no_memory, met_fault, serves_no_more, lost_log, by_written}
+use Rattle.std.proofs.Common.{ℕ, List, ap, ◌++◌, ◌∙◌}
+use Rattle.std.specs.Option.{option_copied}
+use Rattle.serve_engine.specs.Requests.{terms_of}
+use Rattle.serve_engine.specs.Steps.{mark_before}
+use Rattle.serve_engine.proofs.ExchangeLemmas.{no_memory}
 use Rattle.serve_engine.proofs.answering.serve_call.Goals as goal
 
-pub returns-in-Answered-clause-served : goal.returns-in-Answered-clause-served
-returns-in-Answered-clause-served g c = λ records line asks a stands.
-    was_answered g.K.Keeper g.L.CallLog records a c.args.live.now c.serve.new.self c.args.log.now c.serve.new.log line c.args.call.now
-    (string_bytes c.args.text.now) (string_bytes c.serve.new.text) c.requires stands asks (c.in-Answered.ensures.served a stands) c.in-Answered.ensures.idle
+pub returns-in_default-clause-served : goal.returns-in_default-clause-served
+returns-in_default-clause-served g c = λ layout line asks a stands.
+    no_memory g.K.Keeper g.L.CallLog (terms_of layout (option_copied c.args.group)) a c.args.live.now c.args.log.now line stands
 
-pub returns-in-Memory-clause-served : goal.returns-in-Memory-clause-served
-returns-in-Memory-clause-served g c = λ records line asks a stands.
-    found_no_memory g.K.Keeper g.L.CallLog records a c.args.live.now c.serve.new.self c.args.log.now c.serve.new.log line c.args.call.now
-    (string_bytes c.args.text.now) (string_bytes c.serve.new.text) c.requires stands asks (c.in-Memory.ensures.served a stands) c.in-Memory.ensures.idle
-
-pub returns-in-StoreFault-clause-served : goal.returns-in-StoreFault-clause-served
-returns-in-StoreFault-clause-served g c = λ records line asks a stands.
-    met_fault g.K.Keeper g.L.CallLog records a c.args.live.now c.serve.new.self c.args.log.now c.serve.new.log line c.args.call.now
-    (string_bytes c.args.text.now) (string_bytes c.serve.new.text) c.requires stands asks (c.in-StoreFault.ensures.served a stands) c.in-StoreFault.ensures.idle
-
-pub returns-in-Frozen-clause-served : goal.returns-in-Frozen-clause-served
-returns-in-Frozen-clause-served g c = λ records line asks a stands.
-    serves_no_more g.K.Keeper g.L.CallLog records a c.args.live.now c.serve.new.self c.args.log.now c.serve.new.log line c.args.call.now
-    (string_bytes c.args.text.now) (string_bytes c.serve.new.text) c.requires stands asks (c.in-Frozen.ensures.served a stands) c.in-Frozen.ensures.idle
-
-pub returns-in-LogFailed-clause-served : goal.returns-in-LogFailed-clause-served
-returns-in-LogFailed-clause-served g c = λ records line asks a stands.
-    lost_log g.K.Keeper g.L.CallLog records a c.args.live.now c.serve.new.self c.args.log.now c.serve.new.log line c.args.call.now
-    (string_bytes c.args.text.now) (string_bytes c.serve.new.text) c.requires stands asks (c.in-LogFailed.ensures.served a stands) c.in-LogFailed.ensures.idle
-
-pub returns-in-TooManySeats-clause-served : goal.returns-in-TooManySeats-clause-served
-returns-in-TooManySeats-clause-served g c = λ records line asks a stands.
-    let live = c.args.live.now in
-    let new = c.serve.new.self in
-    let before = string_bytes c.args.text.now in
-    let text = string_bytes c.serve.new.text in
-    let serving = c.in-TooManySeats.ensures.served a stands in
-    let idle = c.in-TooManySeats.ensures.idle in
-    let r = c.in-TooManySeats.r in
-    by_written (λ (told : Told) (t : List ℕ). ServesLine g.K.Keeper g.L.CallLog records a live new c.args.log.now c.serve.new.log line told t)
-    c.push_too_many.result c.written.result (string_bytes c.push_too_many.new.text) (text ++ too_many_line r) c.written.ensures c.push_too_many.ensures
-    (too_many g.K.Keeper g.L.CallLog records a live new c.args.log.now c.serve.new.log line c.args.call.now before text c.requires stands asks r (text ++ too_many_line r) serving idle refl)
-    (λ u. too_many_untold g.K.Keeper g.L.CallLog records a live new c.args.log.now c.serve.new.log line c.args.call.now before text c.requires stands asks r serving idle)
+pub returns-clause-served : goal.returns-clause-served
+returns-clause-served g c = λ layout line asks a stands.
+    let group = option_copied c.args.group in
+    c.carry_out.ensures.served (terms_of layout group) line (c.in-Ok.ensures ∙ ap (λ (t : List ℕ). t ++ mark_before group c.args.call.now) c.requires) asks a stands

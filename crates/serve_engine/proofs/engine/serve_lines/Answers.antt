@@ -1,17 +1,18 @@
-use Rattle.std.proofs.Common.{◌≡◌, List, refl, sym, ap, subst}
-use Rattle.merge_core.specs.declared.layout.RecordSpec.{RecordSpec}
-use Rattle.merge_core.specs.Layout.{LayoutState}
+use Rattle.std.proofs.Common.{refl, sym, subst}
+use Rattle.std.specs.Option.{option_copied}
 use Rattle.admission_core.specs.Kept.{durable_of}
 use Rattle.exit_status.specs.declared.status.Status.{Status}
 use Rattle.serve_engine.specs.Ending.{EndsSite}
-use Rattle.serve_engine.specs.Steps.{Fails, TurnsTo, Works}
+use Rattle.serve_engine.specs.Requests.{terms_of}
 use Rattle.serve_engine.specs.declared.turns.Turned.TheVariants as turned
-use Rattle.serve_engine.proofs.EndLemmas.{works_first, ends_well, ends_early}
+use Rattle.serve_engine.proofs.EndLemmas.{works_first, ends_well, ends_early, turn_there}
 use Rattle.serve_engine.proofs.engine.serve_lines.Goals as goal
 
 pub loop-count-init : goal.loop-count-init
 loop-count-init g c = record {
-  works = λ a stands. works_first g.K.Keeper g.C.Conversation g.L.CallLog c.args.live.now.core.layout.records a c.args.live.now c.args.conversation.now c.args.log.now c.requires stands
+  works = λ a stands.
+      works_first g.K.Keeper g.C.Conversation g.L.CallLog (terms_of c.args.live.now.core.layout (option_copied c.args.group)) a
+      c.args.live.now c.args.conversation.now c.args.log.now c.requires stands
       (g.met.C.Conversation.begins c.args.conversation.now) (g.met.L.CallLog.begins c.args.log.now);
   layout = refl;
   site = refl;
@@ -21,27 +22,30 @@ loop-count-init g c = record {
 pub returns-in-End-clause-ended : goal.returns-in-End-clause-ended
 returns-in-End-clause-ended g c = λ a stands.
     let live = c.args.live.now in
+    let layout = live.core.layout in
+    let group = option_copied c.args.group in
+    let talk = c.args.conversation.now in
+    let log = c.args.log.now in
     let l = c.loop-count in
-    let records : l.live.core.layout.records ≡ live.core.layout.records = ap (λ (x : LayoutState). x.records) l.invariant.layout in
-    let w : Works g.K.Keeper g.C.Conversation g.L.CallLog l.live.core.layout.records a (durable_of a) live.keeper l.live c.args.conversation.now l.conversation c.args.log.now l.log l.count =
-    subst (λ (rs : List RecordSpec). Works g.K.Keeper g.C.Conversation g.L.CallLog rs a (durable_of a) live.keeper l.live c.args.conversation.now l.conversation c.args.log.now l.log l.count)
-    (sym records) (l.invariant.works a stands) in
-    let both : TurnsTo g.K.Keeper g.C.Conversation g.L.CallLog live.core.layout.records a (durable_of a) live.keeper c.take_turn.new.live c.args.conversation.now c.take_turn.new.conversation c.args.log.now c.take_turn.new.log l.count turned.End =
-    subst (λ (rs : List RecordSpec). TurnsTo g.K.Keeper g.C.Conversation g.L.CallLog rs a (durable_of a) live.keeper c.take_turn.new.live c.args.conversation.now c.take_turn.new.conversation c.args.log.now c.take_turn.new.log l.count turned.End)
-    records (c.in-End.ensures.turned a (durable_of a) live.keeper c.args.conversation.now c.args.log.now l.count w) in
-    subst (λ (s : Status). EndsSite g.K.Keeper g.C.Conversation g.L.CallLog live.core.layout.records a (durable_of a) live.keeper c.take_turn.new.live.keeper c.args.conversation.now c.take_turn.new.conversation c.args.log.now c.take_turn.new.log s)
+    let s = c.take_turn.new in
+    let both =
+    turn_there g.K.Keeper g.C.Conversation g.L.CallLog group layout l.live.core.layout l.invariant.layout a (durable_of a) live.keeper l.live s.live
+    talk l.conversation s.conversation log l.log s.log l.count turned.End (l.invariant.works a stands)
+    (c.in-End.ensures.turned a (durable_of a) live.keeper talk log l.count) in
+    subst (λ (x : Status). EndsSite g.K.Keeper g.C.Conversation g.L.CallLog (terms_of layout group) a (durable_of a) live.keeper s.live.keeper talk s.conversation log s.log x)
     (sym c.ended.ensures)
-    (ends_well g.K.Keeper g.C.Conversation g.L.CallLog live.core.layout.records a (durable_of a) live.keeper c.take_turn.new.live c.args.conversation.now c.take_turn.new.conversation c.args.log.now c.take_turn.new.log l.count both.0 both.1)
+    (ends_well g.K.Keeper g.C.Conversation g.L.CallLog (terms_of layout group) a (durable_of a) live.keeper s.live talk s.conversation log s.log l.count both.0 both.1)
 
 pub returns-in-Failed-clause-ended : goal.returns-in-Failed-clause-ended
 returns-in-Failed-clause-ended g c = λ a stands.
     let live = c.args.live.now in
+    let layout = live.core.layout in
+    let group = option_copied c.args.group in
+    let talk = c.args.conversation.now in
+    let log = c.args.log.now in
     let l = c.loop-count in
-    let records : l.live.core.layout.records ≡ live.core.layout.records = ap (λ (x : LayoutState). x.records) l.invariant.layout in
-    let w : Works g.K.Keeper g.C.Conversation g.L.CallLog l.live.core.layout.records a (durable_of a) live.keeper l.live c.args.conversation.now l.conversation c.args.log.now l.log l.count =
-    subst (λ (rs : List RecordSpec). Works g.K.Keeper g.C.Conversation g.L.CallLog rs a (durable_of a) live.keeper l.live c.args.conversation.now l.conversation c.args.log.now l.log l.count)
-    (sym records) (l.invariant.works a stands) in
-    let fails : Fails g.K.Keeper g.C.Conversation g.L.CallLog live.core.layout.records a (durable_of a) live.keeper c.take_turn.new.live c.args.conversation.now c.take_turn.new.conversation c.args.log.now c.take_turn.new.log =
-    subst (λ (rs : List RecordSpec). Fails g.K.Keeper g.C.Conversation g.L.CallLog rs a (durable_of a) live.keeper c.take_turn.new.live c.args.conversation.now c.take_turn.new.conversation c.args.log.now c.take_turn.new.log)
-    records (c.in-Failed.ensures.turned a (durable_of a) live.keeper c.args.conversation.now c.args.log.now l.count w) in
-    ends_early g.K.Keeper g.C.Conversation g.L.CallLog live.core.layout.records a (durable_of a) live.keeper c.take_turn.new.live c.args.conversation.now c.take_turn.new.conversation c.args.log.now c.take_turn.new.log fails
+    let s = c.take_turn.new in
+    ends_early g.K.Keeper g.C.Conversation g.L.CallLog (terms_of layout group) a (durable_of a) live.keeper s.live talk s.conversation log s.log
+    (turn_there g.K.Keeper g.C.Conversation g.L.CallLog group layout l.live.core.layout l.invariant.layout a (durable_of a) live.keeper l.live s.live
+    talk l.conversation s.conversation log l.log s.log l.count turned.Failed (l.invariant.works a stands)
+    (c.in-Failed.ensures.turned a (durable_of a) live.keeper talk log l.count))

@@ -1,4 +1,4 @@
-use Rattle.std.proofs.Common.{◌≡◌, List, ℕ, Result, Err, decimal, refl, sym, ap, subst, arith}
+use Rattle.std.proofs.Common.{◌≡◌, List, ℕ, Result, Err, refl, sym, ap, subst, arith}
 use Rattle.std.proofs.lemmas.Result.{err_from_is_err_and}
 use Rattle.store_tables.specs.declared.error.TableError.{TableError}
 use Rattle.layout_line.specs.Line.{line_of}
@@ -7,6 +7,7 @@ use Rattle.store_tables.specs.Kept.{connection_of}
 use Rattle.store_tables.specs.Transacts.{made}
 use Rattle.site_store.proofs.OpenLemmas.{made_content}
 use Rattle.site_store.proofs.OwnLemmas.{memory_cause, table_cause}
+use Rattle.site_store.specs.SiteText.{named, site_text}
 use Rattle.site_store.specs.Opened.{IsDeviceCause}
 use Rattle.site_store.proofs.opening.make_new.Goals as goal
 
@@ -15,13 +16,14 @@ error e = Err e
 
 pub returns-clause-made : goal.returns-clause-made
 returns-clause-made g c blank = λ clean.
-    let text : c.as_str.result.now ≡ decimal c.args.site = grind (arith, c.as_str.ensures.value, c.in_ok-own.ensures) in
+    let row = site_text c.args.site (named c.args.group) in
+    let text : c.as_str.result.now ≡ row = grind (arith, c.as_str.ensures.value, c.in_ok-own.ensures) in
     let keeps = c.in_ok-make.ensures.ok blank in
     let line = subst (λ (t : List ℕ). Keeps g.S.Store (connection_of c.make.new.self) (made c.as_str.result.now t)) c.requires keeps in
     record {
-      own = record { second = refl; its_site = refl; its_layout = refl; content = made_content (decimal c.args.site) (line_of c.args.layout.now) };
+      own = record { second = refl; its_site = refl; its_layout = refl; content = made_content row (line_of c.args.layout.now) };
       kept = subst (λ (t : List ℕ). Keeps g.S.Store (connection_of c.make.new.self) (made t (line_of c.args.layout.now))) text line;
-      known = c.new.ensures (made (decimal c.args.site) (line_of c.args.layout.now)) refl refl;
+      known = c.new.ensures (made row (line_of c.args.layout.now)) refl refl;
     }
 
 pub returns-in_err-own-clause-device : goal.returns-in_err-own-clause-device

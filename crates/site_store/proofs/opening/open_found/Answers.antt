@@ -10,6 +10,7 @@ use Rattle.store_rows.specs.Changes.{renewed}
 use Rattle.store_rows.specs.Holding.{Holds, HoldsBeside, Keeps, KeepsEither}
 use Rattle.store_tables.specs.Kept.{connection_of}
 use Rattle.store_tables.specs.declared.error.TableError.{TableError}
+use Rattle.site_store.specs.SiteText.{named}
 use Rattle.site_store.specs.Opened.{IsDeviceCause, IsRefused}
 use Rattle.site_store.proofs.OpenLemmas.{as_renewed, if_honest, is_ready, refused_renewal}
 use Rattle.site_store.proofs.OwnLemmas.{device_two, own_cause, same_line, table_cause}
@@ -27,7 +28,7 @@ returns-then-not-is_due-clause-ready g c it keeps found =
     let due = c.is_due.ensures.0 off in
     let version : c.args.content.now.version ≡ Second = grind (arith, c.content.view_is, due.1) in
     let line : c.args.content.now.layout ≡ line_of layout = subst (λ (l : Line). IsLine layout c.args.site c.args.content.now.layout l) due.0 judged.1.1 in
-    is_ready g.S.Store conn layout c.args.site it c.args.content.now c.in_ok-index.index found judged.0 judged.1.0
+    is_ready g.S.Store conn layout c.args.site (named c.args.group) it c.args.content.now c.in_ok-index.index found judged.0 judged.1.0
     (λ clean. let e = found clean in
     subst (λ (s : Stored). Keeps g.S.Store conn s) (sym (as_renewed (line_of layout) it (ap (λ (s : Stored). s.version) (sym e) ∙ version) (ap (λ (s : Stored). s.layout) (sym e) ∙ line))) keeps)
 
@@ -38,7 +39,7 @@ returns-clause-ready g c it keeps found =
     let old = connection_of c.args.tables.now in
     let conn = connection_of c.renew.new.self in
     let version : c.content.inside.version ≡ c.args.content.now.version = grind (arith, c.content.view_is) in
-    is_ready g.S.Store conn layout c.args.site it c.args.content.now c.in_ok-index.index (λ clean. found (c.renew.ensures.honest clean)) judged.0 judged.1.0
+    is_ready g.S.Store conn layout c.args.site (named c.args.group) it c.args.content.now c.in_ok-index.index (λ clean. found (c.renew.ensures.honest clean)) judged.0 judged.1.0
     (λ clean. let e = found (c.renew.ensures.honest clean) in
     subst (λ (t : List ℕ). Keeps g.S.Store conn (renewed t it)) c.requires (c.in_ok-renew.ensures.ok it (ap (λ (s : Stored). s.version) (sym e) ∙ sym version) keeps))
 
@@ -47,7 +48,7 @@ returns-clause-ready g c it keeps found =
 pub returns-in_err-index-clause-own : goal.returns-in_err-index-clause-own
 returns-in_err-index-clause-own g c own =
     let p = err_from_is_err_and c.from_residual.result c.from_residual.ensures.1 in
-    rw p.1 (subst IsDeviceCause (sym p.2) (own_cause c.args.layout.now c.args.site c.args.content.now _ own c.in_err-index.ensures.0))
+    rw p.1 (subst IsDeviceCause (sym p.2) (own_cause c.args.layout.now c.args.site (named c.args.group) c.args.content.now _ own c.in_err-index.ensures.0))
 
 pub returns-in_err-renew-clause-own : goal.returns-in_err-renew-clause-own
 returns-in_err-renew-clause-own g c own =
@@ -63,7 +64,7 @@ returns-in_err-renew-clause-ready g c it keeps found =
     let version : c.content.inside.version ≡ c.args.content.now.version = grind (arith, c.content.view_is) in
     let old : HasCleanDisk (state g.S.Store conn) → it.version ≡ c.content.inside.version =
     λ clean. ap (λ (s : Stored). s.version) (sym (found (c.renew.ensures.honest clean))) ∙ sym version in
-    rw p.1 (subst (IsRefused g.S.Store layout c.args.site it conn) (sym p.2) (refused_renewal g.S.Store conn layout c.args.site it _
+    rw p.1 (subst (IsRefused g.S.Store layout c.args.site (named c.args.group) it conn) (sym p.2) (refused_renewal g.S.Store conn layout c.args.site (named c.args.group) it _
     (λ is. c.in_err-renew.ensures.kind (ap error is))
     (λ is. if_honest g.S.Store conn (Holds it) (λ clean. c.in_err-renew.ensures.memory it (old clean) keeps (ap error is)))
     (λ is. if_honest g.S.Store conn (λ db. Holds it db ⊎ Holds (renewed line it) db)

@@ -1,4 +1,4 @@
-use Rattle.std.proofs.Common.{◌≡◌, ◌≢◌, inl, inr, decimal, Option, Result, Err, sym, ap, subst, ◌∙◌}
+use Rattle.std.proofs.Common.{◌≡◌, ◌≢◌, inl, inr, Option, Result, Err, sym, ap, subst, ◌∙◌}
 use Rattle.std.proofs.lemmas.Option.{none-some, same_Some}
 use Rattle.std.proofs.lemmas.Result.{IfErr-at_err, IfErr-weaker, err_from_is_err_and}
 use Rattle.store_rows.proofs.StepLemmas.{survives_same}
@@ -14,6 +14,7 @@ use Rattle.store_rows.specs.Rows.{Stored}
 use Rattle.store_tables.specs.declared.error.TableError.{TableError}
 use Rattle.store_tables.specs.Kept.{connection_of}
 use Rattle.site_store.specs.declared.error.OpenError.{OpenError}
+use Rattle.site_store.specs.SiteText.{named, site_text}
 use Rattle.site_store.specs.Opened.{IsCurrent, IsDeviceCause, IsDue, IsOwn, IsReady, IsRefused, IsRefusedBlank, Readies, ReadiesBlank}
 use Rattle.site_store.proofs.OpenLemmas.{beside_none, beside_some, refused, refused_blank, readies_any, settled_none, settled}
 use Rattle.site_store.proofs.OwnLemmas.{any_of, any_of_either, any_of_nothing_or, device_two, either_own, fault_of, if_err_from, made_own, memory_cause, memory_is_none, none_kept, some_found, some_kept, table_cause}
@@ -25,28 +26,29 @@ error e = Err e
 pub returns-in-Ok-None-clause-ready : goal.returns-in-Ok-None-clause-ready
 returns-in-Ok-None-clause-ready g c it keeps =
     readies_any g.S.Store (connection_of c.make_new.new.tables) (λ clean. none-some it (sym c.in-Ok-None.field-0-is ∙ c.in-Ok-None.ensures.read it keeps (c.make_new.ensures.honest clean)))
-    c.args.layout.now c.args.site it c.make_new.result
+    c.args.layout.now c.args.site (named c.args.group) it c.make_new.result
 
 pub returns-clause-ready : goal.returns-clause-ready
 returns-clause-ready g c it keeps =
     let conn = connection_of c.look.new.self in
-    subst (λ (e : OpenError). IsRefused g.S.Store c.args.layout.now c.args.site it conn e) (sym c.from.ensures)
-    (refused g.S.Store conn c.args.layout.now c.args.site it c.in-Err.error (λ is clean sound. c.in-Err.ensures.own it sound.in_range keeps clean (ap error is)) (c.in-Err.ensures.kept it keeps))
+    subst (λ (e : OpenError). IsRefused g.S.Store c.args.layout.now c.args.site (named c.args.group) it conn e) (sym c.from.ensures)
+    (refused g.S.Store conn c.args.layout.now c.args.site (named c.args.group) it c.in-Err.error
+    (λ is clean sound. c.in-Err.ensures.own it sound.in_range keeps clean (ap error is)) (c.in-Err.ensures.kept it keeps))
 
 pub returns-clause-made : goal.returns-clause-made
 returns-clause-made g c blank =
     let conn = connection_of c.look.new.self in
-    subst (λ (e : OpenError). IsRefusedBlank g.S.Store c.args.layout.now c.args.site conn e) (sym c.from.ensures)
-    (refused_blank g.S.Store conn c.args.layout.now c.args.site c.in-Err.error (λ is clean. (c.in-Err.ensures.blank blank clean).1 (ap error is)) (c.in-Err.ensures.bare blank))
+    subst (λ (e : OpenError). IsRefusedBlank g.S.Store c.args.layout.now c.args.site (named c.args.group) conn e) (sym c.from.ensures)
+    (refused_blank g.S.Store conn c.args.layout.now c.args.site (named c.args.group) c.in-Err.error (λ is clean. (c.in-Err.ensures.blank blank clean).1 (ap error is)) (c.in-Err.ensures.bare blank))
 
 pub returns-in-Ok-None-clause-settles : goal.returns-in-Ok-None-clause-settles
 returns-in-Ok-None-clause-settles g c a b keeps =
-    settled_none g.S.Store (connection_of c.make_new.new.tables) c.args.layout.now c.args.site a b _ _ _ c.make_new.ensures.honest
+    settled_none g.S.Store (connection_of c.make_new.new.tables) c.args.layout.now c.args.site (named c.args.group) a b _ _ _ c.make_new.ensures.honest
     c.in-Ok-None.field-0 c.in-Ok-None.field-0-is c.make_new.result (c.in-Ok-None.ensures.settles a b keeps)
 
 pub returns-in-Ok-Some-clause-settles : goal.returns-in-Ok-Some-clause-settles
 returns-in-Ok-Some-clause-settles g c a b keeps =
-    settled g.S.Store (connection_of c.open_found.new.tables) c.args.layout.now c.args.site a b _ _ _ c.open_found.ensures.honest
+    settled g.S.Store (connection_of c.open_found.new.tables) c.args.layout.now c.args.site (named c.args.group) a b _ _ _ c.open_found.ensures.honest
     c.in-Ok-Some.field-0 c.in-Ok-Some.content c.in-Ok-Some.field-0-is c.open_found.result (c.open_found.ensures.ready a) (c.open_found.ensures.ready b) (c.in-Ok-Some.ensures.settles a b keeps)
 
 -- ---- after a creation in doubt
@@ -55,31 +57,33 @@ pub returns-in-Ok-Some-clause-settles_or : goal.returns-in-Ok-Some-clause-settle
 returns-in-Ok-Some-clause-settles_or g c keeps =
     let layout = c.args.layout.now in
     let conn = connection_of c.look.new.self in
-    let new = made (decimal c.args.site) (line_of layout) in
+    let new = made (site_text c.args.site (named c.args.group)) (line_of layout) in
     let found = c.in-Ok-Some.ensures.settles_or new keeps in
     let t = c.in-Ok-Some.field-0 in
     if_ok_from c.open_found.result (λ index is clean.
     let early = c.open_found.ensures.honest clean in
     let kept = some_kept g.S.Store conn new _ early t found c.in-Ok-Some.content c.in-Ok-Some.field-0-is in
     let same = some_found g.S.Store conn new _ early t found c.in-Ok-Some.content c.in-Ok-Some.field-0-is in
-    let ready : IsReady g.S.Store layout c.args.site new (connection_of c.open_found.new.tables) index = subst (λ (r : Result Index OpenError). Readies g.S.Store layout c.args.site new (connection_of c.open_found.new.tables) r) is (c.open_found.ensures.ready new kept (λ _. same)) in
+    let ready : IsReady g.S.Store layout c.args.site (named c.args.group) new (connection_of c.open_found.new.tables) index =
+    subst (λ (r : Result Index OpenError). Readies g.S.Store layout c.args.site (named c.args.group) new (connection_of c.open_found.new.tables) r) is
+    (c.open_found.ensures.ready new kept (λ _. same)) in
     ready.stores clean)
 
 pub returns-in-Ok-None-clause-settles_or : goal.returns-in-Ok-None-clause-settles_or
 returns-in-Ok-None-clause-settles_or g c keeps =
     let layout = c.args.layout.now in
-    let new = made (decimal c.args.site) (line_of layout) in
+    let new = made (site_text c.args.site (named c.args.group)) (line_of layout) in
     let found = c.in-Ok-None.ensures.settles_or new keeps in
     if_ok_from c.make_new.result (λ index is clean.
     let blank = none_kept g.S.Store (connection_of c.look.new.self) new _ (c.make_new.ensures.honest clean) c.in-Ok-None.field-0 found c.in-Ok-None.field-0-is in
-    subst (λ (r : Result Index OpenError). ReadiesBlank g.S.Store layout c.args.site (connection_of c.make_new.new.tables) r) is (c.make_new.ensures.made blank) clean)
+    subst (λ (r : Result Index OpenError). ReadiesBlank g.S.Store layout c.args.site (named c.args.group) (connection_of c.make_new.new.tables) r) is (c.make_new.ensures.made blank) clean)
 
 -- ---- a content of the site's own is refused by the device alone
 
 pub returns-in-Ok-Some-clause-own : goal.returns-in-Ok-Some-clause-own
 returns-in-Ok-Some-clause-own g c a b first second keeps =
     if_err_from c.open_found.result (λ e is clean.
-    either_own c.args.layout.now c.args.site a b c.in-Ok-Some.content _ _ _ (c.open_found.ensures.honest clean) c.in-Ok-Some.field-0 c.in-Ok-Some.field-0-is first second
+    either_own c.args.layout.now c.args.site (named c.args.group) a b c.in-Ok-Some.content _ _ _ (c.open_found.ensures.honest clean) c.in-Ok-Some.field-0 c.in-Ok-Some.field-0-is first second
     (c.in-Ok-Some.ensures.settles a b keeps) e (λ own. IfErr-at_err IsDeviceCause is (c.open_found.ensures.own own)))
 
 pub returns-in-Ok-None-clause-own : goal.returns-in-Ok-None-clause-own
@@ -94,10 +98,10 @@ returns-clause-own g c a b first second keeps = λ clean.
 pub returns-in-Ok-Some-clause-own_or : goal.returns-in-Ok-Some-clause-own_or
 returns-in-Ok-Some-clause-own_or g c keeps =
     let layout = c.args.layout.now in
-    let new = made (decimal c.args.site) (line_of layout) in
+    let new = made (site_text c.args.site (named c.args.group)) (line_of layout) in
     if_err_from c.open_found.result (λ e is clean.
     let same = some_found g.S.Store (connection_of c.look.new.self) new _ (c.open_found.ensures.honest clean) c.in-Ok-Some.field-0 (c.in-Ok-Some.ensures.settles_or new keeps) c.in-Ok-Some.content c.in-Ok-Some.field-0-is in
-    IfErr-at_err IsDeviceCause is (c.open_found.ensures.own (subst (IsOwn layout c.args.site) (sym same) (made_own layout c.args.site))))
+    IfErr-at_err IsDeviceCause is (c.open_found.ensures.own (subst (IsOwn layout c.args.site (named c.args.group)) (sym same) (made_own layout c.args.site (named c.args.group)))))
 
 pub returns-in-Ok-None-clause-own_or : goal.returns-in-Ok-None-clause-own_or
 returns-in-Ok-None-clause-own_or g c keeps =
@@ -106,9 +110,10 @@ returns-in-Ok-None-clause-own_or g c keeps =
 pub returns-clause-own_or : goal.returns-clause-own_or
 returns-clause-own_or g c keeps = λ clean.
     let layout = c.args.layout.now in
-    let new = made (decimal c.args.site) (line_of layout) in
+    let new = made (site_text c.args.site (named c.args.group)) (line_of layout) in
     subst IsDeviceCause (sym c.from.ensures)
-    (table_cause c.in-Err.error (λ is. c.in-Err.ensures.good (any_of_nothing_or g.S.Store (connection_of c.args.tables.now) IsInRange new (made_own layout c.args.site).in_range keeps) clean (ap error is)))
+    (table_cause c.in-Err.error
+    (λ is. c.in-Err.ensures.good (any_of_nothing_or g.S.Store (connection_of c.args.tables.now) IsInRange new (made_own layout c.args.site (named c.args.group)).in_range keeps) clean (ap error is)))
 
 -- ---- when a fault comes
 
@@ -117,7 +122,8 @@ returns-in-Ok-Some-clause-fault g c sound it keeps =
     if_err_from c.open_found.result (λ e is fault clean.
     let early = c.open_found.ensures.honest clean in
     let same = same_Some c.in-Ok-Some.content it (sym c.in-Ok-Some.field-0-is ∙ c.in-Ok-Some.ensures.read it keeps early) in
-    inr (subst (IsDue c.args.layout.now c.args.site) same (IfErr-at_err (λ x. x ≡ StoreFault → IsDue c.args.layout.now c.args.site c.in-Ok-Some.content) is c.open_found.ensures.due fault)))
+    inr (subst (IsDue c.args.layout.now c.args.site (named c.args.group)) same
+    (IfErr-at_err (λ x. x ≡ StoreFault → IsDue c.args.layout.now c.args.site (named c.args.group) c.in-Ok-Some.content) is c.open_found.ensures.due fault)))
 
 pub returns-in-Ok-None-clause-fault : goal.returns-in-Ok-None-clause-fault
 returns-in-Ok-None-clause-fault g c sound it keeps =

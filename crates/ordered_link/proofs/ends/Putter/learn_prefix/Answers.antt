@@ -1,9 +1,9 @@
-use Rattle.std.proofs.Common.{◌≡◌, ℕ, List, ◌++◌, ap, ◌∙◌}
+use Rattle.std.proofs.Common.{◌≡◌, ℕ, List, ◌++◌, ap, ◌∙◌, arith}
 use Rattle.crossbeam_channel.specs.Claims.{view}
 use Rattle.ordered_link.specs.declared.rule.Parcel.{Parcel}
 use Rattle.ordered_link.specs.declared.rule.Log.{Log}
 use Rattle.ordered_link.specs.Ends.{TakerState, texts_of}
-use Rattle.ordered_link.proofs.Rules.{merges, texts_append}
+use Rattle.ordered_link.proofs.Rules.{merges, texts_append, texts_few}
 use Rattle.ordered_link.proofs.ends.Putter.learn_prefix.Goals as goal
 
 pub absorb-requires-clause-rule : goal.absorb-requires-clause-rule
@@ -17,5 +17,6 @@ returns-clause-prefix c =
     ap (λ (l : Log). texts_of l.taken) c.absorb.ensures.rule ∙ ap (λ (t : TakerState). t.taken) c.taker.view_is in (
       texts_of items,
       ap (λ (l : Log). texts_of l.put) c.learn_as.ensures.channel.2
-          ∙ (ap texts_of c.learn_as.ensures.rule.1 ∙ (texts_append whole.taken items ∙ ap (λ (ts : List (List ℕ)). ts ++ texts_of items) taken)),
+          ∙ (ap texts_of c.learn_as.ensures.rule.1.0 ∙ (texts_append whole.taken items ∙ ap (λ (ts : List (List ℕ)). ts ++ texts_of items) taken)),
+      omega (arith, texts_few items, c.learn_as.ensures.rule.1.1),
     )

@@ -1,36 +1,42 @@
-use Rattle.std.proofs.Common.{◌⊎◌, inl, inr, decimal, refl, sym, subst}
+use Rattle.std.proofs.Common.{◌⊎◌, inl, inr, refl, ap, sym, subst}
 use Rattle.std.proofs.Math.Logic.{∥∥₁_map}
 use Rattle.sqlite.specs.State.{HasCleanDisk}
 use Rattle.sqlite.specs.Held.{Held, state}
-use Rattle.merge_core.specs.Layout.{LayoutState}
 use Rattle.layout_line.specs.Line.{line_of}
 use Rattle.store_rows.specs.Rows.{Stored}
 use Rattle.store_rows.specs.Holding.{Keeps, KeepsBeside, KeepsEither, KeepsNothingOr}
 use Rattle.store_rows.specs.Changes.{renewed}
 use Rattle.store_tables.specs.Kept.{connection_of}
 use Rattle.store_tables.specs.Transacts.{made}
-use Rattle.site_store.specs.Sql.{Stores}
+use Rattle.site_store.specs.SiteText.{named, site_text}
 use Rattle.site_store.specs.Opened.{CommitsNothing, IsDue, IsReady, IsRefusal}
 use Rattle.store_rows.proofs.StepLemmas.{survives_same}
+use Rattle.site_store.proofs.OpenLemmas.{stored_again}
 use Rattle.site_store.proofs.OwnLemmas.{memory_is_none}
 use Rattle.site_store.proofs.sql.SqlKeeper.open.Goals as goal
 
 pub returns-in-Ok-prepare-clause-store : goal.returns-in-Ok-prepare-clause-store
 returns-in-Ok-prepare-clause-store g c it keeps =
     let next = renewed (line_of c.args.layout.now) it in
+    let row = site_text c.args.site (named c.args.group) in
+    let same_row = ap (site_text c.args.site) c.in-Ok-copied_group.ensures in
+    let again = λ (it : Stored). stored_again g.S.Store (connection_of c.prepare.new.tables) c.args.layout.now _ row _ c.in-Ok-prepare.index it c.in-Ok.ensures same_row in
     let ready = c.in-Ok-prepare.ensures.ready it (subst (λ (h : Held g.row.S.Denot). Keeps g.S.Store h it) (sym c.over-tables.ensures.connection) keeps) in (
       ready.fits,
-      λ honest. (next, (subst (λ (l : LayoutState). Stores g.S.Store l c.args.site (connection_of c.prepare.new.tables) c.in-Ok-prepare.index next) (sym c.in-Ok.ensures) (ready.stores honest), refl)),
+      λ honest. (next, (again next (ready.stores honest), refl)),
     )
 
 pub returns-in-Ok-prepare-clause-settles : goal.returns-in-Ok-prepare-clause-settles
 returns-in-Ok-prepare-clause-settles g c a b keeps =
     let line = line_of c.args.layout.now in
-    let Ready : Stored → Type 0 = λ it. IsReady g.S.Store c.args.layout.now c.args.site it (connection_of c.prepare.new.tables) c.in-Ok-prepare.index in
+    let Ready : Stored → Type 0 = λ it. IsReady g.S.Store c.args.layout.now c.args.site (named c.args.group) it (connection_of c.prepare.new.tables) c.in-Ok-prepare.index in
+    let row = site_text c.args.site (named c.args.group) in
+    let same_row = ap (site_text c.args.site) c.in-Ok-copied_group.ensures in
+    let again = λ (it : Stored). stored_again g.S.Store (connection_of c.prepare.new.tables) c.args.layout.now _ row _ c.in-Ok-prepare.index it c.in-Ok.ensures same_row in
     let settled = c.in-Ok-prepare.ensures.settles a b (subst (λ (h : Held g.row.S.Denot). KeepsEither g.S.Store h a b) (sym c.over-tables.ensures.connection) keeps) in
     ∥∥₁_map {A = Ready a ⊎ Ready b} settled (λ f. elim f [
-      | inl ready ↦ inl (λ honest. (renewed line a, (subst (λ (l : LayoutState). Stores g.S.Store l c.args.site (connection_of c.prepare.new.tables) c.in-Ok-prepare.index (renewed line a)) (sym c.in-Ok.ensures) (ready.stores honest), refl)))
-      | inr ready ↦ inr (λ honest. (renewed line b, (subst (λ (l : LayoutState). Stores g.S.Store l c.args.site (connection_of c.prepare.new.tables) c.in-Ok-prepare.index (renewed line b)) (sym c.in-Ok.ensures) (ready.stores honest), refl)))
+      | inl ready ↦ inl (λ honest. (renewed line a, (again (renewed line a) (ready.stores honest), refl)))
+      | inr ready ↦ inr (λ honest. (renewed line b, (again (renewed line b) (ready.stores honest), refl)))
     ])
 
 pub returns-in-Ok-prepare-clause-honest : goal.returns-in-Ok-prepare-clause-honest
@@ -41,9 +47,12 @@ returns-in-Ok-prepare-clause-honest g c honest =
 
 pub returns-in-Ok-prepare-clause-settles_or : goal.returns-in-Ok-prepare-clause-settles_or
 returns-in-Ok-prepare-clause-settles_or g c keeps =
-    let new = made (decimal c.args.site) (line_of c.args.layout.now) in
+    let row = site_text c.args.site (named c.args.group) in
+    let same_row = ap (site_text c.args.site) c.in-Ok-copied_group.ensures in
+    let again = λ (it : Stored). stored_again g.S.Store (connection_of c.prepare.new.tables) c.args.layout.now _ row _ c.in-Ok-prepare.index it c.in-Ok.ensures same_row in
+    let new = made row (line_of c.args.layout.now) in
     let settled = c.in-Ok-prepare.ensures.settles_or (subst (λ (h : Held g.row.S.Denot). KeepsNothingOr g.S.Store h new) (sym c.over-tables.ensures.connection) keeps) in
-    λ honest. (new, (subst (λ (l : LayoutState). Stores g.S.Store l c.args.site (connection_of c.prepare.new.tables) c.in-Ok-prepare.index new) (sym c.in-Ok.ensures) (settled honest), refl))
+    λ honest. (new, (again new (settled honest), refl))
 
 pub returns-in-Err-clause-own : goal.returns-in-Err-clause-own
 returns-in-Err-clause-own g c a b first second keeps = λ clean.
@@ -53,15 +62,15 @@ returns-in-Err-clause-own g c a b first second keeps = λ clean.
 pub returns-in-Err-clause-own_or : goal.returns-in-Err-clause-own_or
 returns-in-Err-clause-own_or g c keeps = λ clean.
     c.in-Err.ensures.own_or
-    (subst (λ (h : Held g.row.S.Denot). KeepsNothingOr g.S.Store h (made (decimal c.args.site) (line_of c.args.layout.now))) (sym c.over-tables.ensures.connection) keeps)
+    (subst (λ (h : Held g.row.S.Denot). KeepsNothingOr g.S.Store h (made (site_text c.args.site (named c.args.group)) (line_of c.args.layout.now))) (sym c.over-tables.ensures.connection) keeps)
     (subst (λ (h : Held g.row.S.Denot). HasCleanDisk (state g.S.Store h)) c.into_connection.ensures clean)
 
 pub returns-in-Err-clause-fault : goal.returns-in-Err-clause-fault
 returns-in-Err-clause-fault g c it keeps = λ fault clean.
     let told = c.in-Err.ensures.fault c.over-tables.ensures.sound it (subst (λ (h : Held g.row.S.Denot). Keeps g.S.Store h it) (sym c.over-tables.ensures.connection) keeps) fault
     (subst (λ (h : Held g.row.S.Denot). HasCleanDisk (state g.S.Store h)) c.into_connection.ensures clean) in
-    subst (λ (h : Held g.row.S.Denot). IsRefusal g.S.Store h c.into_connection.result ⊎ IsDue c.args.layout.now c.args.site it) c.over-tables.ensures.connection
-    (subst (λ (h : Held g.row.S.Denot). IsRefusal g.S.Store (connection_of c.over-tables.result) h ⊎ IsDue c.args.layout.now c.args.site it) (sym c.into_connection.ensures) told)
+    subst (λ (h : Held g.row.S.Denot). IsRefusal g.S.Store h c.into_connection.result ⊎ IsDue c.args.layout.now c.args.site (named c.args.group) it) c.over-tables.ensures.connection
+    (subst (λ (h : Held g.row.S.Denot). IsRefusal g.S.Store (connection_of c.over-tables.result) h ⊎ IsDue c.args.layout.now c.args.site (named c.args.group) it) (sym c.into_connection.ensures) told)
 
 -- ---- what is committed
 

@@ -1,0 +1,128 @@
+-- From a service over a database to the end of the program.
+use Rattle.std.proofs.Common.{ℕ, ◌<◌, Bool, true, false, List, Option, inl, inr, refl, sym, subst}
+use Rattle.sqlite_trees.specs.declared.store.Store.{Ghosts as Device}
+use Rattle.sqlite.specs.Held.{Held}
+use Rattle.merge_core.specs.Layout.{LayoutState}
+use Rattle.durable_keeper.specs.declared.keeper.Keeper.{Ghosts}
+use Rattle.desk_log.specs.Log.{begun}
+use Rattle.admission_core.specs.Kept.{DurableState}
+use Rattle.site_engine.specs.Sites.{Began}
+use Rattle.site_store.specs.declared.error.OpenError.{OpenError}
+use Rattle.site_store.specs.declared.error.OpenError.TheVariants as opening
+use Rattle.site_store.specs.declared.sql.SqlKeeper.{SqlKeeper}
+use Rattle.exit_status.specs.declared.status.Status.{Status}
+use Rattle.exit_status.specs.declared.status.Status.TheVariants.{Done, Usage, NoLayout, NoStore, Fault, Refused, Memory, Io}
+use Rattle.line_conversation.specs.declared.conversation.Conversation.{Ghosts as TalkGhosts}
+use Rattle.live_site.specs.declared.call_log.CallLog.{Ghosts as LogGhosts}
+use Rattle.serve_engine.specs.Requests.{terms_of}
+use Rattle.serve_engine.specs.Ending.{EndsEarly, EndsServing, EndsWell}
+use Rattle.live_databases.specs.declared.service_end.ServiceEnd.{ServiceEnd}
+use Rattle.live_databases.specs.declared.service_end.ServiceEnd.TheVariants.{Ended, Absent, NoLog, LogIsStore, Unlogged, Outdated}
+use Rattle.live_databases.specs.Endings.{refused_store}
+use Rattle.live_databases.specs.LiveStores.{IsUnserved, LogsOver, ServesOver}
+use Rattle.live_databases.specs.LiveDatabases.{EndsLive, TalksInPart, TalksToEnd}
+
+module _ {K C L : Type 0} (g : Ghosts K) (t : TalkGhosts C) (h : LogGhosts L) (layout : LayoutState) (i : ℕ) (group : Option (List ℕ)) (keeper back : K) (talk talk_after : C) (log log_after : L) where
+  -- what the conversation was, whatever the keeper and the log
+  talked : (frozen : Bool) (first : DurableState) → Began g layout i keeper back first
+      → EndsWell g t h (terms_of layout group) (begun layout i first) first frozen keeper back talk talk_after log log_after
+      → TalksToEnd t layout i group frozen talk talk_after
+  talked frozen first began well = record {
+    exchanges = well.exchanges;
+    served = record {
+      first = first;
+      cells = began.cells;
+      sessions = began.sessions;
+      entries = well.entries;
+      fault = well.site.fault;
+      account = well.site.account;
+      tried = well.site.tried;
+      served = well.site.served;
+    };
+    heard = well.heard;
+    ended = well.ended;
+  }
+
+  talked_in_part : (first : DurableState) → Began g layout i keeper back first
+      → EndsEarly g t h (terms_of layout group) (begun layout i first) first keeper back talk talk_after log log_after
+      → TalksInPart t layout i group talk talk_after
+  talked_in_part first began early = record {
+    frozen = early.frozen;
+    exchanges = early.exchanges;
+    served = record {
+      first = first;
+      cells = began.cells;
+      sessions = began.sessions;
+      entries = early.entries;
+      fault = early.site.fault;
+      account = early.site.account;
+      tried = early.site.tried;
+      served = early.site.served;
+    };
+    turns = early.turns;
+    last = early.last;
+    heard = early.heard;
+  }
+
+  -- the engine of a site that is there
+  ran : (ended : Status) → i < layout.sites → EndsServing g t h layout i group keeper back talk talk_after log log_after ended
+      → EndsLive t layout i group talk talk_after (Ended ended)
+  ran Done there s = (there, talked false s.first s.began s.ended)
+  ran Fault there s = (there, talked true s.first s.began s.ended)
+  ran Io there s = (there, talked_in_part s.first s.began s.ended)
+  ran (NoStore refusal) there (unfit, untouched) = (there, untouched.silent)
+  ran (NoLayout fault) there (is, none, same, untouched) = absurd (none there)
+  ran Memory there untouched = (there, untouched.silent)
+  ran Refused there ended = absurd ended
+  ran Usage there ended = absurd ended
+
+-- a refused store
+refused_end : {C : Type 0} (t : TalkGhosts C) (layout : LayoutState) (i : ℕ) (group : Option (List ℕ)) (talk : C) (error : OpenError) → i < layout.sites
+    → EndsLive t layout i group talk talk (refused_store error)
+refused_end t layout i group talk opening.BadStore there = (there, refl)
+refused_end t layout i group talk opening.WrongSite there = (there, refl)
+refused_end t layout i group talk opening.WrongGroup there = (there, refl)
+refused_end t layout i group talk opening.WrongLayout there = (there, refl)
+refused_end t layout i group talk opening.StoreFault there = (there, refl)
+refused_end t layout i group talk opening.Memory there = (there, refl)
+
+pub ends_live : {S C L : Type 0} (g : Device S) (k : Ghosts (SqlKeeper S g)) (t : TalkGhosts C) (h : LogGhosts L) (layout : LayoutState) (i : ℕ) (group : Option (List ℕ)) (c after : Held S)
+    (talk talk_after : C) (log log_after : L) (ended : ServiceEnd) → i < layout.sites
+    → ServesOver g k t h layout i group c after talk talk_after log log_after ended → EndsLive t layout i group talk talk_after ended
+ends_live g k t h layout i group c after talk talk_after log log_after ended there (inl run) =
+    subst (λ (e : ServiceEnd). EndsLive t layout i group talk talk_after e) (sym run.is_status)
+    (ran k t h layout i group run.keeper run.keeper_after talk talk_after log log_after run.status there run.ends)
+ends_live {C = C} g k t h layout i group c after talk talk_after log log_after ended there (inr none) =
+    subst (λ (e : ServiceEnd). EndsLive t layout i group talk talk_after e) (sym none.is_refused)
+    (subst (λ (x : C). EndsLive t layout i group talk x (refused_store none.error)) (sym none.silent)
+    (refused_end t layout i group talk none.error there))
+
+-- no site was opened
+pub unserved_end : {C : Type 0} (t : TalkGhosts C) (layout : LayoutState) (i : ℕ) (group : Option (List ℕ)) (talk : C) (ended : ServiceEnd) → i < layout.sites → IsUnserved ended
+    → EndsLive t layout i group talk talk ended
+unserved_end t layout i group talk (Ended Memory) there is = (there, refl)
+unserved_end t layout i group talk (Ended (NoStore refusal)) there is = (there, refl)
+unserved_end t layout i group talk (Ended (NoLayout fault)) there is = absurd is
+unserved_end t layout i group talk (Ended Done) there is = absurd is
+unserved_end t layout i group talk (Ended Usage) there is = absurd is
+unserved_end t layout i group talk (Ended Fault) there is = absurd is
+unserved_end t layout i group talk (Ended Refused) there is = absurd is
+unserved_end t layout i group talk (Ended Io) there is = absurd is
+unserved_end t layout i group talk (NoLog refusal) there is = (there, refl)
+unserved_end t layout i group talk LogIsStore there is = (there, refl)
+unserved_end t layout i group talk Unlogged there is = (there, refl)
+unserved_end t layout i group talk (Absent absence) there is = (there, refl)
+unserved_end t layout i group talk Outdated there is = absurd is
+
+pub ends_logged : {S C L : Type 0} (g : Device S) (k : Ghosts (SqlKeeper S g)) (t : TalkGhosts C) (h : LogGhosts L) (layout : LayoutState) (i : ℕ) (group : Option (List ℕ)) (c after : Held S)
+    (talk talk_after : C) (ended : ServiceEnd) → i < layout.sites
+    → LogsOver g k t h layout i group c after talk talk_after ended → EndsLive t layout i group talk talk_after ended
+ends_logged g k t h layout i group c after talk talk_after ended there (inl run) =
+    subst (λ (e : ServiceEnd). EndsLive t layout i group talk talk_after e) (sym run.is_status)
+    (ran k t h layout i group run.keeper_now run.keeper_after talk talk_after run.log run.log_after run.status there run.ends)
+ends_logged {C = C} g k t h layout i group c after talk talk_after ended there (inr (inl none)) =
+    subst (λ (x : C). EndsLive t layout i group talk x ended) (sym none.silent) (unserved_end t layout i group talk ended there none.why)
+ends_logged {C = C} g k t h layout i group c after talk talk_after ended there (inr (inr refused)) =
+    subst (λ (e : ServiceEnd). EndsLive t layout i group talk talk_after e) (sym refused.is_refused)
+    (subst (λ (x : C). EndsLive t layout i group talk x (refused_store refused.error)) (sym refused.silent)
+    (refused_end t layout i group talk refused.error there))

@@ -1,0 +1,44 @@
+use Rattle.std.proofs.Common.{inl, inr, refl}
+use Rattle.live_databases.proofs.serving.serve_live_over.Goals as goal
+
+pub returns-in-Err : goal.returns-in-Err
+returns-in-Err g c = inr (record {
+  error = c.in-Err.error;
+  opened = record {
+    stored = c.in-Err.ensures.store;
+    blank = c.in-Err.ensures.blank;
+    settles = c.in-Err.ensures.settles;
+    own = c.in-Err.ensures.own;
+    settles_or = c.in-Err.ensures.settles_or;
+    own_or = c.in-Err.ensures.own_or;
+    fault = c.in-Err.ensures.fault;
+    judged = c.in-Err.ensures.judged;
+    current = c.in-Err.ensures.current;
+    beside = c.in-Err.ensures.beside;
+  };
+  silent = refl;
+  unlogged = refl;
+  is_refused = c.refused_store.ensures;
+})
+
+pub returns : goal.returns
+returns g c = inl (record {
+  keeper = c.in-Ok.keeper;
+  keeper_after = c.serve_engine-status.result.1;
+  status = c.serve_engine-status.result.0;
+  opened = record {
+    stored = c.in-Ok.ensures.store;
+    blank = c.in-Ok.ensures.blank;
+    settles = c.in-Ok.ensures.settles;
+    own = c.in-Ok.ensures.own;
+    settles_or = c.in-Ok.ensures.settles_or;
+    own_or = c.in-Ok.ensures.own_or;
+    fault = c.in-Ok.ensures.fault;
+    judged = c.in-Ok.ensures.judged;
+    current = c.in-Ok.ensures.current;
+    beside = c.in-Ok.ensures.beside;
+  };
+  ends = c.serve_engine-status.ensures.ended;
+  is_status = refl;
+  handed = c.into_connection.ensures;
+})

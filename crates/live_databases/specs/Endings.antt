@@ -1,0 +1,53 @@
+-- How a service ends: its exit status, and what is then said on standard error (the project's own).
+use Rattle.std.specs.Prelude.{◌≡◌, ℕ, Bool, List, ◌++◌, codes, if◌then◌else◌}
+use Rattle.text_input.specs.Sink.{SinkState}
+use Rattle.exit_status.specs.declared.status.Status.TheVariants.{Fault}
+use Rattle.exit_status.specs.Endings.{Says, status_code, status_line}
+use Rattle.live_databases.specs.declared.service_end.Absence.{Absence}
+use Rattle.live_databases.specs.declared.service_end.Absence.TheVariants.{NoStore, Exists, InUse, WrongGroup}
+use Rattle.live_databases.specs.declared.service_end.ServiceEnd.{ServiceEnd}
+use Rattle.live_databases.specs.declared.service_end.ServiceEnd.TheVariants.{Ended, Absent, NoLog, LogIsStore, Unlogged, Outdated}
+use Rattle.log_file.specs.Refusals.{log_refusal_name}
+use Rattle.site_store.specs.declared.error.OpenError.{OpenError}
+use Rattle.site_store.specs.declared.error.OpenError.TheVariants as opening
+use Rattle.stored_site.specs.StoredSites.{refusal_status}
+
+-- the name that stands for why a database is not served
+abbrev pub absence_name : Absence → List ℕ
+absence_name NoStore = codes "NoStore"
+absence_name Exists = codes "Exists"
+absence_name InUse = codes "InUse"
+absence_name WrongGroup = codes "WrongGroup"
+
+-- how a service ends whose store is refused
+abbrev pub refused_store : OpenError → ServiceEnd
+refused_store opening.WrongGroup = Absent WrongGroup
+refused_store error = Ended (refusal_status error)
+
+-- the exit status of each end
+abbrev pub service_code : ServiceEnd → ℕ
+service_code (Ended status) = status_code status
+service_code (Absent absence) = 5
+service_code (NoLog refusal) = 8
+service_code LogIsStore = 8
+service_code Unlogged = 7
+service_code Outdated = 5
+
+-- what is said on standard error
+abbrev pub service_line : ServiceEnd → List ℕ
+service_line (Ended status) = status_line status
+service_line (Absent absence) = codes "store refused " ++ (absence_name absence ++ codes "\n")
+service_line (NoLog refusal) = codes "log refused " ++ (log_refusal_name refusal ++ codes "\n")
+service_line LogIsStore = codes "log refused IsStore\n"
+service_line Unlogged = codes "io\n"
+service_line Outdated = codes "store refused Outdated\n"
+
+-- the end of a site that serves no more, where some reply told that its store is outdated
+abbrev pub with_note : ServiceEnd → Bool → ServiceEnd
+with_note (Ended Fault) outdated = if outdated then Outdated else Ended Fault
+with_note ended outdated = ended
+
+-- the program ended so: the exit status, and what goes with it on standard error
+pub record EndsServiceWith (ended : ServiceEnd) (errors errors_after : SinkState) (code : ℕ) : Type 0 where
+  pub status : code ≡ service_code ended
+  pub said : Says errors errors_after (service_line ended)

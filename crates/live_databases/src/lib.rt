@@ -1,0 +1,11 @@
+//! The service of one site over the database at a path: whether there is one is judged first, and then its lines are
+//! answered one by one.
+#![tactic(auto)]
+
+pub use databases::{LiveDatabases, Opening, serve_live};
+pub use service_end::{Absence, ServiceEnd};
+pub use serving::{serve_live_over, serve_logged_over};
+
+mod databases;
+mod service_end;
+mod serving;

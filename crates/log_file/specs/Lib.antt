@@ -1,0 +1,11 @@
+pub mod Refusals
+pub mod Runs
+pub mod Pieces
+pub mod Mending
+pub mod Judging
+pub mod Steps
+pub mod Logged
+pub mod Begins
+pub mod NoEntry
+pub mod Opening
+pub mod Errors

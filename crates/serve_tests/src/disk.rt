@@ -1,0 +1,189 @@
+//! A runtime with one file, whose faults the test chooses.
+use std::alloc::{AllocFailed, Allocator, Global};
+use std::cell::RefCell;
+use std::fs::{Metadata, OpenFile, OpenOptions};
+use std::io;
+use std::io::{Error, ErrorKind, Read, Seek, SeekFrom, Write};
+use std::rc::Rc;
+use std::rt::Files;
+
+/// What fails: the opening or a read, in this way, or the writes, or the cuts.
+#[derive(Clone, Copy, Debug, PartialEq, Eq)]
+pub enum Fault {
+    None,
+    Open(ErrorKind),
+    Read(ErrorKind),
+    Write,
+    Cut,
+}
+
+/// A runtime with one file, which is there under each name.
+#[derive(Drop)]
+pub struct Disk {
+    alloc: Global,
+    bytes: Rc<RefCell<Vec<u8>>>,
+    fault: Fault,
+}
+
+impl Disk {
+    /// The file has these bytes.
+    pub fn new(alloc: Global, bytes: Vec<u8>, fault: Fault) -> io::Result<Disk> {
+        let bytes = Rc::new(alloc, RefCell::new(bytes))?;
+        Ok(Disk {
+            alloc,
+            bytes,
+            fault,
+        })
+    }
+
+    /// Whether the file has exactly these bytes.
+    pub fn has(&self, bytes: &[u8]) -> bool {
+        match self.bytes.try_borrow() {
+            Ok(found) => found.as_slice() == bytes,
+            Err(_) => false,
+        }
+    }
+}
+
+impl Alloc for Disk {
+    type A = Global;
+
+    fn alloc(&self) -> Global {
+        self.alloc
+    }
+}
+
+/// The file, read up to a place.
+#[derive(Drop)]
+pub struct DiskFile {
+    bytes: Rc<RefCell<Vec<u8>>>,
+    place: usize,
+    fault: Fault,
+}
+
+fn unsupported() -> Error {
+    Error::from(ErrorKind::Unsupported)
+}
+
+impl Read for DiskFile {
+    fn read(&mut self, buf: &mut [u8]) -> io::Result<usize> {
+        if let Fault::Read(kind) = self.fault {
+            return Err(Error::from(kind));
+        }
+        let Ok(bytes) = self.bytes.try_borrow() else {
+            return Err(unsupported());
+        };
+        let from = self.place.min(bytes.len());
+        let rest = &bytes.as_slice()[from..];
+        let n = buf.len().min(rest.len()).min(40);
+        buf[..n].copy_from_slice(&rest[..n]);
+        self.place = from.saturating_add(n);
+        Ok(n)
+    }
+}
+
+impl Write for DiskFile {
+    fn write(&mut self, buf: &[u8]) -> io::Result<usize> {
+        if self.fault == Fault::Write {
+            return Err(unsupported());
+        }
+        let n = buf.len().min(7);
+        match self.bytes.try_borrow_mut() {
+            Ok(mut bytes) => bytes.extend_from_slice(&buf[..n])?,
+            Err(_) => return Err(unsupported()),
+        }
+        Ok(n)
+    }
+
+    fn flush(&mut self) -> io::Result<()> {
+        Ok(())
+    }
+}
+
+impl Seek for DiskFile {
+    fn seek(&mut self, _to: SeekFrom) -> io::Result<u64> {
+        Err(unsupported())
+    }
+}
+
+impl OpenFile for DiskFile {
+    fn metadata(&self) -> io::Result<Metadata> {
+        Err(unsupported())
+    }
+
+    fn set_len(&self, size: u64) -> io::Result<()> {
+        if self.fault == Fault::Cut {
+            return Err(unsupported());
+        }
+        match self.bytes.try_borrow_mut() {
+            Ok(mut bytes) => bytes.truncate(size as usize),
+            Err(_) => return Err(unsupported()),
+        }
+        Ok(())
+    }
+
+    fn sync_all(&self) -> io::Result<()> {
+        Err(unsupported())
+    }
+
+    fn sync_data(&self) -> io::Result<()> {
+        Ok(())
+    }
+}
+
+impl Files for Disk {
+    type File = DiskFile;
+
+    type Dir = DiskFile;
+
+    // Only a file that is made where there is none, read, and appended to is one of a log.
+    fn open_file(&self, how: &OpenOptions, _path: &str) -> io::Result<DiskFile> {
+        if let Fault::Open(kind) = self.fault {
+            return Err(Error::from(kind));
+        }
+        if !how.asks_read() || !how.asks_append() || !how.asks_create() || how.asks_truncate() {
+            return Err(unsupported());
+        }
+        Ok(DiskFile {
+            bytes: self.bytes.clone()?,
+            place: 0,
+            fault: self.fault,
+        })
+    }
+
+    fn open_dir(&self, _path: &str) -> io::Result<DiskFile> {
+        Err(unsupported())
+    }
+
+    fn metadata(&self, _path: &str) -> io::Result<Metadata> {
+        Err(unsupported())
+    }
+
+    fn symlink_metadata(&self, _path: &str) -> io::Result<Metadata> {
+        Err(unsupported())
+    }
+
+    fn copy(&self, _from: &str, _to: &str) -> io::Result<u64> {
+        Err(unsupported())
+    }
+
+    fn rename(&self, _from: &str, _to: &str) -> io::Result<()> {
+        Err(unsupported())
+    }
+
+    fn remove_file(&self, _path: &str) -> io::Result<()> {
+        Err(unsupported())
+    }
+
+    fn create_dir(&self, _path: &str) -> io::Result<()> {
+        Err(unsupported())
+    }
+
+    fn remove_dir(&self, _path: &str) -> io::Result<()> {
+        Err(unsupported())
+    }
+
+    fn remove_dir_all<B: Allocator>(&self, _alloc: B, _path: &str) -> io::Result<()> {
+        Err(unsupported())
+    }
+}

@@ -1,0 +1,3 @@
+pub mod Notes
+pub mod OneLine
+pub mod Begins
