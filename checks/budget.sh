@@ -25,8 +25,9 @@ awk '
             "site_databases program_shell seat_cli book_tests site_tests serving_tests session_tests store_tests", names, " ")
         for (i = 1; i <= n; i++) first[names[i]] = 1
         n = split("exchange_threads exchange_tests ordered_link exchange_tests ruled_pair exchange_tests test_keepers exchange_tests " \
-            "log_judge judge_tests transcript_text transcript_tests transcript_reader transcript_tests judge_engine run_tests " \
-            "run_engine run_tests line_conversation serve_tests live_site serve_tests serve_engine serve_tests", names, " ")
+            "log_replay judge_tests log_judge judge_tests transcript_text transcript_tests transcript_reader transcript_tests judge_engine run_tests " \
+            "run_engine run_tests line_conversation serve_tests live_site serve_tests serve_engine serve_tests " \
+            "log_file serve_tests service_talk serve_tests", names, " ")
         for (i = 1; i < n; i += 2) tested_by[names[i]] = names[i + 1]
     }
     FILENAME == "crates.txt" { if (/^[a-z]/) { sub(":", "", $1); on_sqlite[$1] = / sqlite/ } next }

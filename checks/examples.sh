@@ -28,5 +28,11 @@ tail -n 1 examples/at_once.txt | cmp -s - "$work/verdict" && [ ! -e "$work/sites
 prints $? at_once.txt "their logs are judged"
 examples/two_sites.sh >"$work/out"
 prints $? two_sites.txt "two sites, with a store each, serve a writer"
+if command -v mosquitto_pub >/dev/null; then
+    examples/three_machines/run.sh >"$work/out"
+    prints $? three_machines/output.txt "three machines exchange deltas through a broker"
+else
+    echo "left out: three machines and a broker (Debian's packages mosquitto and mosquitto-clients are missing)"
+fi
 
 [ "$failed" = 0 ]

@@ -1,12 +1,12 @@
 #!/usr/bin/env python3
 """Runs every command of docs/GUIDE.md in a new folder and compares what it prints.
 
-    checks/guide.py            prints the commands whose output differs; the exit status is 1 then
-    checks/guide.py --write    puts the outputs into the page instead
+    checks/guide.py [--program PATH]            prints the commands whose output differs; the exit status is 1 then
+    checks/guide.py --write [--program PATH]    puts the outputs into the page instead
 
 A command is a line `    $ ..`; the indented lines below it, to the next command or blank line, are its output, standard error
 included. An indented block below `<!-- file: NAME -->` is written to the file NAME first. The program is the launcher at
-the top of the repository."""
+the top of the repository, or the one at PATH."""
 import os
 import pathlib
 import re
@@ -42,10 +42,17 @@ def commands_of(lines):
             yield line[6:], at + 1, to
 
 
+def program():
+    """The program that the commands run."""
+    if "--program" in sys.argv:
+        return pathlib.Path(sys.argv[sys.argv.index("--program") + 1]).resolve()
+    return TOP / "seat_cli"
+
+
 def outputs_of(commands, folder):
     """What each command prints, in one shell."""
     (folder / "bin").mkdir()
-    (folder / "bin/seat_cli").symlink_to(TOP / "seat_cli")
+    (folder / "bin/seat_cli").symlink_to(program())
     script = "".join(f"{{ {text}\n}} 2>&1\necho; echo '{END}'\n" for text in commands)
     ran = subprocess.run(["bash", "-c", script], cwd=folder, stdin=subprocess.DEVNULL, capture_output=True, text=True, check=False,
                          env={**os.environ, "PATH": f"{folder / 'bin'}:{os.environ['PATH']}", "LC_ALL": "C"}, timeout=600)
@@ -63,7 +70,7 @@ def main():
         for file, text in files_of(lines):
             (folder / file).write_text(text, encoding="utf-8")
         outputs = outputs_of([text for text, _, _ in commands], folder)
-    if sys.argv[1:] == ["--write"]:
+    if "--write" in sys.argv:
         for (_, start, to), output in reversed(list(zip(commands, outputs))):
             lines[start:to] = ["    " + row for row in output]
         PAGE.write_text("\n".join(lines), encoding="utf-8")

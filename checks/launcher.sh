@@ -55,7 +55,7 @@ checks/examples.sh >"$work/output" 2>&1 && [ "$(builds)" = 0 ]
 tell $? "every example prints what stands beside it, without a build"
 checks/guide.py >"$work/output" 2>&1 && [ "$(builds)" = 0 ]
 tell $? "the guide's commands print what it shows: $(tail -1 "$work/output")"
-printf 'read a 7\nsend\n' | ./seat_cli site --site 0 --store "$work/site_0.db" >"$work/output" 2>&1 && [ "$(head -1 "$work/output")" = admitted ]
+./seat_cli ask --create --site 0 --store "$work/site_0.db" read a 7 >"$work/output" 2>&1 && [ "$(cat "$work/output")" = admitted ]
 tell $? "the README's third command makes a store and lets a reader in"
 ./seat_cli run --out "$work/sites.log" --layout examples/three_sites.toml <examples/at_once.script 2>"$work/errors" | cmp -s - examples/at_once.txt
 tell $? "the README's fourth command runs three sites at once"
@@ -143,6 +143,27 @@ ends 5 "" "store refused WrongSite" site --site 1 --store "$work/site_0.db" </de
 tell $? "5 for the store of another site"
 ends 5 "" "store refused StoreFault" site --site 0 --store examples </dev/null
 tell $? "5 for a folder in place of a store"
+ends 1 "refused NotHere" "" ask --site 0 --store "$work/site_0.db" leave a 9 </dev/null
+tell $? "1 for a call that is refused"
+ends 5 "" "store refused NoStore" serve --site 0 --store "$work/mistyped.db" </dev/null && [ ! -e "$work/mistyped.db" ]
+tell $? "5 for a service without its store, and none is made"
+ends 5 "" "store refused Exists" serve --site 0 --store "$work/site_0.db" --create </dev/null
+tell $? "5 for a new store where one is"
+ends 5 "" "store refused WrongGroup" ask --site 0 --store "$work/site_0.db" --group crew show a </dev/null
+tell $? "5 for the store of another group"
+ends 0 'crew {"from":0,"rows":[],"v":1}' "" ask --create --site 0 --store "$work/crew.db" --group crew send </dev/null
+tell $? "0 for a store of a group, whose deltas begin with its name"
+ends 5 "" "store refused WrongGroup" ask --site 0 --store "$work/crew.db" show a </dev/null \
+    && ends 5 "" "store refused WrongSite" site --site 0 --store "$work/crew.db" </dev/null
+tell $? "5 for a group's store where none is named"
+ends 2 "" "group refused BadWord" ask --site 0 --store "$work/crew.db" --group Crew show a </dev/null
+tell $? "2 for a name that no group can have"
+ends 8 "" "log refused IsStore" serve --site 0 --store "$work/new.db" --create --log "$work/new.db" </dev/null && [ ! -e "$work/new.db" ]
+tell $? "8 for a log that is the store itself"
+echo "no log" >"$work/no.log"
+ends 8 "" "log refused NotTranscript" serve --site 0 --store "$work/new.db" --create --log "$work/no.log" </dev/null \
+    && [ -z "$(ls "$work"/new.db* 2>/dev/null)" ] && [ "$(cat "$work/no.log")" = "no log" ]
+tell $? "8 for a file that is no log, which stays, and the new store is removed again"
 echo "0 send" | ends 4 "line 1 refused BadWord" "" run --out "$work/run.log" && [ -z "$(ls "$work"/run.log* 2>/dev/null)" ]
 tell $? "4 for a script that is refused, and no file for its logs"
 echo "0 leave a 1" | ends 0 "0: refused NotHere

@@ -1,0 +1,378 @@
+"""Exchanges, over each transport; and the command `watch`."""
+import contextlib
+import io
+import json
+import os
+import pathlib
+import shutil
+import subprocess
+import sys
+import threading
+import time
+import unittest
+
+import zinduroi
+from zinduroi import Command, Counts, Exchange, Folder, Mqtt, TransportFailed
+from zinduroi.watch import main
+
+from .common import PACKAGE, PROGRAM, Broker, Case, wait_for
+
+
+class Listed:
+    """A transport whose texts are lists: what was published, and what is to arrive."""
+
+    def __init__(self):
+        self.published, self.arriving, self.broken = [], [], False
+
+    def publish(self, site, text):
+        if self.broken:
+            raise TransportFailed("broken")
+        self.published.append((site, text))
+
+    def messages(self):
+        if self.broken:
+            raise OSError("broken")
+        texts, self.arriving = self.arriving, []
+        return texts
+
+
+class Rounds(Case):
+    """Rounds one by one."""
+
+    def setUp(self):
+        super().setUp()
+        self.site = self.open()
+        self.listed = Listed()
+        self.exchange = Exchange(self.site, self.listed, every=4, records=["a"])
+
+    def test_sends_what_is_new_and_every_kth_time_anyway(self):
+        self.exchange.round()
+        # Of three seats one is an even share, so two go to the next site before the first text is sent.
+        self.assertEqual(self.site.show("a"), Counts(1, 0, 0))
+        self.assertEqual(self.listed.published, [(0, self.site.send())])
+        for rounds, sent in ((1, 1), (2, 1), (3, 1), (4, 2), (7, 2), (8, 3)):
+            while self.exchange.tally().rounds < rounds + 1:
+                self.exchange.round()
+            self.assertEqual(len(self.listed.published), sent)
+        self.site.call("read a 7")
+        self.exchange.round()
+        self.assertEqual(len(self.listed.published), 4)
+        tally = self.exchange.tally()
+        self.assertEqual((tally.sent, tally.gave, tally.seats, tally.took), (4, 1, 2, 0))
+
+    def test_tries_again_after_a_failure(self):
+        self.listed.broken = True
+        self.exchange.round()
+        self.exchange.round()
+        self.assertEqual(self.exchange.tally().failed, {"OSError": 2, "TransportFailed": 2})
+        self.listed.broken = False
+        self.exchange.round()
+        self.assertEqual(len(self.listed.published), 1)
+
+    def test_counts_what_is_refused(self):
+        row = '{"from":1,"rows":[{"ann":0,"fin":0,"out":%s,"r":%d,"s":1,"taken":0}],"v":1}'
+        self.listed.arriving = ["", "{\n}\n", "x\ny", "{}", row % ("[0,0,0]", 5), row % ("[0,9,0]", 0), row % ("[3,0,0]", 0), self.site.send() + "\n"]
+        self.exchange.round()
+        tally = self.exchange.tally()
+        self.assertEqual(tally.refused, {"NotJson": 2, "NotCanonical": 2, "OtherLayout": 1, "BadRow": 1, "TooManySeats": 1})
+        self.assertEqual((tally.took, tally.rose), (1, 0))
+
+    def test_need_not_help(self):
+        self.exchange.helps = False
+        self.exchange.round()
+        self.assertEqual(self.site.show("a"), Counts(3, 0, 0))
+        self.assertEqual(len(self.listed.published), 1)
+
+    def test_does_not_take_what_it_has_just_sent(self):
+        self.exchange.round()
+        self.listed.arriving = [self.listed.published[0][1]]
+        self.exchange.round()
+        self.assertEqual(self.exchange.tally().took, 0)
+
+    def test_an_older_store_is_found_when_the_exchange_starts(self):
+        self.exchange.round()
+        self.listed.arriving = [self.listed.published[0][1]]
+        old = self.open(store=self.folder / "old.db")
+        with self.assertRaises(zinduroi.OwnRowAhead):
+            Exchange(old, self.listed, records=["a"]).start()
+
+
+class Threads(Case):
+    """Three sites with an exchange each."""
+
+    def run_sites(self, transports, interval=0.05):
+        sites = [self.open(number) for number in range(3)]
+        with contextlib.ExitStack() as stack:
+            exchanges = [stack.enter_context(Exchange(site, transport, interval)) for site, transport in zip(sites, transports)]
+            self.hand_over(sites)
+            tallies = [exchange.tally() for exchange in exchanges]
+        for tally in tallies:
+            self.assertGreater(tally.sent, 0)
+            self.assertGreater(tally.took, 0)
+            self.assertEqual(tally.refused, {})
+        return tallies
+
+    def hand_over(self, sites):
+        """Readers at all sites, then a writer that is alone."""
+        with sites[0].read("a", 1, timeout=60), sites[1].read("a", 1, timeout=60):
+            with self.assertRaises(zinduroi.TimedOut):
+                with sites[2].write("a", 2, timeout=0.5):
+                    self.fail("readers are inside")
+        with sites[2].write("a", 2, timeout=120):
+            self.assertEqual(sites[2].show("a"), Counts(0, 3, 1))
+            for site in sites[:2]:
+                with self.assertRaises(zinduroi.Refused):
+                    with site.read("a", 1):
+                        self.fail("a writer is inside")
+        # The writer's seats spread again, one to each site.
+        self.assertTrue(wait_for(lambda: all(site.show("a").rights == 1 for site in sites)))
+        with sites[0].read("a", 1, timeout=60), sites[1].read("a", 1, timeout=60), sites[2].read("a", 1, timeout=60):
+            pass
+
+    def test_folder(self):
+        tallies = self.run_sites([Folder(self.folder) for _ in range(3)])
+        self.assertEqual([tally.failed for tally in tallies], [{}, {}, {}])
+        self.assertEqual(sorted(path.name for path in self.folder.iterdir() if "delta" in path.name or "part" in path.name),
+                         ["0.delta", "1.delta", "2.delta"])
+
+    def test_commands(self):
+        (self.folder / "texts").mkdir()
+        publish = f"cat > {self.folder}/$ZINDUROI_SITE.new && mv {self.folder}/$ZINDUROI_SITE.new {self.folder}/texts/$ZINDUROI_SITE"
+        tallies = self.run_sites([Command(publish, f"cat {self.folder}/texts/*") for _ in range(3)])
+        self.assertLessEqual(set(tallies[0].failed), {"TransportFailed"})
+
+    def test_mqtt(self):
+        broker = self.broker()
+        self.run_sites([Mqtt("test", "127.0.0.1", broker.port) for _ in range(3)], interval=0.5)
+
+    def broker(self):
+        if Broker.program() is None or shutil.which("mosquitto_pub") is None:
+            self.skipTest("mosquitto and mosquitto-clients are not installed")
+        broker = Broker(self.folder)
+        self.assertTrue(broker.start())
+        self.addCleanup(broker.stop)
+        return broker
+
+    def test_mqtt_keeps_to_its_interval(self):
+        """Readers that come and go change what a site knows all the time; their own texts come back, and wake nobody."""
+        broker = self.broker()
+        sites = [self.open(number) for number in range(2)]
+        stop = threading.Event()
+
+        def read(site):
+            while not stop.is_set():
+                with contextlib.suppress(zinduroi.Refused):
+                    with site.read("a", 1):
+                        pass
+
+        with contextlib.ExitStack() as stack:
+            exchanges = [stack.enter_context(Exchange(site, Mqtt("test", "127.0.0.1", broker.port), 2.0)) for site in sites]
+            threads = [threading.Thread(target=read, args=(site,)) for site in sites]
+            for thread in threads:
+                thread.start()
+            self.assertTrue(wait_for(lambda: all(sum(site.show("a")[:2]) > 0 for site in sites)))
+            before = [exchange.tally() for exchange in exchanges]
+            time.sleep(9)
+            after = [exchange.tally() for exchange in exchanges]
+            stop.set()
+            for thread in threads:
+                thread.join()
+        for early, late in zip(before, after):
+            self.assertLessEqual(late.rounds - early.rounds, 6)
+            self.assertLessEqual(late.sent - early.sent, 6 + late.gave - early.gave)
+            self.assertGreaterEqual(late.sent - early.sent, 2)
+
+    def test_a_broker_that_goes_away(self):
+        broker = self.broker()
+        here, there = self.open(0), self.open(1)
+        with Exchange(here, Mqtt("g", "127.0.0.1", broker.port), 0.2, every=3) as first:
+            self.assertTrue(wait_for(lambda: first.tally().sent > 0))
+            broker.stop()
+            self.assertTrue(wait_for(lambda: first.tally().failed["TransportFailed"] > 1))
+            with Exchange(there, Mqtt("g", "127.0.0.1", broker.port), 0.2):
+                here.give("a", 1, 1)
+                self.assertEqual(there.show("a").rights, 0)
+                broker.start()
+                self.assertTrue(wait_for(lambda: there.show("a").rights > 0))
+
+    def test_a_service_that_is_killed(self):
+        site = self.open()
+        with Exchange(site, Folder(self.folder), 0.05) as exchange:
+            self.assertTrue(wait_for(lambda: exchange.tally().sent > 0))
+            os.kill(site.pid, 9)
+            self.assertTrue(wait_for(lambda: isinstance(exchange.failure, zinduroi.ServiceEnded)))
+            site.reopen(wait=10)
+            self.assertTrue(wait_for(lambda: exchange.failure is None))
+            site.give("a", 2, 1)
+            text = site.send()
+            self.assertTrue(wait_for(lambda: (self.folder / "0.delta").read_text(encoding="utf-8") == text + "\n"))
+
+    def test_a_site_that_freezes(self):
+        site = self.open()
+        other = self.open(store=self.folder / "twice.db")
+        other.give("a", 1, 3)
+        with Exchange(site, Folder(self.folder), 0.05) as exchange:
+            (self.folder / "1.delta").write_text(other.send(), encoding="utf-8")
+            self.assertTrue(wait_for(lambda: isinstance(exchange.failure, zinduroi.OwnRowAhead)))
+
+    def test_callers_come_between_the_lines_of_a_round(self):
+        names = [f"r{number}" for number in range(256)]
+        layout = self.write_layout("wide.toml", 16, *((name, 65535, 0, 2) for name in names))
+        site = self.open(store=self.folder / "wide.db", layout=layout)
+        longest, stop = 0.0, threading.Event()
+        with Exchange(site, Folder(self.folder), 0.01) as exchange:
+            self.assertEqual(len(exchange.records), 256)
+            while exchange.tally().gave < 20:
+                before = time.monotonic()
+                site.show("r0")
+                longest = max(longest, time.monotonic() - before)
+            gave = exchange.tally().gave
+        stop.set()
+        self.assertLess(longest, 10)
+        self.assertLessEqual(gave, 256)
+
+
+def running(word):
+    """The processes that have this word on their command line."""
+    found = []
+    for path in pathlib.Path("/proc").glob("[0-9]*/cmdline"):
+        try:
+            if word in path.read_text(encoding="utf-8", errors="replace"):
+                found.append(path)
+        except OSError:
+            pass
+    return found
+
+
+class Transports(Case):
+    """Transports by themselves."""
+
+    def test_folder(self):
+        folder = Folder(self.folder)
+        self.assertEqual(list(folder.messages()), [])
+        folder.publish(2, "x")
+        (self.folder / "no.delta").write_text("y", encoding="utf-8")
+        (self.folder / "3.delta").write_bytes(b"\xff\n")
+        self.assertEqual(list(folder.messages()), ["x\n", "\ufffd\n"])
+        self.assertEqual(list(folder.messages()), [])
+        Folder(self.folder).publish(2, "x")
+        self.assertEqual(list(folder.messages()), ["x\n"])
+        with self.assertRaises(OSError):
+            Folder(self.folder / "none").publish(0, "x")
+        with self.assertRaises(OSError):
+            Folder(self.folder / "none").messages()
+
+    def test_command(self):
+        command = Command(f"cat > {self.folder}/$ZINDUROI_SITE", f"cat {self.folder}/1", timeout=1)
+        with self.assertRaises(TransportFailed):
+            command.messages()
+        command.publish(1, "x")
+        self.assertEqual(command.messages(), ["x"])
+        with self.assertRaises(TransportFailed) as caught:
+            Command("echo no >&2; exit 3", "sleep 60", timeout=0.3).publish(0, "x")
+        self.assertIn("no", str(caught.exception))
+        before = time.monotonic()
+        with self.assertRaises(TransportFailed):
+            Command("", "sleep 60; true", timeout=0.3).messages()
+        self.assertLess(time.monotonic() - before, 30)
+
+    def test_mqtt_with_large_and_odd_texts(self):
+        if Broker.program() is None or shutil.which("mosquitto_pub") is None:
+            self.skipTest("mosquitto and mosquitto-clients are not installed")
+        broker = Broker(self.folder)
+        self.assertTrue(broker.start())
+        self.addCleanup(broker.stop)
+        mine, theirs = Mqtt("g1", "127.0.0.1", broker.port), Mqtt("g1", "127.0.0.1", broker.port)
+        self.addCleanup(mine.close)
+        self.addCleanup(theirs.close)
+        other = Mqtt("g2", "127.0.0.1", broker.port)
+        self.addCleanup(other.close)
+        mine.publish(0, "old")
+        mine.publish(0, "x" * 2_097_152)
+        mine.publish(15, '{"v":1} %t')
+        found = []
+        self.assertTrue(wait_for(lambda: found.extend(theirs.messages()) or len(found) == 2))
+        self.assertEqual(sorted(map(len, found)), [10, 2_097_152])
+        self.assertIn('{"v":1} %t', found)
+        self.assertEqual(list(other.messages()), [])
+        for bad in ("", "a b", "a/b", "+", "#"):
+            with self.assertRaises(ValueError):
+                Mqtt(bad)
+
+    def test_mqtt_leaves_no_process(self):
+        broker = Broker(self.folder)
+        if Broker.program() is None or shutil.which("mosquitto_sub") is None:
+            self.skipTest("mosquitto and mosquitto-clients are not installed")
+        self.assertTrue(broker.start())
+        self.addCleanup(broker.stop)
+        script = ("import sys, time; from zinduroi import Mqtt; mqtt = Mqtt('left', '127.0.0.1', int(sys.argv[1])); mqtt.messages()\n"
+                  "print('started', flush=True); time.sleep(600)")
+        process = subprocess.Popen([sys.executable, "-c", script, str(broker.port)], cwd=PACKAGE, stdout=subprocess.PIPE, text=True)
+        self.assertEqual(process.stdout.readline(), "started\n")
+        self.assertTrue(wait_for(lambda: len(running("zinduroi/left/+")) >= 2))
+        process.kill()
+        process.communicate()
+        self.assertTrue(wait_for(lambda: not running("zinduroi/left/+")))
+
+    def test_mqtt_without_a_broker(self):
+        broker = Broker(self.folder)
+        mqtt = Mqtt("g", "127.0.0.1", broker.port)
+        self.addCleanup(mqtt.close)
+        if shutil.which("mosquitto_pub") is None:
+            self.skipTest("mosquitto-clients is not installed")
+        with self.assertRaises(TransportFailed):
+            mqtt.publish(0, "x")
+        with self.assertRaises(TransportFailed):
+            wait_for(lambda: mqtt.messages() and False, 5)
+
+
+class Watch(Case):
+    """`python -m zinduroi watch`"""
+
+    def watch(self, *words):
+        output, errors = io.StringIO(), io.StringIO()
+        with contextlib.redirect_stdout(output), contextlib.redirect_stderr(errors):
+            try:
+                status = main(["watch", "--once", *map(str, words)])
+            except SystemExit as ended:
+                status = ended.code
+        return status, output.getvalue(), errors.getvalue()
+
+    def test_files_of_exchanges(self):
+        sites = [self.open(0), self.open(1)]
+        files = [self.folder / f"{number}.status" for number in range(2)]
+        sites[0].call("read a 7")
+        sites[0].announce("a", 8)
+        with contextlib.ExitStack() as stack:
+            for site, file in zip(sites, files):
+                stack.enter_context(Exchange(site, Listed(), 0.1, records=["a", "b"], status=file))
+            self.assertTrue(wait_for(lambda: all(file.exists() for file in files)))
+        status, output, errors = self.watch("--status", *files)
+        self.assertEqual((status, errors), (0, ""))
+        rows = [line.split(None, 7) for line in output.splitlines()]
+        self.assertEqual(rows[0], ["record", "site", "free", "taken", "writers", "age", "sessions"])
+        self.assertEqual([row[:5] for row in rows[1:]],
+                         [["a", "0", "2", "1", "1"], ["a", "1", "0", "0", "0"], ["b", "0", "0", "0", "0"], ["b", "1", "2", "0", "0"]])
+        self.assertEqual(rows[1][7], "7 reader, 8 waiting")
+        self.assertEqual(json.loads(files[1].read_text(encoding="utf-8"))["exchange"]["gave"], 1)
+        (self.folder / "bad.status").write_text("{}", encoding="utf-8")
+        status, output, errors = self.watch("--status", files[0], self.folder / "bad.status", self.folder / "none.status")
+        self.assertEqual(status, 1)
+        self.assertIn("bad.status: not a state", output)
+        self.assertIn("none.status: No such file", output)
+
+    def test_store(self):
+        site = self.open()
+        site.call("read a 7")
+        words = ["--site", 0, "--store", self.folder / "0.db", "--layout", self.layout, "--program", PROGRAM]
+        self.assertEqual(self.watch(*words), (1, "", "zinduroi: store refused InUse\n"))
+        site.close()
+        status, output, _ = self.watch(*words)
+        self.assertEqual(status, 0)
+        self.assertEqual([line.split()[:5] for line in output.splitlines()[1:]], [["a", "0", "2", "1", "0"], ["b", "0", "0", "0", "0"]])
+        self.assertEqual(self.watch("--site", 0)[0], 2)
+        self.assertEqual(self.watch()[0], 2)
+
+
+if __name__ == "__main__":
+    unittest.main()

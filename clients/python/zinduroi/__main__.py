@@ -1,0 +1,6 @@
+"""`python -m zinduroi`"""
+import sys
+
+from .watch import main
+
+sys.exit(main())

@@ -1,0 +1,151 @@
+"""The program `serve` as a process, two pipes to it, and the thread that keeps them in step."""
+from __future__ import annotations
+
+import queue
+import subprocess
+import tempfile
+import threading
+from typing import IO, List, Optional, Sequence, Tuple, Union
+
+from .errors import LayoutRefused, LogRefused, ServiceEnded, StoreRefused, ZinduroiError
+
+_NAMED = {"store refused ": StoreRefused, "layout refused ": LayoutRefused, "log refused ": LogRefused}
+
+
+class Call:
+    """A line on its way to the service, and its reply on the way back."""
+
+    __slots__ = ("line", "reply", "failure", "claim", "done")
+
+    def __init__(self, line: bytes) -> None:
+        self.line = line
+        self.reply: Optional[str] = None
+        self.failure: Optional[ZinduroiError] = None
+        self.claim = threading.Lock()
+        self.done = threading.Event()
+
+
+class Service:
+    """One process of `serve`.
+
+    A thread writes a line and reads its reply, one call after the other, in the order in which callers came. Exceptions that
+    interrupt a caller, such as `KeyboardInterrupt`, never reach that thread; so no reply is taken for that of another call."""
+
+    def __init__(self, command: Sequence[str]) -> None:
+        self._errors: IO[bytes] = tempfile.TemporaryFile()
+        # A session of its own: Ctrl-C at a terminal ends the callers, who still have to leave, and not the service.
+        try:
+            self._process = subprocess.Popen(command, stdin=subprocess.PIPE, stdout=subprocess.PIPE, stderr=self._errors,
+                                             start_new_session=True)
+        except BaseException:
+            self._errors.close()
+            raise
+        self._calls: "queue.SimpleQueue[Optional[Call]]" = queue.SimpleQueue()
+        self._door = threading.Lock()
+        self._closed = False
+        self._ended: Optional[Tuple[int, str]] = None
+        self._thread = threading.Thread(target=self._work, name="zinduroi service", daemon=True)
+        self._thread.start()
+
+    @property
+    def pid(self) -> int:
+        """The number of the process."""
+        return self._process.pid
+
+    @property
+    def has_ended(self) -> bool:
+        """Whether the process has ended, as far as a call has noticed."""
+        return self._ended is not None
+
+    def run(self, call: Call) -> str:
+        """Waits for the reply. An exception that comes meanwhile drops the call if it has not begun; else the reply is
+        waited for, so that `call.reply` says what happened, and then the exception goes on."""
+        try:
+            with self._door:
+                if self._closed:
+                    raise ServiceEnded(0, "it was closed") if self._ended is None else ending(*self._ended)
+                self._calls.put(call)
+            call.done.wait()
+        except BaseException:
+            if not call.claim.acquire(blocking=False):
+                call.done.wait()
+            raise
+        if call.failure is not None:
+            raise call.failure
+        assert call.reply is not None
+        return call.reply
+
+    def close(self) -> int:
+        """Serves the calls that wait, ends the service and gives its exit status."""
+        with self._door:
+            if not self._closed:
+                self._closed = True
+                self._calls.put(None)
+        self._thread.join()
+        return self._process.wait()
+
+    def kill(self) -> None:
+        """Ends the process at once."""
+        self._process.kill()
+
+    def _work(self) -> None:
+        while True:
+            call = self._calls.get()
+            if call is None:
+                break
+            if call.claim.acquire(blocking=False):
+                self._carry_out(call)
+                call.done.set()
+        self._end()
+
+    def _carry_out(self, call: Call) -> None:
+        if self._ended is None:
+            try:
+                call.reply = self._exchange(call.line)
+                return
+            except OSError:
+                pass
+            self._end()
+        assert self._ended is not None
+        call.failure = ending(*self._ended)
+
+    def _exchange(self, line: bytes) -> str:
+        """Writes a line and reads the reply. Lines up to 4,096 bytes go into the pipe whole or not at all."""
+        stdin, stdout = self._process.stdin, self._process.stdout
+        assert stdin is not None and stdout is not None
+        stdin.write(line)
+        stdin.flush()
+        reply: bytes = stdout.readline()
+        if not reply.endswith(b"\n"):
+            raise BrokenPipeError
+        return reply[:-1].decode("utf-8", "replace")
+
+    def _end(self) -> None:
+        """Closes the pipes, and finds out how the process ended."""
+        if self._ended is not None:
+            return
+        for pipe in (self._process.stdin, self._process.stdout):
+            try:
+                assert pipe is not None
+                pipe.close()
+            except OSError:
+                pass
+        status = self._process.wait()
+        with self._errors:
+            self._errors.seek(0)
+            self._ended = status, self._errors.read().decode("utf-8", "replace").strip()
+
+
+def ending(status: int, message: str) -> ZinduroiError:
+    """The exception for the end of the program."""
+    for line in message.splitlines():
+        for start, kind in _NAMED.items():
+            if status > 0 and line.startswith(start):
+                return kind(line[len(start):])
+    return ServiceEnded(status, message)
+
+
+def command(program: Union[str, Sequence[str]], *words: Optional[str]) -> List[str]:
+    """The words of a command line."""
+    first = [program] if isinstance(program, str) else list(program)
+    return first + [word for word in words if word is not None]
