@@ -55,8 +55,8 @@ checks/examples.sh >"$work/output" 2>&1 && [ "$(builds)" = 0 ]
 tell $? "every example prints what stands beside it, without a build"
 checks/guide.py >"$work/output" 2>&1 && [ "$(builds)" = 0 ]
 tell $? "the guide's commands print what it shows: $(tail -1 "$work/output")"
-./seat_cli ask --create --site 0 --store "$work/site_0.db" read a 7 >"$work/output" 2>&1 && [ "$(cat "$work/output")" = admitted ]
-tell $? "the README's third command makes a store and lets a reader in"
+./seat_cli ask --create --site 0 --store "$work/site_0.db" show a >"$work/output" 2>&1 && [ "$(cat "$work/output")" = "rights 2 inside 0 unfinished 0" ]
+tell $? "the README's third command makes a store and shows its seats"
 ./seat_cli run --out "$work/sites.log" --layout examples/three_sites.toml <examples/at_once.script 2>"$work/errors" | cmp -s - examples/at_once.txt
 tell $? "the README's fourth command runs three sites at once"
 ./seat_cli judge --layout examples/three_sites.toml <"$work/sites.log" 2>"$work/errors" | tail -1 | grep -q '^consistent$' && [ "$(builds)" = 0 ]
