@@ -162,8 +162,9 @@ ends 8 "" "log refused IsStore" serve --site 0 --store "$work/new.db" --create -
 tell $? "8 for a log that is the store itself"
 echo "no log" >"$work/no.log"
 ends 8 "" "log refused NotTranscript" serve --site 0 --store "$work/new.db" --create --log "$work/no.log" </dev/null \
-    && [ -z "$(ls "$work"/new.db* 2>/dev/null)" ] && [ "$(cat "$work/no.log")" = "no log" ]
-tell $? "8 for a file that is no log, which stays, and the new store is removed again"
+    && [ ! -e "$work/new.db" ] && [ "$(cat "$work/no.log")" = "no log" ] \
+    && ends 0 "" "" serve --site 0 --store "$work/new.db" --create --log "$work/new.log" </dev/null
+tell $? "8 for a file that is no log, which stays; the new store is removed, and can be made with another log"
 echo "0 send" | ends 4 "line 1 refused BadWord" "" run --out "$work/run.log" && [ -z "$(ls "$work"/run.log* 2>/dev/null)" ]
 tell $? "4 for a script that is refused, and no file for its logs"
 echo "0 leave a 1" | ends 0 "0: refused NotHere
