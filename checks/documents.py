@@ -101,7 +101,7 @@ def functions(file, names, is_public):
             owner, shown = block[2], block[1] == "trait" and line.startswith("pub ")
         elif line == "}":
             owner, shown = None, False
-        if now and (line.strip() in ("{", "}") or line.rstrip().endswith(";") or line.strip().endswith("{") and "ensures" not in line):
+        if now and (line.strip() in ("{", "}", "{}") or line.rstrip().endswith(";") or line.strip().endswith("{") and "ensures" not in line):
             yield now
             now = None
         said = re.match(r"^\s*/// ?(.*)$", line)
@@ -128,7 +128,7 @@ def proved():
         names, modules = exported(crate) if (TOP / "crates" / crate / "src" / "lib.rt").exists() else (set(), set())
         rows = []
         for file in sources(crate, "src", ".rt"):
-            is_public = file.stem in modules or file.parent.name in modules
+            is_public = file.stem in modules | {"lib"} or file.parent.name in modules
             for name, text, clauses in functions(file, names, is_public):
                 if clauses:
                     clauses = ", ".join(f"`{one}`" if " " not in one else one for one in dict.fromkeys(clauses))
