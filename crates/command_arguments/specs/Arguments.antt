@@ -1,11 +1,14 @@
 -- What arguments the program takes and how they are read: the project's own command line, by clap's rules.
-use Rattle.std.specs.Prelude.{ℕ, ◌&&◌, nat_le, nat_lt, Bool, true, false, pos, List, [], ◌∷◌, length, Option, Some, None, codes, bytes_eq, option_and_then, unwrap_or, if◌then◌else◌, option_map}
+use Rattle.std.specs.Prelude.{◌≡◌, ℕ, ◌&&◌, nat_le, nat_lt, Bool, true, false, pos, List, [], ◌∷◌, length, Option, Some, None, codes, bytes_eq, option_and_then, unwrap_or, if◌then◌else◌, option_map}
 use Rattle.std.specs.Str.Parse.{digits_value, without_leading_plus}
 use Rattle.std.specs.Option.{option_map_or}
-use Rattle.clap.specs.Words.{App, Kinds, Row, Rule, Shape, Text, fault_of, first_of, new_app, new_rule, one_of, subcommand_of, with_rule, with_subcommand}
+use Rattle.clap.specs.Words.{App, Kinds, Row, Rule, Shape, Text, app_of, fault_of, first_of, new_app, new_rule, one_of, rule_of, subcommand_of, with_rule, with_subcommand}
 use Rattle.clap.specs.Simple.{on_top}
 use Rattle.clap.specs.ValueTests.{is_numeral}
 use Rattle.clap.specs.declared.builder.ArgAction.TheVariants.{Set, SetTrue}
+use Rattle.clap.specs.declared.builder.arg.Arg.{Arg}
+use Rattle.clap.specs.declared.builder.command.Command.{Command as Parser}
+use Rattle.clap.specs.declared.builder.command.Command.TheViews.{out-Command as fields_of}
 use Rattle.clap.specs.declared.builder.value_parser.ValueParser.TheVariants.{Signed}
 use Rattle.command_arguments.specs.declared.arguments.Command.{Command}
 use Rattle.command_arguments.specs.declared.arguments.Words.{Words}
@@ -130,11 +133,23 @@ with_settings top = record top {
   disable_help_subcommand = true;
 }
 
+-- the program with no command yet
+abbrev pub bare_program : App
+bare_program = on_top with_settings (new_app (codes "seat_cli"))
+
+-- what clap is told is this command, none of whose options is for all commands below it
+abbrev pub Offers : App → Parser → Type 0
+Offers app built = (app_of built ≡ app) × ((fields_of built).has_globals ≡ false)
+
+-- what clap is told is this option, and is not for all commands below
+abbrev pub IsOption : Rule → Arg → Type 0
+IsOption rule option = (rule_of option ≡ rule) × (option.global ≡ false)
+
 -- the program, whose commands are `join`, `play`, `site`, `serve`, `ask`, `judge` and `run`
 abbrev pub program : App
 program =
     with_subcommand (with_subcommand (with_subcommand (with_subcommand
-    (with_subcommand (with_subcommand (with_subcommand (on_top with_settings (new_app (codes "seat_cli")))
+    (with_subcommand (with_subcommand (with_subcommand bare_program
     join_command.top) play_command.top) site_command.top) serve_command.top) ask_command.top) judge_command.top) run_command.top
 
 -- whether a flag's text is `true`

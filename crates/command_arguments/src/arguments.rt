@@ -1,7 +1,6 @@
 ghost use Rattle.std.specs.Prelude.{◌≡◌, ◌≤◌, codes, false, length, map, IfOk, IsOk, option_map, string_bytes};
-ghost use Rattle.clap.specs.Words.{FailsBy, app_of, found_of, rows_of, rule_of, subcommand_rows_of};
-ghost use Rattle.clap.specs.declared.builder.command.Command.TheViews.{out-Command as fields_of};
-ghost use Rattle.command_arguments.specs.Arguments.{ask_command, asked_command, asked_cut, asked_group, asked_layout, asked_log, asked_out, asked_store, asked_words, command_in, command_of, create_flag, create_in, first_word, join_command, judge_command, none_said, number_option, play_command, program, run_command, serve_command, serving_command, site_command, site_in, site_option, store_option, tables_flag, text_option, turns_in, turns_option, usage_errors, value_in, wait_in, word, words_at, words_in, words_of};
+ghost use Rattle.clap.specs.Words.{App, FailsBy, Rule, app_of, found_of, new_app, rows_of, rule_of, subcommand_rows_of, with_rule, with_subcommand};
+ghost use Rattle.command_arguments.specs.Arguments.{IsOption, Offers, ask_command, asked_command, asked_cut, asked_group, asked_layout, asked_log, asked_out, asked_store, asked_words, bare_program, command_in, command_of, create_flag, create_in, first_word, join_command, judge_command, none_said, number_option, play_command, program, run_command, serve_command, serving_command, site_command, site_in, site_option, store_option, tables_flag, text_option, turns_in, turns_option, usage_errors, value_in, wait_in, word, words_at, words_in, words_of};
 
 use crate::help;
 use clap::builder::ValueParser;
@@ -243,13 +242,20 @@ fn turns_in(found: &ArgMatches) -> u16
 fn parser<'a>(alloc: Global) -> Result<Parser<'a>, AllocError>
     ensures { IfOk result (λ built. app_of built ≡ program) }
 {
-    let join = join_parser(alloc)?;
-    let play = play_parser(alloc)?;
-    let site = site_parser(alloc)?;
-    let serve = serve_parser(alloc)?;
-    let ask = ask_parser(alloc)?;
-    let judge = judge_parser(alloc)?;
-    let run = run_parser(alloc)?;
+    let program = Ok(bare_program(alloc));
+    let program = with_command(program, join_parser(alloc));
+    let program = with_command(program, play_parser(alloc));
+    let program = with_command(program, site_parser(alloc));
+    let program = with_command(program, serve_parser(alloc));
+    let program = with_command(program, ask_parser(alloc));
+    let program = with_command(program, judge_parser(alloc));
+    with_command(program, run_parser(alloc))
+}
+
+// The program with no command yet.
+fn bare_program<'a>(alloc: Global) -> Parser<'a>
+    ensures { Offers bare_program result }
+{
     Parser::new(alloc, "seat_cli")
         .version("0.1.0")
         .override_usage("seat_cli [COMMAND]")
@@ -257,57 +263,76 @@ fn parser<'a>(alloc: Global) -> Result<Parser<'a>, AllocError>
         .after_help(help::PROGRAM_NOTES)
         .subcommand_required(true)
         .disable_help_subcommand(true)
-        .subcommand(join)?
-        .subcommand(play)?
-        .subcommand(site)?
-        .subcommand(serve)?
-        .subcommand(ask)?
-        .subcommand(judge)?
-        .subcommand(run)
+}
+
+// The program with one more command, where memory sufficed for both. It takes results, so that the exits for want of
+// memory are proved here alone, and not once in each step of `parser`.
+fn with_command<'a>(
+    program: Result<Parser<'a>, AllocError>,
+    command: Result<Parser<'a>, AllocError>,
+) -> Result<Parser<'a>, AllocError>
+    ensures { (before : App) (added : App) → IfOk program.entry (Offers before) → IfOk command.entry (Offers added)
+        → IfOk result (Offers (with_subcommand before added.top)) }
+{
+    program?.subcommand(command?)
+}
+
+// A command with no option yet.
+fn bare_command<'a>(
+    alloc: Global,
+    name: &'a str,
+    usage: &'a str,
+    about: &'a str,
+    notes: &'a str,
+) -> Parser<'a>
+    ensures { Offers (new_app name.entry.now) result }
+{
+    Parser::new(alloc, name)
+        .override_usage(usage)
+        .about(about)
+        .after_help(notes)
+}
+
+// The command with one more option, where memory sufficed for it. It takes a result for the same reason.
+fn with_option<'a>(
+    command: Result<Parser<'a>, AllocError>,
+    option: Arg<'a>,
+) -> Result<Parser<'a>, AllocError>
+    ensures { (before : App) (rule : Rule) → IfOk command.entry (Offers before) → IsOption rule option.entry
+        → IfOk result (Offers (with_rule before rule)) }
+{
+    command?.arg(option)
 }
 
 // The command `join`.
 fn join_parser<'a>(alloc: Global) -> Result<Parser<'a>, AllocError>
-    ensures { IfOk result (λ built. (app_of built ≡ join_command) × ((fields_of built).has_globals ≡ false)) }
+    ensures { IfOk result (Offers join_command) }
 {
-    let layout = layout_option(alloc);
-    Parser::new(alloc, "join")
-        .override_usage("seat_cli join [--layout FILE]")
-        .about(help::JOIN)
-        .after_help(help::JOIN_NOTES)
-        .arg(layout)
+    let usage = "seat_cli join [--layout FILE]";
+    let command = Ok(bare_command(alloc, "join", usage, help::JOIN, help::JOIN_NOTES));
+    with_option(command, layout_option(alloc))
 }
 
 // The command `play`.
 fn play_parser<'a>(alloc: Global) -> Result<Parser<'a>, AllocError>
-    ensures { IfOk result (λ built. (app_of built ≡ play_command) × ((fields_of built).has_globals ≡ false)) }
+    ensures { IfOk result (Offers play_command) }
 {
-    let tables = tables_flag(alloc);
-    let first = number_option(alloc, "from", "M", help::FIRST);
-    let layout = layout_option(alloc);
-    Parser::new(alloc, "play")
-        .override_usage("seat_cli play [--tables] [--from M] [--layout FILE]")
-        .about(help::PLAY)
-        .after_help(help::PLAY_NOTES)
-        .arg(tables)?
-        .arg(first)?
-        .arg(layout)
+    let usage = "seat_cli play [--tables] [--from M] [--layout FILE]";
+    let command = Ok(bare_command(alloc, "play", usage, help::PLAY, help::PLAY_NOTES));
+    let command = with_option(command, tables_flag(alloc));
+    let command = with_option(command, number_option(alloc, "from", "M", help::FIRST));
+    with_option(command, layout_option(alloc))
 }
 
 // The command `site`.
 fn site_parser<'a>(alloc: Global) -> Result<Parser<'a>, AllocError>
-    ensures { IfOk result (λ built. (app_of built ≡ site_command) × ((fields_of built).has_globals ≡ false)) }
+    ensures { IfOk result (Offers site_command) }
 {
-    let site = site_option(alloc);
-    let store = store_option(alloc);
-    let layout = layout_option(alloc);
-    Parser::new(alloc, "site")
-        .override_usage("seat_cli site --site I --store FILE [--layout FILE]")
-        .about(help::SITE)
-        .after_help(help::SITE_NOTES)
-        .arg(site)?
-        .arg(store)?
-        .arg(layout)
+    let usage = "seat_cli site --site I --store FILE [--layout FILE]";
+    let command = Ok(bare_command(alloc, "site", usage, help::SITE, help::SITE_NOTES));
+    let command = with_option(command, site_option(alloc));
+    let command = with_option(command, store_option(alloc));
+    with_option(command, layout_option(alloc))
 }
 
 // A command of this name that serves a site.
@@ -318,31 +343,21 @@ fn serving_parser<'a>(
     about: &'a str,
     notes: &'a str,
 ) -> Result<Parser<'a>, AllocError>
-    ensures { IfOk result (λ built. (app_of built ≡ serving_command name.now) × ((fields_of built).has_globals ≡ false)) }
+    ensures { IfOk result (Offers (serving_command name.now)) }
 {
-    let site = site_option(alloc);
-    let store = store_option(alloc);
-    let layout = layout_option(alloc);
-    let group = text_option(alloc, "group", "NAME", help::GROUP);
-    let create = create_flag(alloc);
-    let wait = number_option(alloc, "wait", "SECONDS", help::WAIT);
-    let log = text_option(alloc, "log", "FILE", help::LOG);
-    Parser::new(alloc, name)
-        .override_usage(usage)
-        .about(about)
-        .after_help(notes)
-        .arg(site)?
-        .arg(store)?
-        .arg(layout)?
-        .arg(group)?
-        .arg(create)?
-        .arg(wait)?
-        .arg(log)
+    let command = Ok(bare_command(alloc, name, usage, about, notes));
+    let command = with_option(command, site_option(alloc));
+    let command = with_option(command, store_option(alloc));
+    let command = with_option(command, layout_option(alloc));
+    let command = with_option(command, text_option(alloc, "group", "NAME", help::GROUP));
+    let command = with_option(command, create_flag(alloc));
+    let command = with_option(command, number_option(alloc, "wait", "SECONDS", help::WAIT));
+    with_option(command, text_option(alloc, "log", "FILE", help::LOG))
 }
 
 // The command `serve`.
 fn serve_parser<'a>(alloc: Global) -> Result<Parser<'a>, AllocError>
-    ensures { IfOk result (λ built. (app_of built ≡ serve_command) × ((fields_of built).has_globals ≡ false)) }
+    ensures { IfOk result (Offers serve_command) }
 {
     let usage =
         "seat_cli serve --site I --store FILE [--layout FILE] [--group NAME] [--create] [--wait SECONDS] [--log FILE]";
@@ -351,49 +366,36 @@ fn serve_parser<'a>(alloc: Global) -> Result<Parser<'a>, AllocError>
 
 // The command `ask`.
 fn ask_parser<'a>(alloc: Global) -> Result<Parser<'a>, AllocError>
-    ensures { IfOk result (λ built. (app_of built ≡ ask_command) × ((fields_of built).has_globals ≡ false)) }
+    ensures { IfOk result (Offers ask_command) }
 {
-    let first = first_word(alloc);
-    let second = word(alloc, "word2", help::WORD2);
-    let third = word(alloc, "word3", help::WORD3);
-    let fourth = word(alloc, "word4", help::WORD4);
     let usage =
         "seat_cli ask --site I --store FILE [--layout FILE] [--group NAME] [--create] [--wait SECONDS] [--log FILE] WORD..";
-    serving_parser(alloc, "ask", usage, help::ASK, help::ASK_NOTES)?
-        .arg(first)?
-        .arg(second)?
-        .arg(third)?
-        .arg(fourth)
+    let command = serving_parser(alloc, "ask", usage, help::ASK, help::ASK_NOTES);
+    let command = with_option(command, first_word(alloc));
+    let command = with_option(command, word(alloc, "word2", help::WORD2));
+    let command = with_option(command, word(alloc, "word3", help::WORD3));
+    with_option(command, word(alloc, "word4", help::WORD4))
 }
 
 // The command `judge`.
 fn judge_parser<'a>(alloc: Global) -> Result<Parser<'a>, AllocError>
-    ensures { IfOk result (λ built. (app_of built ≡ judge_command) × ((fields_of built).has_globals ≡ false)) }
+    ensures { IfOk result (Offers judge_command) }
 {
-    let cut = text_option(alloc, "cut", "C", help::CUT);
-    let layout = layout_option(alloc);
-    Parser::new(alloc, "judge")
-        .override_usage("seat_cli judge [--cut C] [--layout FILE]")
-        .about(help::JUDGE)
-        .after_help(help::JUDGE_NOTES)
-        .arg(cut)?
-        .arg(layout)
+    let usage = "seat_cli judge [--cut C] [--layout FILE]";
+    let command = Ok(bare_command(alloc, "judge", usage, help::JUDGE, help::JUDGE_NOTES));
+    let command = with_option(command, text_option(alloc, "cut", "C", help::CUT));
+    with_option(command, layout_option(alloc))
 }
 
 // The command `run`.
 fn run_parser<'a>(alloc: Global) -> Result<Parser<'a>, AllocError>
-    ensures { IfOk result (λ built. (app_of built ≡ run_command) × ((fields_of built).has_globals ≡ false)) }
+    ensures { IfOk result (Offers run_command) }
 {
-    let turns = turns_option(alloc);
-    let out = text_option(alloc, "out", "FILE", help::OUT);
-    let layout = layout_option(alloc);
-    Parser::new(alloc, "run")
-        .override_usage("seat_cli run [--turns T] [--out FILE] [--layout FILE]")
-        .about(help::RUN)
-        .after_help(help::RUN_NOTES)
-        .arg(turns)?
-        .arg(out)?
-        .arg(layout)
+    let usage = "seat_cli run [--turns T] [--out FILE] [--layout FILE]";
+    let command = Ok(bare_command(alloc, "run", usage, help::RUN, help::RUN_NOTES));
+    let command = with_option(command, turns_option(alloc));
+    let command = with_option(command, text_option(alloc, "out", "FILE", help::OUT));
+    with_option(command, layout_option(alloc))
 }
 
 // The option `--layout FILE`.

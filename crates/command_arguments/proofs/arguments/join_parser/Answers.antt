@@ -1,17 +1,7 @@
-use Rattle.std.proofs.Common.{◌≡◌, ◌∙◌, Bool, ◌||◌, rules, ap, ap₂, codes, false}
-use Rattle.std.proofs.lemmas.Result.{IfOk-weaker}
-use Rattle.clap.specs.Words.{app_of, new_app, with_rule}
-use Rattle.clap.specs.declared.builder.command.Command.TheViews.{out-Command}
-use Rattle.clap.specs.Simple.{app_of_fields}
 use Rattle.command_arguments.proofs.arguments.join_parser.Goals as goal
 
 pub returns : goal.returns
 returns c =
-    let layout = c.layout_option-layout.ensures in
-    let none_before : (out-Command c.after_help.result).has_globals ≡ false = search rules in
-    let blank_is : app_of c.after_help.result ≡ new_app (codes "join") =
-    ap app_of_fields c.after_help.ensures ∙ ap app_of_fields c.about.ensures ∙ ap app_of_fields c.override_usage.ensures ∙ c.new.ensures.app in
-    IfOk-weaker c.arg.result _ _ (λ built added. (
-      added.shape layout.local ∙ ap₂ with_rule blank_is layout.rule,
-      added.globals ∙ ap₂ (λ (a : Bool) (b : Bool). a || b) none_before layout.local,
-    )) c.arg.ensures
+    let layout = c.layout_option.ensures in
+    let bare = c.bare_command.ensures in
+    c.with_option.ensures _ _ bare (layout.rule, layout.local)

@@ -1,23 +1,11 @@
-use Rattle.std.proofs.Common.{◌≡◌, ◌∙◌, Bool, ◌||◌, rules, ap, ap₂, codes, false}
-use Rattle.std.proofs.lemmas.Result.{IfOk-weaker}
-use Rattle.clap.specs.Words.{app_of, new_app, with_rule}
-use Rattle.clap.specs.declared.builder.command.Command.TheViews.{out-Command}
-use Rattle.clap.specs.Simple.{app_of_fields}
 use Rattle.command_arguments.proofs.arguments.play_parser.Goals as goal
 
 pub returns : goal.returns
 returns c =
-    let tables = c.tables_flag-tables.ensures in
-    let first = c.number_option-first.ensures in
-    let layout = c.layout_option-layout.ensures in
-    let none_before : (out-Command c.after_help.result).has_globals ≡ false = search rules in
-    let either : Bool → Bool → Bool = λ (a : Bool) (b : Bool). a || b in
-    let blank_is : app_of c.after_help.result ≡ new_app (codes "play") =
-    ap app_of_fields c.after_help.ensures ∙ ap app_of_fields c.about.ensures ∙ ap app_of_fields c.override_usage.ensures ∙ c.new.ensures.app in
-    let with_tables = c.in_ok-arg.ensures.shape tables.local ∙ ap₂ with_rule blank_is tables.rule in
-    let with_first = c.in_ok-arg-2.ensures.shape first.local ∙ ap₂ with_rule with_tables first.rule in
-    let none_yet = c.in_ok-arg-2.ensures.globals ∙ ap₂ either (c.in_ok-arg.ensures.globals ∙ ap₂ either none_before tables.local) first.local in
-    IfOk-weaker c.arg-3.result _ _ (λ built added. (
-      added.shape layout.local ∙ ap₂ with_rule with_first layout.rule,
-      added.globals ∙ ap₂ either none_yet layout.local,
-    )) c.arg-3.ensures
+    let tables = c.tables_flag.ensures in
+    let first = c.number_option.ensures in
+    let layout = c.layout_option.ensures in
+    let bare = c.bare_command.ensures in
+    let with_tables = c.with_option-command.ensures _ _ bare (tables.rule, tables.local) in
+    let with_first = c.with_option-command-2.ensures _ _ with_tables (first.rule, first.local) in
+    c.with_option.ensures _ _ with_first (layout.rule, layout.local)
