@@ -1,5 +1,5 @@
--- Why a call that only reads is refused, other than for want of memory.
-use Rattle.std.proofs.Common.{◌≡◌, ◌≢◌, ◌⊎◌, ◌≤◌, inl, inr, ℕ, Bool, true, false, List, [], length, Option, IsSome, Result, Ok, Err, OnOk, ◌↔◌, refl, sym, ap, subst, subst₂, ◌∙◌, arith}
+-- Why a call that only reads is refused.
+use Rattle.std.proofs.Common.{◌≡◌, ◌≢◌, ◌⊎◌, ◌≤◌, inl, inr, ℕ, Bool, true, false, List, [], length, Option, IsSome, Result, Ok, Err, OnOk, ◌↔◌, sym, ap, subst, subst₂, ◌∙◌, arith}
 use Rattle.std.proofs.lemmas.Bool.{cases_Bool, both_ways}
 use Rattle.sqlite_rules.proofs.ListLemmas.{any_has}
 use Rattle.sqlite_value.specs.Order.{Row}
@@ -34,7 +34,7 @@ use Rattle.store_rows.proofs.SelectLemmas.{reads}
 use Rattle.store_rows.proofs.RefusalLemmas.{IsBare, IsWhole}
 use Rattle.store_tables.specs.declared.reads.Unread.{Unread}
 use Rattle.store_tables.specs.declared.reads.Unread.TheVariants.{Memory, Failed}
-use Rattle.store_tables.specs.Refusals.{HasRefused}
+use Rattle.store_tables.specs.Refusals.{HasRefused, HasLackedMemory}
 
 -- ---- between more moments
 
@@ -55,16 +55,23 @@ refused_since a b c one clean later (inr (inl shut)) = elim (cases_Bool a.is_ope
 
 -- ---- one call
 
-fails : (old new : State) (e : Error) → e ≢ SqliteFailure OutOfMemory → Fails old new ⊥ e → HasRefused old new
-fails old new e other h = by h.0 (λ is. other (h.1 ∙ ap Rattle.sqlite.specs.State.store_error is)) h.2
+-- a call that failed was refused, or the database had no memory for it
+fails_either : (old new : State) (e : Error) → Fails old new ⊥ e → HasRefused old new ⊎ ((e ≡ SqliteFailure OutOfMemory) × HasLackedMemory old new)
+fails_either old new e h = by h.0 h.1 h.2
   where
-    by : (cause : StoreError) → (cause ≡ store.OutOfMemory → ⊥) → Rattle.sqlite.specs.State.HasCause old new ⊥ cause → HasRefused old new
-    by store.OutOfMemory none why = absurd (none refl)
-    by store.Io none why = inl why
-    by store.Corrupt none why = inl why
-    by store.Full none why = inl why
-    by store.Broken none why = inr (inl why)
-    by store.Unstorable none why = absurd why
+    by : (cause : StoreError) → e ≡ Rattle.sqlite.specs.State.store_error cause → Rattle.sqlite.specs.State.HasCause old new ⊥ cause → HasRefused old new ⊎ ((e ≡ SqliteFailure OutOfMemory) × HasLackedMemory old new)
+    by store.OutOfMemory is why = inr (is, subst (λ (x : Error). Fails old new ⊥ x) is h)
+    by store.Io is why = inl (inl why)
+    by store.Corrupt is why = inl (inl why)
+    by store.Full is why = inl (inl why)
+    by store.Broken is why = inl (inr (inl why))
+    by store.Unstorable is why = absurd why
+
+fails : (old new : State) (e : Error) → e ≢ SqliteFailure OutOfMemory → Fails old new ⊥ e → HasRefused old new
+fails old new e other h = elim (fails_either old new e h) [
+  | inl why ↦ why
+  | inr lacked ↦ absurd (other lacked.0)
+]
 
 module _ (sql : List ℕ) (old new : State) (whole : IsWhole sql (understood old.now.schema sql)) (plain : IsPlain (understood old.now.schema sql)) where
   is_statement : (e : Error) → IsNoStatement old sql [] e → ⊥
@@ -95,15 +102,22 @@ unfolding IsNotRun
 two_same sql old new params (inl h) = h.1
 two_same sql old new params (inr h) = absurd (not_failed h.0 h.1)
 
--- and for another reason only where the device refused it
+-- and for another reason only where the device refused it or the database had no memory
+pub two_refused_either : (sql : List ℕ) (old new : State) → IsBare (understood old.now.schema sql) → IsPlain (understood old.now.schema sql) → (e : Error) → e ≢ MultipleStatement → IsNotRun old new sql [] e
+    → HasRefused old new ⊎ ((e ≡ SqliteFailure OutOfMemory) × HasLackedMemory old new)
+unfolding IsNotRun
+two_refused_either sql old new bare plain e alone (inr h) = fails_either old new e h
+two_refused_either sql old new bare plain e alone (inl (inl (fault, is, same), h)) = absurd (subst IsBare is bare)
+two_refused_either sql old new bare plain e alone (inl (inr (c, is, inl (some, same)), h)) = absurd (alone same)
+two_refused_either sql old new bare plain e alone (inl (inr (c, is, inr (inl (given, same))), h)) = absurd (given (ap length (sym (subst IsBare is bare))))
+two_refused_either sql old new bare plain e alone (inl (inr (c, is, inr (inr (timely, same))), h)) = absurd (timely (subst IsPlain is plain).1)
+
 pub two_refused : (sql : List ℕ) (old new : State) → IsBare (understood old.now.schema sql) → IsPlain (understood old.now.schema sql) → (e : Error) → e ≢ SqliteFailure OutOfMemory → e ≢ MultipleStatement
     → IsNotRun old new sql [] e → HasRefused old new
-unfolding IsNotRun
-two_refused sql old new bare plain e other alone (inr h) = fails old new e other h
-two_refused sql old new bare plain e other alone (inl (inl (fault, is, same), h)) = absurd (subst IsBare is bare)
-two_refused sql old new bare plain e other alone (inl (inr (c, is, inl (some, same)), h)) = absurd (alone same)
-two_refused sql old new bare plain e other alone (inl (inr (c, is, inr (inl (given, same))), h)) = absurd (given (ap length (sym (subst IsBare is bare))))
-two_refused sql old new bare plain e other alone (inl (inr (c, is, inr (inr (timely, same))), h)) = absurd (timely (subst IsPlain is plain).1)
+two_refused sql old new bare plain e other alone h = elim (two_refused_either sql old new bare plain e alone h) [
+  | inl why ↦ why
+  | inr lacked ↦ absurd (other lacked.0)
+]
 
 -- a query on one table, all of whose rows are shown
 module _ (sql : List ℕ) (old new : State) (schema : Schema) (has : old.now.schema ≡ schema) (tree : ℕ) (project : List Term) (order : List (Term × Key)) (names : List (List ℕ))

@@ -1,5 +1,5 @@
 //! One change of a store, as one transaction.
-ghost use Rattle.std.specs.Prelude.{◌≡◌, ◌≢◌, ◌↔◌, ◌<◌, ◌^◌, false, All, Err, IsTrue, OnOk};
+ghost use Rattle.std.specs.Prelude.{◌≡◌, ◌≢◌, ◌⊎◌, ◌↔◌, ◌<◌, ◌^◌, false, All, Err, IsTrue, OnOk};
 ghost use Rattle.sqlite.specs.State.{HasCleanDisk, IsUnchanged, KeepsCommit, Survives};
 ghost use Rattle.sqlite.specs.Held.{state};
 ghost use Rattle.sqlite.specs.declared.error.Error.{Error as SqlError};
@@ -7,9 +7,9 @@ ghost use Rattle.sqlite.specs.declared.error.Error.TheVariants.{MultipleStatemen
 ghost use Rattle.sqlite.specs.declared.error.ErrorCode.TheVariants.{OutOfMemory};
 ghost use Rattle.store_rows.specs.Changes.{changed};
 ghost use Rattle.store_rows.specs.Steps.{Goes, Brings, HasFreePlace, IsStorable, with_cells, with_notices, with_edit};
-ghost use Rattle.store_tables.specs.declared.error.TableError.TheVariants.{BadStore, Memory};
+ghost use Rattle.store_tables.specs.declared.error.TableError.TheVariants.{BadStore, Memory, StoreFault};
 ghost use Rattle.store_tables.specs.Transacts.{HasCommitted, MayCommit, Turns, Takes};
-ghost use Rattle.store_tables.specs.Refusals.{HasRefused};
+ghost use Rattle.store_tables.specs.Refusals.{HasRefused, HasLackedMemory};
 
 use crate::error::{TableError, is_memory};
 use sqlite::{Alter, Connection, Error, Transaction};
@@ -46,18 +46,23 @@ pub(crate) fn check_open<S: Alter>(tx: &mut Transaction<'_, S>) -> Result<(), Er
     Err(error)
 }
 
-/// Whether the connection is open still, with the last commit as it was. Commits nothing, and takes no more memory than
-/// [`check_open`].
-fn is_open<S: Alter>(conn: &mut Connection<S>) -> bool
+/// Goes on only where the connection is open still, with the last commit as it was. Commits nothing, and takes no more
+/// memory than [`check_open`].
+fn check_connection<S: Alter>(conn: &mut Connection<S>) -> Result<(), Error>
     requires { conn.old.in_transaction ≡ false }
     ensures idle { conn.new.in_transaction ≡ false }
-    ensures settled { HasCleanDisk (state S.Store conn.new) → IsTrue result → IsUnchanged (state S.Store conn.old) (state S.Store conn.new) }
+    ensures settled { HasCleanDisk (state S.Store conn.new) → OnOk result (IsUnchanged (state S.Store conn.old) (state S.Store conn.new)) }
+    ensures refused { HasCleanDisk (state S.Store conn.new) → (e : SqlError) → result ≡ Err e
+        → HasRefused (state S.Store conn.old) (state S.Store conn.new) ⊎ ((e ≡ SqliteFailure OutOfMemory) × HasLackedMemory (state S.Store conn.old) (state S.Store conn.new)) }
     ensures survives { Survives (state S.Store conn.old) (state S.Store conn.new) (λ _. ⊥) }
 {
     let Err(error) = conn.prepare(TWO_STATEMENTS) else {
-        return true;
+        return Ok(());
     };
-    is_understood(error)
+    if !is_understood(error) {
+        return Err(error);
+    }
+    Ok(())
 }
 
 /// What a refused commit is told as: want of memory where the database answered so, and the connection is open still
@@ -67,13 +72,18 @@ pub(crate) fn refusal_of<S: Alter>(conn: &mut Connection<S>, error: Error) -> Ta
     ensures idle { conn.new.in_transaction ≡ false }
     ensures kind { result ≢ BadStore }
     ensures memory { result ≡ Memory → error ≡ SqliteFailure OutOfMemory }
+    ensures fault { HasCleanDisk (state S.Store conn.new) → error ≡ SqliteFailure OutOfMemory → result ≡ StoreFault
+        → HasRefused (state S.Store conn.old) (state S.Store conn.new) ⊎ HasLackedMemory (state S.Store conn.old) (state S.Store conn.new) }
     ensures settled { HasCleanDisk (state S.Store conn.new) → result ≡ Memory → IsUnchanged (state S.Store conn.old) (state S.Store conn.new) }
     ensures survives { Survives (state S.Store conn.old) (state S.Store conn.new) (λ _. ⊥) }
 {
-    if is_memory(error) && is_open(conn) {
-        return TableError::Memory;
+    if !is_memory(error) {
+        return TableError::StoreFault;
     }
-    TableError::StoreFault
+    match check_connection(conn) {
+        Ok(()) => TableError::Memory,
+        Err(_) => TableError::StoreFault,
+    }
 }
 
 /// Sets counters and notices, and puts or drops a session.

@@ -164,6 +164,8 @@ pub(crate) fn look_kept<S: Alter>(
     ensures refused { HasCleanDisk (state S.Store conn.new) → KeepsAny S.Store conn.old (λ _. ⊤) → result ≡ Err Failed → HasRefused (state S.Store conn.old) (state S.Store conn.new) }
     ensures other { HasCleanDisk (state S.Store conn.new) → found_in (state S.Store conn.old).now.schema ≡ Other → result ≡ Err Failed
         → HasRefused (state S.Store conn.old) (state S.Store conn.new) }
+    ensures tables { HasCleanDisk (state S.Store conn.new) → (v : Version) → found_in (state S.Store conn.old).now.schema ≡ Store v
+        → IsSchemaOf v (state S.Store conn.old).now.schema → result ≡ Err Failed → HasRefused (state S.Store conn.old) (state S.Store conn.new) }
     ensures survives { Survives (state S.Store conn.old) (state S.Store conn.new) (λ _. ⊥) }
 {
     // what it ensures of a connection, the transaction is read with

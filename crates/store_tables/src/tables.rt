@@ -26,8 +26,9 @@ impl<S: Alter> Tables<S> {
     ghost use Rattle.std.specs.Prelude.{◌≡◌, ◌≢◌, ◌⊎◌, ◌<◌, ◌^◌, ⊤, [], None, Ok, Err, false, All, Some, IsTrue, IfOk, OnOk, if◌then◌else◌};
     ghost use Rattle.store_rows.specs.Changes.{changed, renewed};
     ghost use Rattle.store_rows.specs.Steps.{IsStorable};
+    ghost use Rattle.store_schema.specs.Tables.{IsSchemaOf};
     ghost use Rattle.store_schema.specs.Found.{found_in};
-    ghost use Rattle.store_schema.specs.declared.Found.TheVariants.{Blank, Other};
+    ghost use Rattle.store_schema.specs.declared.Found.TheVariants.{Blank, Store, Other};
     ghost use Rattle.store_tables.specs.Transacts.{Takes, made};
     ghost use Rattle.store_tables.specs.Reads.{IsInRange};
     ghost use Rattle.store_tables.specs.Kept.{has_failed, connection_of, schema_of, IsBlank, IsHonest, KeepsStore, KeepsOneOf, KeepsBlank, KeepsBlankOr, KeepsOthers, KeepsSome, CommitsNothing, IsRefusal, Settles, SettlesBlank};
@@ -164,6 +165,8 @@ impl<S: Alter> Tables<S> {
         ensures good { KeepsSome self.old IsInRange → IsHonest self.new → result ≢ Err BadStore }
         ensures refused { has_failed self.old ≡ false → KeepsSome self.old (λ _. ⊤) → IsHonest self.new → result ≡ Err StoreFault → IsRefusal self.old self.new }
         ensures other { has_failed self.old ≡ false → found_in (schema_of self.old) ≡ Other → IsHonest self.new → result ≡ Err StoreFault → IsRefusal self.old self.new }
+        ensures tables { has_failed self.old ≡ false → (v : Version) → found_in (schema_of self.old) ≡ Store v → IsSchemaOf v (schema_of self.old) → IsHonest self.new
+            → result ≡ Err StoreFault → IsRefusal self.old self.new }
         ensures unwritten { CommitsNothing self.old self.new }
     {
         if self.failed {

@@ -138,3 +138,9 @@ returns-clause-refused g c clean keeps failed =
 pub returns-clause-other : goal.returns-clause-other
 returns-clause-other g c clean other failed =
     c.read_whole.ensures.refused clean (λ v is. absurd (not_other v (sym is ∙ c.found_in-found.ensures ∙ ap found_in c.schema.ensures.value ∙ other))) failed
+
+pub returns-clause-tables : goal.returns-clause-tables
+returns-clause-tables g c clean v is schema failed =
+    let now = (state g.S.Store c.args.conn.now).now in
+    let found : c.found_in-found.result ≡ Store v = c.found_in-found.ensures ∙ ap found_in c.schema.ensures.value ∙ is in
+    c.read_whole.ensures.refused clean (λ w has. subst (λ x. IsSchemaOf x now.schema) (version_of v w (sym found ∙ has)) schema) failed
