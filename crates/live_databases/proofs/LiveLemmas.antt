@@ -1,9 +1,16 @@
 -- From a service over a database to the end of the program.
-use Rattle.std.proofs.Common.{ℕ, ◌<◌, Bool, true, false, List, Option, inl, inr, refl, sym, subst}
+use Rattle.std.proofs.Common.{◌≡◌, ℕ, ◌<◌, Bool, true, false, List, Option, inl, inr, refl, sym, subst}
+use Rattle.std.specs.Prelude.{Result, Ok, IfOk}
 use Rattle.sqlite_trees.specs.declared.store.Store.{Ghosts as Device}
 use Rattle.sqlite.specs.Held.{Held}
 use Rattle.merge_core.specs.Layout.{LayoutState}
+use Rattle.durable_keeper.specs.declared.error.KeeperError.{KeeperError}
+use Rattle.durable_keeper.specs.declared.error.KeeperError.TheVariants as keeping
 use Rattle.durable_keeper.specs.declared.keeper.Keeper.{Ghosts}
+use Rattle.log_file.specs.declared.file.SystemFile.{SystemFile}
+use Rattle.log_file.specs.declared.refusal.LogError.{LogError}
+use Rattle.log_file.specs.declared.refusal.LogError.TheVariants as logging
+use Rattle.log_file.specs.Logged.{LogState}
 use Rattle.desk_log.specs.Log.{begun}
 use Rattle.admission_core.specs.Kept.{DurableState}
 use Rattle.site_engine.specs.Sites.{Began}
@@ -19,7 +26,7 @@ use Rattle.serve_engine.specs.Ending.{EndsEarly, EndsServing, EndsWell}
 use Rattle.live_databases.specs.declared.service_end.ServiceEnd.{ServiceEnd}
 use Rattle.live_databases.specs.declared.service_end.ServiceEnd.TheVariants.{Ended, Absent, NoLog, LogIsStore, Unlogged, Outdated}
 use Rattle.live_databases.specs.Endings.{refused_store}
-use Rattle.live_databases.specs.LiveStores.{IsUnserved, LogsOver, ServesOver}
+use Rattle.live_databases.specs.LiveStores.{IsUnserved, LogsOver, ServesOver, unloaded_end, unlogged_end}
 use Rattle.live_databases.specs.LiveDatabases.{EndsLive, TalksInPart, TalksToEnd}
 
 module _ {K C L : Type 0} (g : Ghosts K) (t : TalkGhosts C) (h : LogGhosts L) (layout : LayoutState) (i : ℕ) (group : Option (List ℕ)) (keeper back : K) (talk talk_after : C) (log log_after : L) where
@@ -86,18 +93,26 @@ refused_end t layout i group talk opening.WrongLayout there = (there, refl)
 refused_end t layout i group talk opening.StoreFault there = (there, refl)
 refused_end t layout i group talk opening.Memory there = (there, refl)
 
+-- what a keeper gave back
+pub found_one : (answer : Result DurableState KeeperError) (first d : DurableState) → answer ≡ Ok first → IfOk answer (λ found. found ≡ d) → first ≡ d
+found_one answer first d is found = subst (λ (r : Result DurableState KeeperError). IfOk r (λ f. f ≡ d)) is found
+
+-- a service that ended so before anything was heard or told
+ends_silent : {C : Type 0} (t : TalkGhosts C) (layout : LayoutState) (i : ℕ) (group : Option (List ℕ)) (talk talk_after : C) (ended so : ServiceEnd) → talk_after ≡ talk → ended ≡ so
+    → EndsLive t layout i group talk talk so → EndsLive t layout i group talk talk_after ended
+ends_silent {C = C} t layout i group talk talk_after ended so silent is ends =
+    subst (λ (e : ServiceEnd). EndsLive t layout i group talk talk_after e) (sym is) (subst (λ (x : C). EndsLive t layout i group talk x so) (sym silent) ends)
+
 pub ends_live : {S C L : Type 0} (g : Device S) (k : Ghosts (SqlKeeper S g)) (t : TalkGhosts C) (h : LogGhosts L) (layout : LayoutState) (i : ℕ) (group : Option (List ℕ)) (c after : Held S)
     (talk talk_after : C) (log log_after : L) (ended : ServiceEnd) → i < layout.sites
     → ServesOver g k t h layout i group c after talk talk_after log log_after ended → EndsLive t layout i group talk talk_after ended
 ends_live g k t h layout i group c after talk talk_after log log_after ended there (inl run) =
     subst (λ (e : ServiceEnd). EndsLive t layout i group talk talk_after e) (sym run.is_status)
     (ran k t h layout i group run.keeper run.keeper_after talk talk_after log log_after run.status there run.ends)
-ends_live {C = C} g k t h layout i group c after talk talk_after log log_after ended there (inr none) =
-    subst (λ (e : ServiceEnd). EndsLive t layout i group talk talk_after e) (sym none.is_refused)
-    (subst (λ (x : C). EndsLive t layout i group talk x (refused_store none.error)) (sym none.silent)
-    (refused_end t layout i group talk none.error there))
+ends_live g k t h layout i group c after talk talk_after log log_after ended there (inr none) =
+    ends_silent t layout i group talk talk_after ended (refused_store none.error) none.silent none.is_refused (refused_end t layout i group talk none.error there)
 
--- no site was opened
+-- no database was opened
 pub unserved_end : {C : Type 0} (t : TalkGhosts C) (layout : LayoutState) (i : ℕ) (group : Option (List ℕ)) (talk : C) (ended : ServiceEnd) → i < layout.sites → IsUnserved ended
     → EndsLive t layout i group talk talk ended
 unserved_end t layout i group talk (Ended Memory) there is = (there, refl)
@@ -108,21 +123,34 @@ unserved_end t layout i group talk (Ended Usage) there is = absurd is
 unserved_end t layout i group talk (Ended Fault) there is = absurd is
 unserved_end t layout i group talk (Ended Refused) there is = absurd is
 unserved_end t layout i group talk (Ended Io) there is = absurd is
-unserved_end t layout i group talk (NoLog refusal) there is = (there, refl)
-unserved_end t layout i group talk LogIsStore there is = (there, refl)
-unserved_end t layout i group talk Unlogged there is = (there, refl)
+unserved_end t layout i group talk (NoLog refusal) there is = absurd is
+unserved_end t layout i group talk LogIsStore there is = absurd is
+unserved_end t layout i group talk Unlogged there is = absurd is
 unserved_end t layout i group talk (Absent absence) there is = (there, refl)
 unserved_end t layout i group talk Outdated there is = absurd is
 
-pub ends_logged : {S C L : Type 0} (g : Device S) (k : Ghosts (SqlKeeper S g)) (t : TalkGhosts C) (h : LogGhosts L) (layout : LayoutState) (i : ℕ) (group : Option (List ℕ)) (c after : Held S)
-    (talk talk_after : C) (ended : ServiceEnd) → i < layout.sites
-    → LogsOver g k t h layout i group c after talk talk_after ended → EndsLive t layout i group talk talk_after ended
-ends_logged g k t h layout i group c after talk talk_after ended there (inl run) =
+-- a store that gives nothing back
+ends_unloaded : {C : Type 0} (t : TalkGhosts C) (layout : LayoutState) (i : ℕ) (group : Option (List ℕ)) (talk : C) (error : KeeperError) → i < layout.sites
+    → EndsLive t layout i group talk talk (unloaded_end error)
+ends_unloaded t layout i group talk keeping.Memory there = (there, refl)
+ends_unloaded t layout i group talk keeping.StoreFault there = (there, refl)
+
+-- a log that is not opened
+ends_unlogged : {C : Type 0} (t : TalkGhosts C) (layout : LayoutState) (i : ℕ) (group : Option (List ℕ)) (talk : C) (error : LogError) → i < layout.sites
+    → EndsLive t layout i group talk talk (unlogged_end error)
+ends_unlogged t layout i group talk logging.Memory there = (there, refl)
+ends_unlogged t layout i group talk (logging.Refused refusal) there = (there, refl)
+ends_unlogged t layout i group talk logging.Io there = (there, refl)
+
+pub ends_logged : {S C F : Type 0} (g : Device S) (k : Ghosts (SqlKeeper S g)) (remaining contents : F → Option (List ℕ)) (t : TalkGhosts C) (h : LogGhosts (LogState (SystemFile F)))
+    (layout : LayoutState) (i : ℕ) (group : Option (List ℕ)) (c after : Held S) (talk talk_after : C) (ended : ServiceEnd) → i < layout.sites
+    → LogsOver g k remaining contents t h layout i group c after talk talk_after ended → EndsLive t layout i group talk talk_after ended
+ends_logged g k remaining contents t h layout i group c after talk talk_after ended there (inl run) =
     subst (λ (e : ServiceEnd). EndsLive t layout i group talk talk_after e) (sym run.is_status)
     (ran k t h layout i group run.keeper_now run.keeper_after talk talk_after run.log run.log_after run.status there run.ends)
-ends_logged {C = C} g k t h layout i group c after talk talk_after ended there (inr (inl none)) =
-    subst (λ (x : C). EndsLive t layout i group talk x ended) (sym none.silent) (unserved_end t layout i group talk ended there none.why)
-ends_logged {C = C} g k t h layout i group c after talk talk_after ended there (inr (inr refused)) =
-    subst (λ (e : ServiceEnd). EndsLive t layout i group talk talk_after e) (sym refused.is_refused)
-    (subst (λ (x : C). EndsLive t layout i group talk x (refused_store refused.error)) (sym refused.silent)
-    (refused_end t layout i group talk refused.error there))
+ends_logged g k remaining contents t h layout i group c after talk talk_after ended there (inr (inl none)) =
+    ends_silent t layout i group talk talk_after ended (unlogged_end none.error) none.silent none.is_unlogged (ends_unlogged t layout i group talk none.error there)
+ends_logged g k remaining contents t h layout i group c after talk talk_after ended there (inr (inr (inl none))) =
+    ends_silent t layout i group talk talk_after ended (unloaded_end none.error) none.silent none.is_unloaded (ends_unloaded t layout i group talk none.error there)
+ends_logged g k remaining contents t h layout i group c after talk talk_after ended there (inr (inr (inr none))) =
+    ends_silent t layout i group talk talk_after ended (refused_store none.error) none.silent none.is_refused (refused_end t layout i group talk none.error there)

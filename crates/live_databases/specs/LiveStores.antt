@@ -3,8 +3,16 @@ use Rattle.std.specs.Prelude.{◌≡◌, ℕ, ◌⊎◌, List, Option, Ok, Err}
 use Rattle.sqlite_trees.specs.declared.store.Store.{Ghosts as Device}
 use Rattle.sqlite.specs.Held.{Held}
 use Rattle.merge_core.specs.Layout.{LayoutState}
+use Rattle.admission_core.specs.Kept.{DurableState}
+use Rattle.durable_keeper.specs.declared.error.KeeperError.{KeeperError}
+use Rattle.durable_keeper.specs.declared.error.KeeperError.TheVariants as keeping
 use Rattle.durable_keeper.specs.declared.keeper.Keeper.{Ghosts}
-use Rattle.desk_log.specs.Desk.{KeepsOn}
+use Rattle.desk_log.specs.Desk.{Finds, KeepsOn}
+use Rattle.log_file.specs.declared.file.SystemFile.{SystemFile}
+use Rattle.log_file.specs.declared.refusal.LogError.{LogError}
+use Rattle.log_file.specs.declared.refusal.LogError.TheVariants as logging
+use Rattle.log_file.specs.Logged.{LogState}
+use Rattle.log_file.specs.Opening.{IsOpenedLog}
 use Rattle.site_store.specs.declared.error.OpenError.{OpenError}
 use Rattle.site_store.specs.declared.sql.SqlKeeper.{SqlKeeper}
 use Rattle.site_store.specs.Sql.{below}
@@ -15,7 +23,7 @@ use Rattle.exit_status.specs.declared.status.Status.TheVariants.{Memory, NoStore
 use Rattle.exit_status.specs.declared.store_refusal.StoreRefusal.TheVariants.{StoreFault}
 use Rattle.serve_engine.specs.Ending.{EndsServing}
 use Rattle.live_databases.specs.declared.service_end.ServiceEnd.{ServiceEnd}
-use Rattle.live_databases.specs.declared.service_end.ServiceEnd.TheVariants.{Ended, Absent, NoLog, LogIsStore, Unlogged}
+use Rattle.live_databases.specs.declared.service_end.ServiceEnd.TheVariants.{Ended, Absent, NoLog, Unlogged}
 use Rattle.live_databases.specs.Endings.{refused_store}
 use Rattle.stored_site.specs.StoredSites.{OpensStore}
 
@@ -45,20 +53,23 @@ module _ {S C L : Type 0} (g : Device S) where
       ServesOpened k t h layout i group c after talk talk_after log log_after ended
       ⊎ RefusesStore layout i group c after talk talk_after log log_after ended
 
--- No site was opened: the database is not served, its store gave nothing back, or its log was not opened.
+-- No database was opened: it is not served, it failed, or memory ran out.
 abbrev pub IsUnserved : ServiceEnd → Type 0
 IsUnserved (Ended Memory) = Unit {0}
 IsUnserved (Ended (NoStore StoreFault)) = Unit {0}
-IsUnserved (NoLog refusal) = Unit {0}
-IsUnserved LogIsStore = Unit {0}
-IsUnserved Unlogged = Unit {0}
 IsUnserved (Absent absence) = Unit {0}
 IsUnserved ended = ⊥
 
--- the store gave nothing back, or its log was not opened: nothing was heard or told
-pub record LogsNothing {C : Type 0} (talk talk_after : C) (ended : ServiceEnd) : Type 0 where
-  pub silent : talk_after ≡ talk
-  pub why : IsUnserved ended
+-- how a service ends whose store gives nothing back
+abbrev pub unloaded_end : KeeperError → ServiceEnd
+unloaded_end keeping.Memory = Ended Memory
+unloaded_end keeping.StoreFault = Ended (NoStore StoreFault)
+
+-- how it ends where its log is not opened
+abbrev pub unlogged_end : LogError → ServiceEnd
+unlogged_end logging.Memory = Ended Memory
+unlogged_end (logging.Refused refusal) = NoLog refusal
+unlogged_end logging.Io = Unlogged
 
 module _ {S C : Type 0} (g : Device S) where
   -- the store was refused
@@ -68,24 +79,57 @@ module _ {S C : Type 0} (g : Device S) where
     pub silent : talk_after ≡ talk
     pub is_refused : ended ≡ refused_store error
 
-module _ {S C L : Type 0} (g : Device S) where
+  -- The store was opened and gave nothing back: nothing was heard or told, and the database below is handed back.
+  pub record LoadsNothing (k : Ghosts (SqlKeeper S g)) (layout : LayoutState) (i : ℕ) (group : Option (List ℕ)) (c after : Held S) (talk talk_after : C) (ended : ServiceEnd) : Type 0 where
+    pub keeper : SqlKeeper S g
+    pub keeper_now : SqlKeeper S g
+    pub opened : OpensStore g layout i group c (Ok keeper)
+    pub keeps_on : KeepsOn k keeper keeper_now
+    pub error : KeeperError
+    pub fault : error ≡ keeping.StoreFault → k.faults_of keeper_now ≡ 1
+    pub no_fault : error ≡ keeping.Memory → k.faults_of keeper_now ≡ 0
+    pub silent : talk_after ≡ talk
+    pub is_unloaded : ended ≡ unloaded_end error
+    pub handed : after ≡ below keeper_now
+
+module _ {S C F : Type 0} (g : Device S) (k : Ghosts (SqlKeeper S g)) (remaining contents : F → Option (List ℕ)) where
+  -- The store was opened and gave back what it kept, and no log was opened for that: nothing was heard or told, and the
+  -- database below is handed back.
+  pub record LogsNothing (layout : LayoutState) (i : ℕ) (group : Option (List ℕ)) (c after : Held S) (talk talk_after : C) (ended : ServiceEnd) : Type 0 where
+    pub keeper : SqlKeeper S g
+    pub keeper_now : SqlKeeper S g
+    pub opened : OpensStore g layout i group c (Ok keeper)
+    pub keeps_on : KeepsOn k keeper keeper_now
+    pub first : DurableState
+    pub loaded : Finds k keeper keeper_now (λ d. first ≡ d)
+    pub error : LogError
+    pub not_opened : IsOpenedLog remaining contents layout i first (Err error)
+    pub silent : talk_after ≡ talk
+    pub is_unlogged : ended ≡ unlogged_end error
+    pub handed : after ≡ below keeper_now
+
   -- the store was opened and gave back what it kept, a log was opened for that, and the site served its lines over both
-  pub record LogsOpened (k : Ghosts (SqlKeeper S g)) (t : TalkGhosts C) (h : LogGhosts L) (layout : LayoutState) (i : ℕ) (group : Option (List ℕ)) (c after : Held S)
+  pub record LogsOpened (t : TalkGhosts C) (h : LogGhosts (LogState (SystemFile F))) (layout : LayoutState) (i : ℕ) (group : Option (List ℕ)) (c after : Held S)
       (talk talk_after : C) (ended : ServiceEnd) : Type 0 where
     pub keeper : SqlKeeper S g
     pub keeper_now : SqlKeeper S g
     pub keeper_after : SqlKeeper S g
     pub opened : OpensStore g layout i group c (Ok keeper)
     pub keeps_on : KeepsOn k keeper keeper_now
-    pub log : L
-    pub log_after : L
+    pub first : DurableState
+    pub loaded : Finds k keeper keeper_now (λ d. first ≡ d)
+    pub log : LogState (SystemFile F)
+    pub log_opened : IsOpenedLog remaining contents layout i first (Ok log)
+    pub log_after : LogState (SystemFile F)
     pub status : Status
     pub ends : EndsServing k t h layout i group keeper_now keeper_after talk talk_after log log_after status
     pub is_status : ended ≡ Ended status
     pub handed : after ≡ below keeper_after
 
-  -- one of the three
-  abbrev pub LogsOver : Ghosts (SqlKeeper S g) → TalkGhosts C → LogGhosts L → LayoutState → ℕ → Option (List ℕ) → Held S → Held S → C → C → ServiceEnd → Type 0
-  LogsOver k t h layout i group c after talk talk_after ended =
-      LogsOpened k t h layout i group c after talk talk_after ended
-      ⊎ (LogsNothing talk talk_after ended ⊎ RefusesLogged g layout i group c after talk talk_after ended)
+  -- one of the four
+  abbrev pub LogsOver : TalkGhosts C → LogGhosts (LogState (SystemFile F)) → LayoutState → ℕ → Option (List ℕ) → Held S → Held S → C → C → ServiceEnd → Type 0
+  LogsOver t h layout i group c after talk talk_after ended =
+      LogsOpened t h layout i group c after talk talk_after ended
+      ⊎ LogsNothing layout i group c after talk talk_after ended
+      ⊎ LoadsNothing g k layout i group c after talk talk_after ended
+      ⊎ RefusesLogged g layout i group c after talk talk_after ended

@@ -52,7 +52,7 @@ fn refused_store(error: OpenError) -> ServiceEnd
     }
 }
 
-ghost use Rattle.live_databases.specs.LiveStores.{IsUnserved, LogsOver};
+ghost use Rattle.live_databases.specs.LiveStores.{LogsOver, unloaded_end, unlogged_end};
 
 /// The same with a log in the file at a path, which is opened for what the store kept: each call is in it before its change
 /// is committed.
@@ -66,8 +66,8 @@ pub fn serve_logged_over<S: Alter + Drop, C: Conversation, R: Files + AllocGloba
     conversation: &mut C,
 ) -> (ServiceEnd, Connection<S>)
     requires { connection.in_transaction ≡ false }
-    ensures { LogsOver S.Store ⟦<SqlKeeper<S> as Keeper>⟧ C.Conversation ⟦<FileLog<SystemFile<R::File>> as CallLog>⟧ layout site (option_copied group.entry)
-        connection result.1 conversation.old conversation.new result.0 }
+    ensures { LogsOver S.Store ⟦<SqlKeeper<S> as Keeper>⟧ R.File.Read.remaining R.File.Write.contents C.Conversation ⟦<FileLog<SystemFile<R::File>> as CallLog>⟧ layout site
+        (option_copied group.entry) connection result.1 conversation.old conversation.new result.0 }
 {
     let mut keeper = match SqlKeeper::open(rt.alloc(), connection, &layout, site, group) {
         Ok(keeper) => keeper,
@@ -95,7 +95,7 @@ pub fn serve_logged_over<S: Alter + Drop, C: Conversation, R: Files + AllocGloba
 
 // How the service ends where the store gives nothing back.
 fn unloaded(error: KeeperError) -> ServiceEnd
-    ensures { IsUnserved result }
+    ensures { result ≡ unloaded_end error }
 {
     match error {
         KeeperError::Memory => ServiceEnd::Ended(Status::Memory),
@@ -105,7 +105,7 @@ fn unloaded(error: KeeperError) -> ServiceEnd
 
 // How it ends where the log is not opened.
 fn unlogged(error: LogError) -> ServiceEnd
-    ensures { IsUnserved result }
+    ensures { result ≡ unlogged_end error }
 {
     match error {
         LogError::Memory => ServiceEnd::Ended(Status::Memory),

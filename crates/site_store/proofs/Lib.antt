@@ -1,4 +1,6 @@
+pub mod LeftLemmas
 pub mod OpenLemmas
 pub mod OwnLemmas
+pub mod RangeLemmas
 pub mod SiteTextLemmas
 pub mod SqlLemmas

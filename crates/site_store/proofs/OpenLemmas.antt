@@ -28,7 +28,7 @@ use Rattle.site_store.specs.declared.error.OpenError.TheVariants as opening
 use Rattle.site_store.specs.Errors.{open_error}
 use Rattle.site_store.specs.SiteText.{site_text}
 use Rattle.site_store.specs.Sql.{Stores}
-use Rattle.site_store.specs.Opened.{Fits, IsFor, IsSound, IsLeft, IsLeftBlank, IsReady, IsRefused, IsRefusedBlank, Readies, ReadiesBlank}
+use Rattle.site_store.specs.Opened.{Fits, IsOwn, IsLeft, IsLeftBlank, IsReady, IsRefused, IsRefusedBlank, Readies, ReadiesBlank}
 
 -- a line that is not another's is that of the layout or of an earlier one
 pub fits_of : (layout : LayoutState) (i : ℕ) (it : Stored) (line : Line) → (line ≡ lines.Other → ⊥) → IsLine layout i it.layout line → Fits layout i it
@@ -44,14 +44,14 @@ as_renewed line it second same =
 -- a new store has the content of a site
 pub made_content : (site line : List ℕ) → IsContent (made site line)
 made_content site line = record {
-  rows = record { cells_rise = _; notices_rise = _; notices = _; sessions_rise = _; places = _ };
+  rows = record { cells_rise = _; cells = _; notices_rise = _; notices = _; sessions_rise = _; places = _ };
   once = _;
 }
 
 -- and what is renewed keeps it
 pub renewed_content : (line : List ℕ) (it : Stored) → IsContent it → IsContent (renewed line it)
 renewed_content line it h = record {
-  rows = record { cells_rise = h.rows.cells_rise; notices_rise = h.rows.notices_rise; notices = h.rows.notices; sessions_rise = h.rows.sessions_rise; places = h.rows.places };
+  rows = record { cells_rise = h.rows.cells_rise; cells = h.rows.cells; notices_rise = h.rows.notices_rise; notices = h.rows.notices; sessions_rise = h.rows.sessions_rise; places = h.rows.places };
   once = h.once;
 }
 
@@ -74,10 +74,10 @@ module _ {S : Type 0} (g : Ghosts S) (c : Held S) where
 
   -- a content of this site is ready once it is renewed and kept
   pub is_ready : (layout : LayoutState) (i : ℕ) (group : Option (List ℕ)) (it content : Stored) (index : Index) → (HasCleanDisk (state g c) → content ≡ it)
-      → IsFor layout i group content → Knows index content → (HasCleanDisk (state g c) → Keeps g c (renewed (line_of layout) it)) → IsReady g layout i group it c index
+      → IsOwn layout i group content → Knows index content → (HasCleanDisk (state g c) → Keeps g c (renewed (line_of layout) it)) → IsReady g layout i group it c index
   is_ready layout i group it content index found fits knows kept =
       let line = line_of layout in
-      let is_for : HasCleanDisk (state g c) → IsFor layout i group it = λ clean. subst (IsFor layout i group) (found clean) fits in
+      let is_for : HasCleanDisk (state g c) → IsOwn layout i group it = λ clean. subst (IsOwn layout i group) (found clean) fits in
       record {
         fits = is_for;
         stores = λ clean. record {
@@ -88,7 +88,7 @@ module _ {S : Type 0} (g : Ghosts S) (c : Held S) where
       }
 
   -- a refusal of the tables
-  pub refused : (layout : LayoutState) (i : ℕ) (group : Option (List ℕ)) (it : Stored) (e : TableError) → (e ≡ tables.BadStore → HasCleanDisk (state g c) → ¬ IsSound it)
+  pub refused : (layout : LayoutState) (i : ℕ) (group : Option (List ℕ)) (it : Stored) (e : TableError) → (e ≡ tables.BadStore → HasCleanDisk (state g c) → ¬ IsContent it)
       → Keeps g c it → IsRefused g layout i group it c (open_error e)
   refused layout i group it tables.BadStore bad keeps = record { cause = bad refl; left = keeps }
   refused layout i group it tables.Memory bad keeps = record { cause = λ _. _; left = keeps }

@@ -1,21 +1,23 @@
 -- What an opening makes of a content that is the site's own, and of a line that is the layout's.
-use Rattle.std.proofs.Common.{◌≡◌, ◌≢◌, ◌⊎◌, ◌<◌, ◌≤◌, ℕ, inl, inr, refl, sym, subst, List, [], ◌∙◌, decimal, Option, Some, None, Result, Ok, Err, IfErr, arith}
+use Rattle.std.proofs.Common.{◌≡◌, ◌≢◌, ◌⊎◌, ◌<◌, ◌≤◌, ℕ, inl, inr, refl, sym, ap, subst, List, ◌∙◌, decimal, Option, Some, None, Result, Ok, Err, IfErr, arith}
+use Rattle.std.specs.List.{All}
 use Rattle.std.proofs.lemmas.Option.{none-some, same_Some}
 use Rattle.std.proofs.lemmas.List.{append_cancel_right}
-use Rattle.std.proofs.lemmas.List.Elements.{All-from_recursion}
 use Rattle.std.proofs.lemmas.Fmt.{decimal_injective}
 use Rattle.std.proofs.Math.Logic.{∥∥₁_elim, ∥∥₁_map, ∥∥₁_prop}
 use Rattle.sqlite_trees.specs.Tree.{Trees}
 use Rattle.sqlite_trees.specs.declared.store.Store.{Ghosts}
 use Rattle.sqlite.specs.Held.{Held}
-use Rattle.merge_core.specs.Layout.{LayoutState}
+use Rattle.merge_core.specs.declared.layout.RecordSpec.{RecordSpec}
+use Rattle.merge_core.specs.Layout.{IsEarlier, LayoutState, at_sites}
 use Rattle.layout_line.specs.declared.Line.{Line}
 use Rattle.layout_line.specs.declared.Line.TheVariants as lines
 use Rattle.layout_line.specs.Line.{IsLine, line_of, records_text}
 use Rattle.store_rows.specs.Rows.{Stored}
+use Rattle.store_rows.specs.Changes.{renewed}
 use Rattle.store_rows.specs.Holding.{Keeps, KeepsEither, KeepsNothing, KeepsNothingOr, Leaves, Holds, HoldsNothing}
 use Rattle.store_tables.specs.Transacts.{made}
-use Rattle.store_tables.specs.Reads.{IsCellInRange, IsSessionInRange, IsNoticeInRange, KeepsAny}
+use Rattle.store_tables.specs.Reads.{KeepsAny}
 use Rattle.store_tables.specs.declared.error.TableError.{TableError}
 use Rattle.store_tables.specs.declared.error.TableError.TheVariants as tables
 use Rattle.store_tables.proofs.LookLemmas.{found_once}
@@ -23,8 +25,9 @@ use Rattle.site_store.specs.declared.error.OpenError.{OpenError}
 use Rattle.site_store.specs.declared.error.OpenError.TheVariants as opening
 use Rattle.site_store.specs.Errors.{open_error}
 use Rattle.site_store.specs.SiteText.{site_text}
+use Rattle.site_store.specs.Sql.{IsOf}
 use Rattle.site_store.specs.Opened.{Fits, IsCause, IsDeviceCause, IsOwn}
-use Rattle.site_store.proofs.OpenLemmas.{made_content}
+use Rattle.site_store.proofs.OpenLemmas.{made_content, renewed_content}
 
 -- a line that is a layout's own is found to be
 pub same_line : (layout : LayoutState) (i : ℕ) (line : List ℕ) (found : Line) → layout.sites ≤ 16 → line ≡ line_of layout → IsLine layout i line found → found ≡ lines.Same
@@ -42,10 +45,10 @@ other_line layout i it (inr earlier) is = is.1 earlier.0 earlier.1
 
 -- the site's own content is refused for no cause of its own
 pub own_cause : (layout : LayoutState) (i : ℕ) (group : Option (List ℕ)) (it : Stored) (e : OpenError) → IsOwn layout i group it → IsCause layout i group it e → IsDeviceCause e
-own_cause layout i group it opening.BadStore own cause = absurd (cause (record { in_range = own.in_range; content = own.fits.content }))
-own_cause layout i group it opening.WrongSite own cause = absurd (cause.1 group own.fits.its_site)
-own_cause layout i group it opening.WrongGroup own cause = absurd (cause.1.0 own.fits.its_site)
-own_cause layout i group it opening.WrongLayout own cause = absurd (other_line layout i it own.fits.its_layout cause.1.1)
+own_cause layout i group it opening.BadStore own cause = absurd (cause own.content)
+own_cause layout i group it opening.WrongSite own cause = absurd (cause.1 group own.its_site)
+own_cause layout i group it opening.WrongGroup own cause = absurd (cause.1.0 own.its_site)
+own_cause layout i group it opening.WrongLayout own cause = absurd (other_line layout i it own.its_layout cause.1.1)
 own_cause layout i group it opening.StoreFault own cause = _
 own_cause layout i group it opening.Memory own cause = _
 
@@ -77,9 +80,46 @@ device_prop opening.Memory = λ a b. refl
 -- a new store is one of its site
 pub made_own : (layout : LayoutState) (i : ℕ) (group : Option (List ℕ)) → IsOwn layout i group (made (site_text i group) (line_of layout))
 made_own layout i group = record {
-  in_range = record { cells = All-from_recursion IsCellInRange [] tt; sessions = All-from_recursion IsSessionInRange [] tt; notices = All-from_recursion IsNoticeInRange [] tt };
-  fits = record { content = made_content (site_text i group) (line_of layout); its_site = refl; its_layout = inl refl };
+  content = made_content (site_text i group) (line_of layout);
+  its_site = refl;
+  its_layout = inl refl;
 }
+
+-- so is what a commit leaves
+pub of_own : (layout : LayoutState) (i : ℕ) (group : Option (List ℕ)) (it : Stored) → IsOf layout (site_text i group) it → IsOwn layout i group it
+of_own layout i group it is = record { content = is.content; its_site = is.its_site; its_layout = inl is.its_layout }
+
+-- and what the renewal of such a content makes of it
+pub renewed_own : (layout : LayoutState) (i : ℕ) (group : Option (List ℕ)) (it : Stored) → IsOwn layout i group it → IsOwn layout i group (renewed (line_of layout) it)
+renewed_own layout i group it own = record { content = renewed_content (line_of layout) it own.content; its_site = own.its_site; its_layout = inl refl }
+
+-- ---- layouts that grow
+
+-- a layout at n sites with these records
+with_records : ℕ → LayoutState → List RecordSpec → LayoutState
+with_records n layout records = record layout { sites = n; records = records }
+
+-- a line that fits an earlier layout fits the one that it grew into
+fits_later : (old layout : LayoutState) (i : ℕ) (it : Stored) → IsEarlier old layout → i < old.sites → Fits old i it → Fits layout i it
+unfolding with_records
+fits_later old layout i it grows there (inl same) =
+    let back : at_sites old.sites layout ≡ old = ap (with_records old.sites layout) (sym grows.same_records) in
+    inr (old.sites, record { earlier = subst (λ (l : LayoutState). IsEarlier l layout) (sym back) grows; there = there; is_its = same ∙ ap line_of (sym back) })
+fits_later old layout i it grows there (inr (n, is)) =
+    let fewer : n < old.sites = is.earlier.fewer_sites in
+    let more : old.sites < layout.sites = grows.fewer_sites in
+    inr (
+      n,
+      record {
+        earlier = record { same_records = refl; fewer_sites = omega arith; homes = subst (All (λ r. r.home < n)) grows.same_records is.earlier.homes };
+        there = is.there;
+        is_its = is.is_its ∙ ap (λ (rs : List RecordSpec). line_of (with_records n layout rs)) grows.same_records;
+      },
+    )
+
+-- a content of the site's own stays so when the layout grows
+pub grown_own : (old layout : LayoutState) (i : ℕ) (group : Option (List ℕ)) (it : Stored) → IsEarlier old layout → i < old.sites → IsOwn old i group it → IsOwn layout i group it
+grown_own old layout i group it grows there own = record { content = own.content; its_site = own.its_site; its_layout = fits_later old layout i it grows there own.its_layout }
 
 module _ {S : Type 0} (g : Ghosts S) (c : Held S) (Such : Stored → Type 0) where
   pub any_of : (it : Stored) → Such it → Keeps g c it → KeepsAny g c Such

@@ -12,7 +12,6 @@ use Rattle.store_rows.specs.Rows.{Stored}
 use Rattle.store_rows.specs.Changes.{renewed}
 use Rattle.store_rows.specs.Holding.{Keeps, KeepsEither, KeepsNothing, KeepsNothingOr}
 use Rattle.store_tables.specs.Transacts.{made}
-use Rattle.store_tables.specs.Reads.{IsInRange}
 use Rattle.store_tables.specs.Refusals.{HasRefused}
 use Rattle.store_content.specs.declared.index.Index.{Index}
 use Rattle.store_content.specs.Content.{IsContent, durable_in}
@@ -28,34 +27,25 @@ use Rattle.site_store.specs.Sql.{Stores, KeepsPart, below, group_of, layout_of, 
 abbrev pub Fits : LayoutState → ℕ → Stored → Type 0
 Fits layout i it = IsLine layout i it.layout lines.Same ⊎ IsLine layout i it.layout lines.Earlier
 
--- a content is one that a keeper of a site takes, which is of a group or of none
-pub record IsFor (layout : LayoutState) (i : ℕ) (group : Option (List ℕ)) (it : Stored) : Type 0 where
+-- A content is the site's own, in its group or in none: it is one that a site's store has, it names this site and group,
+-- and its line is that of the layout or of an earlier one. What a creation, a commit or an opening leaves is such a content.
+pub record IsOwn (layout : LayoutState) (i : ℕ) (group : Option (List ℕ)) (it : Stored) : Type 0 where
   pub content : IsContent it
   pub its_site : it.site ≡ site_text i group
   pub its_layout : Fits layout i it
-
--- a content is one that some site's store has: its numbers are such as the tables take, and it is that of a site
-pub record IsSound (it : Stored) : Type 0 where
-  pub in_range : IsInRange it
-  pub content : IsContent it
-
--- a content is one that a site's store of a layout has: it is for the site, and its numbers are such as the tables take
-pub record IsOwn (layout : LayoutState) (i : ℕ) (group : Option (List ℕ)) (it : Stored) : Type 0 where
-  pub in_range : IsInRange it
-  pub fits : IsFor layout i group it
 
 -- a content has the second version and the layout's own line, so that an opening has nothing to write
 pub record IsCurrent (layout : LayoutState) (it : Stored) : Type 0 where
   pub second : it.version ≡ Second
   pub its_line : it.layout ≡ line_of layout
 
--- an opening has to write: the content is for the site, and has the first version or an earlier layout's line
+-- an opening has to write: the content is the site's own, and has the first version or an earlier layout's line
 abbrev pub IsDue : LayoutState → ℕ → Option (List ℕ) → Stored → Type 0
-IsDue layout i group it = IsFor layout i group it × (¬ IsCurrent layout it)
+IsDue layout i group it = IsOwn layout i group it × (¬ IsCurrent layout it)
 
 -- why a store is refused: the first of these that is so. When a fault comes, IsFault says.
 abbrev pub IsCause : LayoutState → ℕ → Option (List ℕ) → Stored → OpenError → Type 0
-IsCause layout i group it BadStore = ¬ IsSound it
+IsCause layout i group it BadStore = ¬ IsContent it
 IsCause layout i group it WrongSite = IsContent it × NamesOther i it.site
 IsCause layout i group it WrongGroup = IsContent it × ((it.site ≢ site_text i group) × NamesSite i it.site)
 IsCause layout i group it WrongLayout = IsContent it × ((it.site ≡ site_text i group) × IsLine layout i it.layout lines.Other)
@@ -73,7 +63,7 @@ IsDeviceCause Memory = ⊤
 
 -- a content was judged: it is one of this site, with its index and how its line compares; or why not
 abbrev pub IsJudged : LayoutState → ℕ → Option (List ℕ) → Stored → Result (Index × Line) OpenError → Type 0
-IsJudged layout i group it (Ok x) = IsFor layout i group it × (Knows x.0 it × IsLine layout i it.layout x.1)
+IsJudged layout i group it (Ok x) = IsOwn layout i group it × (Knows x.0 it × IsLine layout i it.layout x.1)
 IsJudged layout i group it (Err e) = IsCause layout i group it e × (e ≢ StoreFault)
 
 module _ {S : Type 0} (g : Ghosts S) where
@@ -95,6 +85,15 @@ module _ {S : Type 0} (g : Ghosts S) where
   IsLeftBlank layout i group c WrongLayout = KeepsNothing g c
   IsLeftBlank layout i group c Memory = KeepsNothing g c
 
+  -- What it keeps after a refusal, where it was not known which of two contents it kept: still one of the two, or what is
+  -- left of a store that is known to have the first, or the second.
+  abbrev pub IsLeftEither : LayoutState → Stored → Stored → Held S → OpenError → Type 0
+  IsLeftEither layout a b c e = ∥ KeepsEither g c a b ⊎ (IsLeft layout a c e ⊎ IsLeft layout b c e) ∥₁
+
+  -- the same where it was not known whether it kept a content or none
+  abbrev pub IsLeftOr : LayoutState → ℕ → Option (List ℕ) → Stored → Held S → OpenError → Type 0
+  IsLeftOr layout i group it c e = ∥ KeepsNothingOr g c it ⊎ (IsLeftBlank layout i group c e ⊎ IsLeft layout it c e) ∥₁
+
   -- a store with a content was refused
   pub record IsRefused (layout : LayoutState) (i : ℕ) (group : Option (List ℕ)) (it : Stored) (c : Held S) (e : OpenError) : Type 0 where
     pub cause : HasCleanDisk (state g c) → IsCause layout i group it e
@@ -107,7 +106,7 @@ module _ {S : Type 0} (g : Ghosts S) where
 
   -- a store with a content is ready, of this layout now
   pub record IsReady (layout : LayoutState) (i : ℕ) (group : Option (List ℕ)) (it : Stored) (c : Held S) (index : Index) : Type 0 where
-    pub fits : HasCleanDisk (state g c) → IsFor layout i group it
+    pub fits : HasCleanDisk (state g c) → IsOwn layout i group it
     pub stores : HasCleanDisk (state g c) → Stores g layout (site_text i group) c index (renewed (line_of layout) it)
 
   -- nothing was committed: what a crash leaves now, it could leave before
@@ -155,7 +154,7 @@ module _ {S : Type 0} {g : Ghosts S} where
   -- The answer to an opening. Where the connection kept a content: a keeper of its durable part, the content being one
   -- of this site; or the connection again, with what it kept.
   abbrev pub Opens : LayoutState → ℕ → Option (List ℕ) → Stored → Result (SqlKeeper S g) (OpenError × Held S) → Type 0
-  Opens layout i group it (Ok k) = (is_honest k → IsFor layout i group it) × KeepsPart k (durable_in it)
+  Opens layout i group it (Ok k) = (is_honest k → IsOwn layout i group it) × KeepsPart k (durable_in it)
   Opens layout i group it (Err x) = IsRefused g layout i group it x.1 x.0
 
   -- where it kept a database without tables: a keeper of nothing, or the connection again
@@ -166,3 +165,7 @@ module _ {S : Type 0} {g : Ghosts S} where
   -- where it was not known which of two contents a connection keeps, a keeper of one of them
   abbrev pub Settles : Stored → Stored → SqlKeeper S g → Type 0
   Settles a b k = ∥ KeepsPart k (durable_in a) ⊎ KeepsPart k (durable_in b) ∥₁
+
+  -- where it was not known whether it keeps a content or none, a keeper of nothing or of this content
+  abbrev pub SettlesOr : Stored → SqlKeeper S g → Type 0
+  SettlesOr it k = KeepsPart k nothing_kept ⊎ KeepsPart k (durable_in it)

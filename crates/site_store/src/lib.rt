@@ -3,9 +3,11 @@
 
 pub use durable_keeper::{Keeper, KeeperError, MemoryKeeper};
 pub use error::OpenError;
+pub use laws::{grown_law, own_law};
 pub use sql::SqlKeeper;
 
 mod error;
+mod laws;
 mod opening;
 pub mod restart;
 mod sql;

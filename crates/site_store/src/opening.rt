@@ -1,15 +1,13 @@
 //! A database is opened as the store of a site, or made one.
-ghost use Rattle.std.specs.Prelude.{◌≡◌, ◌≢◌, ◌⊎◌, ◌↔◌, string_bytes, false, IsTrue, IsOk, IfOk, IfErr};
+ghost use Rattle.std.specs.Prelude.{◌≡◌, ◌≢◌, ◌⊎◌, ◌↔◌, string_bytes, false, Ok, IsTrue, IsOk, IfOk, IfErr};
 ghost use Rattle.sqlite.specs.State.{HasCleanDisk};
 ghost use Rattle.sqlite.specs.Held.{state};
 ghost use Rattle.layout_line.specs.Line.{line_of};
 ghost use Rattle.store_rows.specs.Holding.{Keeps, KeepsBeside, KeepsEither, KeepsNothing, KeepsNothingOr};
 ghost use Rattle.store_tables.specs.Kept.{has_failed, connection_of, CommitsNothing, IsRefusal};
-ghost use Rattle.store_tables.specs.Transacts.{made};
 ghost use Rattle.site_store.specs.declared.error.OpenError.TheVariants.{StoreFault, Memory};
 ghost use Rattle.site_store.specs.SiteText.{IsApart, IsForeign, NamesSite, named, site_text};
-ghost use Rattle.site_store.specs.Sql.{Stores};
-ghost use Rattle.site_store.specs.Opened.{IsCurrent, IsDeviceCause, IsDue, IsJudged, IsOwn, IsReady, Readies, ReadiesBlank};
+ghost use Rattle.site_store.specs.Opened.{IsCurrent, IsDeviceCause, IsDue, IsJudged, IsLeftEither, IsLeftOr, IsOwn, IsReady, Readies, ReadiesBlank};
 
 use crate::error::OpenError;
 use layout_line::{Line, compare, layout_line};
@@ -166,13 +164,16 @@ pub(crate) fn prepare<S: Alter>(
     ensures settles { (a b : _) → KeepsEither S.Store (connection_of tables.old) a b
         → IfOk result (λ index. ∥ IsReady S.Store layout.now site (named group.entry) a (connection_of tables.new) index
         ⊎ IsReady S.Store layout.now site (named group.entry) b (connection_of tables.new) index ∥₁) }
-    ensures settles_or { KeepsNothingOr S.Store (connection_of tables.old) (made (site_text site (named group.entry)) (line_of layout.now))
-        → IfOk result (λ index. HasCleanDisk (state S.Store (connection_of tables.new))
-        → Stores S.Store layout.now (site_text site (named group.entry)) (connection_of tables.new) index (made (site_text site (named group.entry)) (line_of layout.now))) }
+    ensures settles_or { (it : _) → KeepsNothingOr S.Store (connection_of tables.old) it
+        → IfOk result (λ index. ReadiesBlank S.Store layout.now site (named group.entry) (connection_of tables.new) (Ok index)
+        ⊎ IsReady S.Store layout.now site (named group.entry) it (connection_of tables.new) index) }
     ensures own { (a b : _) → IsOwn layout.now site (named group.entry) a → IsOwn layout.now site (named group.entry) b → KeepsEither S.Store (connection_of tables.old) a b
         → IfErr result (λ e. HasCleanDisk (state S.Store (connection_of tables.new)) → IsDeviceCause e) }
-    ensures own_or { KeepsNothingOr S.Store (connection_of tables.old) (made (site_text site (named group.entry)) (line_of layout.now))
+    ensures own_or { (it : _) → IsOwn layout.now site (named group.entry) it → KeepsNothingOr S.Store (connection_of tables.old) it
         → IfErr result (λ e. HasCleanDisk (state S.Store (connection_of tables.new)) → IsDeviceCause e) }
+    ensures left { (a b : _) → KeepsEither S.Store (connection_of tables.old) a b → IfErr result (IsLeftEither S.Store layout.now a b (connection_of tables.new)) }
+    ensures left_or { (it : _) → KeepsNothingOr S.Store (connection_of tables.old) it
+        → IfErr result (IsLeftOr S.Store layout.now site (named group.entry) it (connection_of tables.new)) }
     ensures beside { (a b : _) → (others : _) → KeepsEither S.Store (connection_of tables.old) a b → KeepsBeside S.Store (connection_of tables.old) others
         → KeepsBeside S.Store (connection_of tables.new) others }
     ensures fault { has_failed tables.old ≡ false → (it : _) → Keeps S.Store (connection_of tables.old) it

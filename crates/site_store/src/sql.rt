@@ -168,17 +168,15 @@ impl<S: Alter + Drop> Drop for SqlKeeper<S> {
 impl<S: Alter> SqlKeeper<S> {
     ghost use Rattle.std.specs.Prelude.{◌≡◌, ◌≢◌, [], None, Err, false, IfOk, IfErr, OnOk};
     ghost use Rattle.admission_core.specs.Kept.{DurableState};
-    ghost use Rattle.durable_keeper.specs.Keeping.{IsChange, changed, nothing_kept};
-    ghost use Rattle.layout_line.specs.Line.{line_of};
+    ghost use Rattle.durable_keeper.specs.Keeping.{IsChange, changed};
     ghost use Rattle.store_rows.specs.Rows.{Stored};
     ghost use Rattle.store_rows.specs.Holding.{Keeps, KeepsBeside, KeepsEither, KeepsNothing, KeepsNothingOr};
     ghost use Rattle.sqlite.specs.Effect.{Database};
-    ghost use Rattle.store_tables.specs.Transacts.{made};
     ghost use Rattle.store_content.specs.Plan.{LacksPlace, after_change};
     ghost use Rattle.durable_keeper.specs.declared.error.KeeperError.TheVariants.{Memory, StoreFault};
     ghost use Rattle.site_store.specs.Sql.{KeepsContent, KeepsContentOr, KeepsEitherPart, KeepsPart, below, faults_of, group_of, is_honest, layout_of, site_of};
-    ghost use Rattle.site_store.specs.SiteText.{named, site_text};
-    ghost use Rattle.site_store.specs.Opened.{CommitsNothing, IsByDevice, IsCurrent, IsFault, IsJudgedFirst, IsKeeperOf, IsOwn, Opens, OpensBlank, Settles, left_by};
+    ghost use Rattle.site_store.specs.SiteText.{named};
+    ghost use Rattle.site_store.specs.Opened.{CommitsNothing, IsByDevice, IsCurrent, IsFault, IsJudgedFirst, IsKeeperOf, IsLeftEither, IsLeftOr, IsOwn, Opens, OpensBlank, Settles, SettlesOr, left_by};
 
     /// Opens a database as the store of a site of a layout, with no transaction open, as the caller shows. Where a group
     /// of sites is named, by any text, the store is that of the site in this group; without a name it is in no group.
@@ -201,8 +199,10 @@ impl<S: Alter> SqlKeeper<S> {
         ensures settles { (a b : Stored) → KeepsEither S.Store connection a b → IfOk result (Settles a b) }
         ensures own { (a b : Stored) → IsOwn layout.now site (named group.entry) a → IsOwn layout.now site (named group.entry) b → KeepsEither S.Store connection a b
             → IfErr result (IsByDevice S.Store) }
-        ensures settles_or { KeepsNothingOr S.Store connection (made (site_text site (named group.entry)) (line_of layout.now)) → IfOk result (λ k. KeepsPart k nothing_kept) }
-        ensures own_or { KeepsNothingOr S.Store connection (made (site_text site (named group.entry)) (line_of layout.now)) → IfErr result (IsByDevice S.Store) }
+        ensures settles_or { (it : Stored) → KeepsNothingOr S.Store connection it → IfOk result (SettlesOr it) }
+        ensures own_or { (it : Stored) → IsOwn layout.now site (named group.entry) it → KeepsNothingOr S.Store connection it → IfErr result (IsByDevice S.Store) }
+        ensures left { (a b : Stored) → KeepsEither S.Store connection a b → IfErr result (λ x. IsLeftEither S.Store layout.now a b x.1 x.0) }
+        ensures left_or { (it : Stored) → KeepsNothingOr S.Store connection it → IfErr result (λ x. IsLeftOr S.Store layout.now site (named group.entry) it x.1 x.0) }
         ensures fault { (it : Stored) → Keeps S.Store connection it → IfErr result (IsFault S.Store layout.now site (named group.entry) it connection) }
         ensures judged { IfErr result (IsJudgedFirst S.Store connection) }
         ensures current { (it : Stored) → IsCurrent layout.now it → Keeps S.Store connection it → HasCleanDisk (state S.Store (left_by result))

@@ -10,7 +10,7 @@ use Rattle.store_content.specs.Content.{IsContent, IsNotice}
 use Rattle.store_content.specs.Plan.{IsCell, IsPlan, IsTellable, Makes, RowsState, cells_of, notices_of, rows_for}
 use Rattle.store_content.proofs.DurableLemmas.{part}
 use Rattle.store_content.proofs.PutLemmas.{all_weaker, cells_small, each_by, each_of}
-use Rattle.store_content.proofs.SlotLaws.{cells_law, notices_are, put_notices_are, put_notices_rise, put_table_rises}
+use Rattle.store_content.proofs.SlotLaws.{cells_law, notices_are, put_notices_are, put_notices_rise, put_table_fits, put_table_rises}
 use Rattle.store_content.proofs.SessionLaws.{AreSessions, edit_is, edit_storable, place_free, sessions_law}
 
 value_fits : (x : DurableCell) → IsCell x → x.value < 2 ^ 63
@@ -21,12 +21,13 @@ unfolding part
 makes_for c it some is tell plan =
     let all = each_of IsCell c.cells tell.cells in
     let sessions : AreSessions it.sessions = record { rising = is.rows.sessions_rise; once = is.once; placed = is.rows.places } in
-    let edit = edit_is c.session it plan.room sessions in
+    let edit = edit_is c.session it plan.room sessions tell.held in
     record {
       durable = ap₂ part (cells_law c.cells it is tell.rising all) (sessions_law c.session it sessions);
       content = record {
         rows = record {
           cells_rise = put_table_rises c.cells it is tell.rising all;
+          cells = put_table_fits c.cells it is tell.rising all;
           notices_rise = put_notices_rise c.cells it is tell.rising all;
           notices = put_notices_are c.cells it is tell.rising all;
           sessions_rise = edit.rising;

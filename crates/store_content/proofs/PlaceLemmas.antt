@@ -134,7 +134,7 @@ rise_restage stage r h (t ∷ ts) up = (behind_restage stage r h t ts up.0, rise
 
 pub placed_restage : (stage : Stage) (r h : ℕ) (ss : List StoredSession) → AllByRecursion IsPlaced ss → AllByRecursion IsPlaced (map (restage stage r h) ss)
 placed_restage stage r h [] all = tt
-placed_restage stage r h (t ∷ ts) all = (record { given = all.0.given; small = all.0.small }, placed_restage stage r h ts all.1)
+placed_restage stage r h (t ∷ ts) all = (record { record_fits = all.0.record_fits; given = all.0.given; small = all.0.small }, placed_restage stage r h ts all.1)
 
 pub greatest_restage : (stage : Stage) (r h : ℕ) (ss : List StoredSession) → greatest_place (map (restage stage r h) ss) ≡ greatest_place ss
 greatest_restage stage r h [] = refl

@@ -1,5 +1,5 @@
 -- The sessions of a content after the edit of a change.
-use Rattle.std.proofs.Common.{◌≡◌, inl, inr, ℕ, ◌+◌, ◌<◌, ◌≤◌, true, false, ◌==◌, nat_lt, cond, List, [], ◌∷◌, ◌++◌, map, Option, Some, None, is_some, IsTrue, refl, sym, ap, subst, ◌∙◌, arith}
+use Rattle.std.proofs.Common.{◌≡◌, inl, inr, ℕ, ◌+◌, ◌<◌, ◌≤◌, ◌^◌, true, false, ◌==◌, nat_lt, cond, List, [], ◌∷◌, ◌++◌, map, Option, Some, None, is_some, IsTrue, refl, sym, ap, subst, ◌∙◌, arith}
 use Rattle.std.specs.List.{AllByRecursion}
 use Rattle.std.proofs.lemmas.Bool.{cases_Bool, cases_lt}
 use Rattle.std.proofs.lemmas.Bool.Decides.{nat_tests}
@@ -35,13 +35,13 @@ there_is s ss is found = subst AreSessions (sym (put_there s ss is.rising is.onc
   placed = placed_restage s.stage s.r s.h ss is.placed;
 })
 
-new_is : (s : StoredSession) (ss : List StoredSession) → AreSessions ss → place_in ss s.r s.h ≡ None → s.place ≡ greatest_place ss + 1 → s.place ≤ most_places → AreSessions (put session_before s (without s.r s.h ss))
-new_is s ss is none next small =
+new_is : (s : StoredSession) (ss : List StoredSession) → AreSessions ss → place_in ss s.r s.h ≡ None → s.place ≡ greatest_place ss + 1 → s.place ≤ most_places → s.r < 2 ^ 16 → AreSessions (put session_before s (without s.r s.h ss))
+new_is s ss is none next small fits =
     let below = all_below ss s.place (omega arith) in
     subst AreSessions (sym (new_last s ss none next)) (record {
       rising = rise_append s ss below is.rising;
       once = once_append s ss is.once none;
-      placed = all_append IsPlaced s ss (record { given = omega arith; small = small }) is.placed;
+      placed = all_append IsPlaced s ss (record { record_fits = fits; given = omega arith; small = small }) is.placed;
     })
 
 drop_is : (r h : ℕ) (ss : List StoredSession) → AreSessions ss → AreSessions (without r h ss)
@@ -54,13 +54,13 @@ has_room s it room none = elim (cases_lt (greatest_place it.sessions) most_place
   | inr high ↦ absurd (room (none, high))
 ]
 
-pub edit_is : (c : Option SessionChange) (it : Stored) → (LacksPlace c it → ⊥) → AreSessions it.sessions → AreSessions (edited (edit_of c it) it.sessions)
-edit_is None it room is = is
-edit_is (Some (changes.Put s)) it room is = elim (place_found s it) [
+pub edit_is : (c : Option SessionChange) (it : Stored) → (LacksPlace c it → ⊥) → AreSessions it.sessions → IsHeld c → AreSessions (edited (edit_of c it) it.sessions)
+edit_is None it room is held = is
+edit_is (Some (changes.Put s)) it room is held = elim (place_found s it) [
   | inl found ↦ there_is (put_for s it) it.sessions is found
-  | inr new ↦ let small = has_room s it room new.0 in new_is (put_for s it) it.sessions is new.0 new.1 (subst (λ n. n ≤ most_places) (sym new.1) small)
+  | inr new ↦ let small = has_room s it room new.0 in new_is (put_for s it) it.sessions is new.0 new.1 (subst (λ n. n ≤ most_places) (sym new.1) small) held.0
 ]
-edit_is (Some (changes.Removed s)) it room is = drop_is s.r s.h it.sessions is
+edit_is (Some (changes.Removed s)) it room is held = drop_is s.r s.h it.sessions is
 
 -- ---- as sessions of a durable part
 
@@ -153,6 +153,6 @@ edit_storable (Some (changes.Put s)) it room is held =
       | inl found ↦ place_small it.sessions s.r s.h (place_for s it) is.placed found
       | inr new ↦ subst (λ n. n ≤ most_places) (sym new.1) (has_room s it room new.0)
     ] in
-    let low : s.h ≤ 1000000000000 = held in
+    let low : s.h ≤ 1000000000000 = held.1 in
     (omega arith, omega arith)
-edit_storable (Some (changes.Removed s)) it room is held = let low : s.h ≤ 1000000000000 = held in omega arith
+edit_storable (Some (changes.Removed s)) it room is held = let low : s.h ≤ 1000000000000 = held.1 in omega arith

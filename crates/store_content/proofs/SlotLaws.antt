@@ -11,7 +11,7 @@ use Rattle.store_rows.specs.declared.content.StoredNotice.{StoredNotice}
 use Rattle.store_rows.specs.Rows.{Stored, cell_before, notice_before}
 use Rattle.store_rows.specs.Sorted.{IsRising, put_all}
 use Rattle.store_rows.proofs.ContentLemmas.{cells_ordered, notices_ordered}
-use Rattle.store_content.specs.Content.{IsContent, IsNotice, announced_by, announced_cells, durable_cells, finished_by, finished_cells, notice_in, table_cells}
+use Rattle.store_content.specs.Content.{IsContent, IsCounter, IsNotice, announced_by, announced_cells, durable_cells, finished_by, finished_cells, notice_in, table_cells}
 use Rattle.durable_keeper.specs.Keeping.{most_kept}
 use Rattle.store_content.specs.Plan.{IsCell, IsSlot, begins_row, cells_of, notices_of, site_at}
 use Rattle.durable_keeper.proofs.CellLists.{is_at, one_rising, or_else, or_else_none, puts_rise, stored_append, stored_puts}
@@ -88,6 +88,14 @@ pub sites_low : (ns : List StoredNotice) → AllByRecursion IsNotice ns → AllB
 sites_low [] all = tt
 sites_low (n ∷ ns) all = (all.0.site_there, sites_low ns all.1)
 
+-- the counters of a change that stand in the table of counters fit into it
+cells_fit : (cs : List DurableCell) → AllByRecursion IsCell cs → AllByRecursion IsCounter (cells_of cs)
+cells_fit [] all = tt
+cells_fit (c ∷ cs) all = elim (cases_Bool (nat_lt c.slot 300)) [
+  | inl e ↦ let low : c.slot < 300 = grind (arith, nat_tests) in rw e (record { record_fits = all.0.record_fits; slot_fits = omega arith }, cells_fit cs all.1)
+  | inr e ↦ rw e (cells_fit cs all.1)
+]
+
 module _ (cells : List DurableCell) (it : Stored) (is : IsContent it) (up : AreRising cells) (all : AllByRecursion IsCell cells) where
   abbrev put_notices : List StoredNotice
   put_notices = put_all notice_before (notices_of cells it) it.notices
@@ -97,6 +105,7 @@ module _ (cells : List DurableCell) (it : Stored) (is : IsContent it) (up : AreR
 
   row_is : (x : DurableCell) → IsCell x → begins_row cells x ≡ true → IsNotice (row_of cells it x)
   row_is x cell begins = record {
+    record_fits = cell.record_fits;
     site_there = site_low x.slot cell.slot (not_true (nat_lt x.slot 300) (and_parts _ _ begins).0);
     announced_fits = fits_unwrap (stored_at cells x.r (300 + site_at x.slot)) _ (λ v. small_at cells x.r (300 + site_at x.slot) v all) (announced_fits it.notices x.r (site_at x.slot) is.rows.notices);
     finished_fits = fits_unwrap (stored_at cells x.r (400 + site_at x.slot)) _ (λ v. small_at cells x.r (400 + site_at x.slot) v all) (finished_fits it.notices x.r (site_at x.slot) is.rows.notices);
@@ -117,6 +126,9 @@ module _ (cells : List DurableCell) (it : Stored) (is : IsContent it) (up : AreR
 
   pub put_notices_rise : IsRising notice_before put_notices
   put_notices_rise = put_all_rises notice_before notices_ordered (notices_of cells it) it.notices is.rows.notices_rise
+
+  pub put_table_fits : AllByRecursion IsCounter put_table
+  put_table_fits = all_put_all cell_before IsCounter (cells_of cells) it.cells (cells_fit cells all) is.rows.cells
 
   pub put_table_rises : IsRising cell_before put_table
   put_table_rises = put_all_rises cell_before cells_ordered (cells_of cells) it.cells is.rows.cells_rise

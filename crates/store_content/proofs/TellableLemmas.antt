@@ -1,5 +1,5 @@
 -- A change that a keeper may be told is one that rows can tell.
-use Rattle.std.proofs.Common.{◌≡◌, ◌≢◌, ◌⊎◌, inl, inr, ℕ, ◌-◌, ◌<◌, ◌≤◌, Bool, true, false, ◌&&◌, not, eqb, cond, ltb, Option, Some, None, is_some, IsSome, refl, sym, ap, ◌∙◌, arith}
+use Rattle.std.proofs.Common.{◌≡◌, ◌≢◌, ◌⊎◌, inl, inr, ℕ, ◌-◌, ◌<◌, ◌≤◌, Bool, true, false, ◌&&◌, not, eqb, cond, ltb, length, Option, Some, None, is_some, IsSome, refl, sym, ap, ◌∙◌, arith}
 use Rattle.std.proofs.lemmas.Bool.{cases_lt, cond-true, cond-false, lt-ltb, le-ltb, true≢false}
 use Rattle.merge_core.specs.declared.cell.Cell.{Cell}
 use Rattle.merge_core.specs.declared.cell.Cell.TheVariants.{Ann, Fin}
@@ -58,21 +58,22 @@ start_none shape sites i r slot high = elim (low_or_high slot sites i high) [
   | inr a ↦ ap (counter_named (start_counter shape) r) a.0 ∙ start_finished shape sites i (slot - 400) r
 ]
 
-cell_is : (layout : LayoutState) (i : ℕ) (c : DurableCell) → layout.sites ≤ 16 → IsListed layout i c → c.value ≤ most_kept → IsCell c
-cell_is layout i c few listed small = record {
+cell_is : (layout : LayoutState) (i : ℕ) (c : DurableCell) → layout.sites ≤ 16 → length layout.records ≤ 256 → IsListed layout i c → c.value ≤ most_kept → IsCell c
+cell_is layout i c few short listed small = record {
+  record_fits = let there : c.r < length layout.records = listed.record_there in omega arith;
   slot = slot_is layout.sites i c.slot few listed.slot_there;
   moved = λ high. let begins = start_none (shape_of layout) layout.sites i c.r c.slot high in let other : c.value ≢ 0 = λ e. listed.moved (e ∙ sym begins) in omega arith;
   small = small;
 }
 
-held_is : (layout : LayoutState) (c : Option SessionChange) → IsSessionChange layout c → IsHeld c
-held_is layout None is = tt
-held_is layout (Some (changes.Put s)) is = is.1
-held_is layout (Some (changes.Removed s)) is = is.1
+held_is : (layout : LayoutState) (c : Option SessionChange) → length layout.records ≤ 256 → IsSessionChange layout c → IsHeld c
+held_is layout None short is = tt
+held_is layout (Some (changes.Put s)) short is = let there : s.r < length layout.records = is.0 in (omega arith, is.1)
+held_is layout (Some (changes.Removed s)) short is = let there : s.r < length layout.records = is.0 in (omega arith, is.1)
 
-pub tellable : (layout : LayoutState) (i : ℕ) (c : ChangeState) → layout.sites ≤ 16 → IsChange layout i c → IsTellable c
-tellable layout i c few is = record {
+pub tellable : (layout : LayoutState) (i : ℕ) (c : ChangeState) → layout.sites ≤ 16 → length layout.records ≤ 256 → IsChange layout i c → IsTellable c
+tellable layout i c few short is = record {
   rising = is.rising;
-  cells = λ k d below. cell_is layout i _ few (is.listed k d below) (is.small k d below);
-  held = held_is layout c.session is.session;
+  cells = λ k d below. cell_is layout i _ few short (is.listed k d below) (is.small k d below);
+  held = held_is layout c.session short is.session;
 }

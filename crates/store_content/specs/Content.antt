@@ -107,21 +107,29 @@ abbrev pub finished_by : Option StoredNotice → ℕ
 finished_by None = 0
 finished_by (Some n) = n.finished
 
--- a notice is of one of 16 sites, with numbers that a store takes
+-- a counter is at a record and a slot of 16 bits each
+pub record IsCounter (c : StoredCell) : Type 0 where
+  pub record_fits : c.r < 2 ^ 16
+  pub slot_fits : c.slot < 2 ^ 16
+
+-- a notice is at a record of 16 bits and of one of 16 sites, with numbers that a store takes
 pub record IsNotice (n : StoredNotice) : Type 0 where
+  pub record_fits : n.r < 2 ^ 16
   pub site_there : n.site ≤ 15
   pub announced_fits : n.announced < 2 ^ 63
   pub finished_fits : n.finished < 2 ^ 63
 
--- a place is one that is given to a session
+-- a session is at a record of 16 bits, and its place is one that is given to a session
 pub record IsPlaced (s : StoredSession) : Type 0 where
+  pub record_fits : s.r < 2 ^ 16
   pub given : 1 ≤ s.place
   pub small : s.place ≤ most_places
 
--- the rows of each table are such as those of a site's store: its counters rise, its notices rise, and its sessions rise
--- by place
+-- The rows of each table are such as those of a site's store: its counters rise, its notices rise, and its sessions rise
+-- by place. Their numbers are such as the tables take.
 pub record HasRows (it : Stored) : Type 0 where
   pub cells_rise : IsRising cell_before it.cells
+  pub cells : AllByRecursion IsCounter it.cells
   pub notices_rise : IsRising notice_before it.notices
   pub notices : AllByRecursion IsNotice it.notices
   pub sessions_rise : IsRising session_before it.sessions

@@ -97,17 +97,19 @@ IsPlanned c it None = LacksPlace c.session it
 abbrev pub IsSlot : ℕ → Type 0
 IsSlot slot = (slot < 300) ⊎ (((300 ≤ slot) × (slot ≤ 315)) ⊎ ((400 ≤ slot) × (slot ≤ 415)))
 
--- a counter of a change is at such a slot, not 0 if it is of a notice, and no more than it can be
+-- A counter of a change is at a record of 16 bits and at such a slot. It is not 0 if it is of a notice, and no more than it
+-- can be.
 pub record IsCell (c : DurableCell) : Type 0 where
+  pub record_fits : c.r < 2 ^ 16
   pub slot : IsSlot c.slot
   pub moved : 300 ≤ c.slot → 1 ≤ c.value
   pub small : c.value ≤ most_kept
 
--- the holder of a session that is put or removed can be
+-- a session that is put or removed is at a record of 16 bits, and its holder is one that can be
 abbrev pub IsHeld : Option SessionChange → Type 0
 IsHeld None = ⊤
-IsHeld (Some (changes.Put s)) = s.h ≤ holder_limit
-IsHeld (Some (changes.Removed s)) = s.h ≤ holder_limit
+IsHeld (Some (changes.Put s)) = (s.r < 2 ^ 16) × (s.h ≤ holder_limit)
+IsHeld (Some (changes.Removed s)) = (s.r < 2 ^ 16) × (s.h ≤ holder_limit)
 
 -- A change that rows of a store can tell, as each change that a keeper may be told is: its counters rise by record and
 -- slot, and each is one that a store has.

@@ -3,7 +3,7 @@ ghost use Rattle.std.specs.Prelude.{◌↔◌, IsTrue};
 ghost use Rattle.std.specs.List.{AllByRecursion};
 ghost use Rattle.store_rows.specs.Rows.{cell_before, notice_before, session_before};
 ghost use Rattle.store_rows.specs.Sorted.{IsRising};
-ghost use Rattle.store_content.specs.Content.{IsNotice, IsPlaced, HasRows};
+ghost use Rattle.store_content.specs.Content.{IsCounter, IsNotice, IsPlaced, HasRows};
 
 use store_rows::{Content, StoredCell, StoredNotice, StoredSession};
 
@@ -17,7 +17,13 @@ const LAST_SITE: u16 = 15;
 pub fn has_rows(content: &Content) -> bool
     ensures { IsTrue result ↔ HasRows content.now }
 {
-    cells_rise(&content.cells) && have_notices(&content.notices) && have_sessions(&content.sessions)
+    have_cells(&content.cells) && have_notices(&content.notices) && have_sessions(&content.sessions)
+}
+
+fn have_cells(cells: &[StoredCell]) -> bool
+    ensures { IsTrue result ↔ (IsRising cell_before cells.now × AllByRecursion IsCounter cells.now) }
+{
+    cells_rise(cells) && cells.iter().all(|cell| is_counter(*cell))
 }
 
 fn have_notices(notices: &[StoredNotice]) -> bool
@@ -30,6 +36,13 @@ fn have_sessions(sessions: &[StoredSession]) -> bool
     ensures { IsTrue result ↔ (IsRising session_before sessions.now × AllByRecursion IsPlaced sessions.now) }
 {
     sessions_rise(sessions) && sessions.iter().all(|session| is_placed(*session))
+}
+
+// Always true, since the types of both numbers have 16 bits. The test lets the contract of a list of counters say so.
+fn is_counter(cell: StoredCell) -> bool
+    ensures { IsTrue result ↔ IsCounter cell }
+{
+    cell.r <= u16::MAX && cell.slot <= u16::MAX
 }
 
 fn is_notice(notice: StoredNotice) -> bool

@@ -1,5 +1,5 @@
 //! Laws of the definitions in specs/: functions that do nothing, whose contracts are the laws.
-ghost use Rattle.std.specs.Prelude.{ℕ, ◌≤◌};
+ghost use Rattle.std.specs.Prelude.{ℕ, ◌≤◌, length};
 ghost use Rattle.admission_model.specs.Restoring.{AreCells};
 ghost use Rattle.merge_core.specs.Layout.{LayoutState};
 ghost use Rattle.admission_core.specs.Kept.{ChangeState};
@@ -8,9 +8,10 @@ ghost use Rattle.store_rows.specs.Rows.{Stored};
 ghost use Rattle.store_content.specs.Content.{HasMisplaced, IsContent, durable_cells};
 ghost use Rattle.store_content.specs.Plan.{IsTellable};
 
-/// Each change that a keeper may be told at a site of a layout is one that rows of a store can tell.
+/// Each change that a keeper may be told at a site of a layout is one that rows of a store can tell. A layout has at most
+/// 16 sites and 256 records.
 pub fn change_law()
-    ensures { (layout : LayoutState) → (i : ℕ) → (c : ChangeState) → layout.sites ≤ 16 → IsChange layout i c → IsTellable c }
+    ensures { (layout : LayoutState) → (i : ℕ) → (c : ChangeState) → layout.sites ≤ 16 → length layout.records ≤ 256 → IsChange layout i c → IsTellable c }
 {}
 
 /// No site begins from a content whose table of counters has a slot from 300 on, whatever it holds besides: the counters

@@ -7,16 +7,12 @@ use Rattle.sqlite.specs.State.{HasCleanDisk}
 use Rattle.merge_core.specs.Layout.{LayoutState}
 use Rattle.store_rows.specs.Rows.{Stored}
 use Rattle.store_rows.specs.Holding.{Keeps, KeepsBeside, KeepsEither, KeepsNothing, KeepsNothingOr}
-use Rattle.store_tables.specs.Transacts.{made}
-use Rattle.layout_line.specs.Line.{line_of}
-use Rattle.durable_keeper.specs.Keeping.{nothing_kept}
 use Rattle.durable_keeper.specs.declared.keeper.Keeper.{Ghosts}
 use Rattle.site_store.specs.declared.error.OpenError.{OpenError}
 use Rattle.site_store.specs.declared.error.OpenError.TheVariants as opening
 use Rattle.site_store.specs.declared.sql.SqlKeeper.{SqlKeeper}
-use Rattle.site_store.specs.SiteText.{site_text}
-use Rattle.site_store.specs.Sql.{below, KeepsPart}
-use Rattle.site_store.specs.Opened.{CommitsNothing, IsByDevice, IsCurrent, IsFault, IsJudgedFirst, IsOwn, Opens, OpensBlank, Settles, left_by}
+use Rattle.site_store.specs.Sql.{below}
+use Rattle.site_store.specs.Opened.{CommitsNothing, IsByDevice, IsCurrent, IsFault, IsJudgedFirst, IsLeftEither, IsLeftOr, IsOwn, Opens, OpensBlank, Settles, SettlesOr, left_by}
 use Rattle.text_input.specs.Source.{SourceState}
 use Rattle.text_input.specs.Sink.{SinkState}
 use Rattle.exit_status.specs.declared.store_refusal.StoreRefusal.TheVariants.{BadStore, WrongSite, WrongLayout, StoreFault}
@@ -37,16 +33,19 @@ refusal_status opening.Memory = Memory
 module _ {S : Type 0} (g : Device S) where
   -- What an opening of the store in a database came to, for a site that is in this group or in none: a keeper, or a
   -- refusal with the database. Where a crash left one of two contents, it is a keeper of one of them; where both were
-  -- this site's own, an honest device is the only cause of a refusal. The same holds where a crash left a new store or
-  -- none. A fault of an honest device has its cause; nothing is committed before all is judged, nor where nothing is due;
-  -- and other tables, which were made behind those of the store, keep their rows.
+  -- this site's own, an honest device is the only cause of a refusal, and after any refusal the database still keeps one of
+  -- them, or what the renewal of one makes of it. The same holds where a crash left a store or none, as an interrupted
+  -- creation does, be it of an earlier layout. A fault of an honest device has its cause; nothing is committed before all
+  -- is judged, nor where nothing is due; and other tables, which were made behind those of the store, keep their rows.
   pub record OpensStore (layout : LayoutState) (i : ℕ) (group : Option (List ℕ)) (c : Held S) (opened : Result (SqlKeeper S g) (OpenError × Held S)) : Type 0 where
     pub stored : (it : Stored) → Keeps g c it → Opens {g = g} layout i group it opened
     pub blank : KeepsNothing g c → OpensBlank {g = g} layout i group opened
     pub settles : (a b : Stored) → KeepsEither g c a b → IfOk opened (Settles a b)
     pub own : (a b : Stored) → IsOwn layout i group a → IsOwn layout i group b → KeepsEither g c a b → IfErr opened (IsByDevice g)
-    pub settles_or : KeepsNothingOr g c (made (site_text i group) (line_of layout)) → IfOk opened (λ k. KeepsPart k nothing_kept)
-    pub own_or : KeepsNothingOr g c (made (site_text i group) (line_of layout)) → IfErr opened (IsByDevice g)
+    pub settles_or : (it : Stored) → KeepsNothingOr g c it → IfOk opened (SettlesOr it)
+    pub own_or : (it : Stored) → IsOwn layout i group it → KeepsNothingOr g c it → IfErr opened (IsByDevice g)
+    pub left : (a b : Stored) → KeepsEither g c a b → IfErr opened (λ x. IsLeftEither g layout a b x.1 x.0)
+    pub left_or : (it : Stored) → KeepsNothingOr g c it → IfErr opened (λ x. IsLeftOr g layout i group it x.1 x.0)
     pub fault : (it : Stored) → Keeps g c it → IfErr opened (IsFault g layout i group it c)
     pub judged : IfErr opened (IsJudgedFirst g c)
     pub current : (it : Stored) → IsCurrent layout it → Keeps g c it → HasCleanDisk (state g (left_by opened)) → CommitsNothing g c (left_by opened)

@@ -1,5 +1,61 @@
-use Rattle.std.proofs.Common.{rules, inl, refl}
+use Rattle.std.proofs.Common.{rules, inl, inr, refl}
+use Rattle.live_databases.proofs.LiveLemmas.{found_one}
 use Rattle.live_databases.proofs.serving.serve_logged_over.Goals as goal
+
+pub returns-in-Err-load : goal.returns-in-Err-load
+returns-in-Err-load g c = inr (inr (inl (record {
+  keeper = c.in-Ok.keeper;
+  keeper_now = c.load.new.self;
+  opened = record {
+    stored = c.in-Ok.ensures.store;
+    blank = c.in-Ok.ensures.blank;
+    settles = c.in-Ok.ensures.settles;
+    own = c.in-Ok.ensures.own;
+    settles_or = c.in-Ok.ensures.settles_or;
+    own_or = c.in-Ok.ensures.own_or;
+    left = c.in-Ok.ensures.left;
+    left_or = c.in-Ok.ensures.left_or;
+    fault = c.in-Ok.ensures.fault;
+    judged = c.in-Ok.ensures.judged;
+    current = c.in-Ok.ensures.current;
+    beside = c.in-Ok.ensures.beside;
+  };
+  keeps_on = search rules;
+  error = c.in-Err-load.error;
+  fault = search rules;
+  no_fault = search rules;
+  silent = refl;
+  is_unloaded = search rules;
+  handed = search rules;
+})))
+
+pub returns-in-Err-open_log : goal.returns-in-Err-open_log
+returns-in-Err-open_log g c = inr (inl (record {
+  keeper = c.in-Ok.keeper;
+  keeper_now = c.load.new.self;
+  opened = record {
+    stored = c.in-Ok.ensures.store;
+    blank = c.in-Ok.ensures.blank;
+    settles = c.in-Ok.ensures.settles;
+    own = c.in-Ok.ensures.own;
+    settles_or = c.in-Ok.ensures.settles_or;
+    own_or = c.in-Ok.ensures.own_or;
+    left = c.in-Ok.ensures.left;
+    left_or = c.in-Ok.ensures.left_or;
+    fault = c.in-Ok.ensures.fault;
+    judged = c.in-Ok.ensures.judged;
+    current = c.in-Ok.ensures.current;
+    beside = c.in-Ok.ensures.beside;
+  };
+  keeps_on = search rules;
+  first = c.in-Ok-load.first;
+  loaded = λ d kept honest. found_one c.load.result c.in-Ok-load.first d c.in-Ok-load.is (c.load.ensures.found d kept honest);
+  error = c.in-Err-open_log.error;
+  not_opened = search rules;
+  silent = refl;
+  is_unlogged = search rules;
+  handed = search rules;
+}))
 
 pub returns : goal.returns
 returns g c = inl (record {
@@ -13,13 +69,18 @@ returns g c = inl (record {
     own = c.in-Ok.ensures.own;
     settles_or = c.in-Ok.ensures.settles_or;
     own_or = c.in-Ok.ensures.own_or;
+    left = c.in-Ok.ensures.left;
+    left_or = c.in-Ok.ensures.left_or;
     fault = c.in-Ok.ensures.fault;
     judged = c.in-Ok.ensures.judged;
     current = c.in-Ok.ensures.current;
     beside = c.in-Ok.ensures.beside;
   };
   keeps_on = search rules;
+  first = c.in-Ok-load.first;
+  loaded = λ d kept honest. found_one c.load.result c.in-Ok-load.first d c.in-Ok-load.is (c.load.ensures.found d kept honest);
   log = c.in-Ok-open_log.log;
+  log_opened = search rules;
   log_after = c.serve_engine-status.new.log;
   status = c.serve_engine-status.result.0;
   ends = c.serve_engine-status.ensures.ended;

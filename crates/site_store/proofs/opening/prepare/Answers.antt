@@ -1,10 +1,10 @@
 use Rattle.std.proofs.Common.{◌≡◌, ◌≢◌, inl, inr, Option, Result, Err, sym, ap, subst, ◌∙◌}
 use Rattle.std.proofs.lemmas.Option.{none-some, same_Some}
 use Rattle.std.proofs.lemmas.Result.{IfErr-at_err, IfErr-weaker, err_from_is_err_and}
+use Rattle.sqlite.specs.State.{HasCleanDisk}
+use Rattle.sqlite.specs.Held.{state}
 use Rattle.store_rows.proofs.StepLemmas.{survives_same}
-use Rattle.layout_line.specs.Line.{line_of}
 use Rattle.store_tables.specs.Kept.{CommitsNothing}
-use Rattle.store_tables.specs.Transacts.{made}
 use Rattle.store_tables.specs.Reads.{IsInRange}
 use Rattle.store_tables.specs.declared.tables.Tables.{Tables}
 use Rattle.store_tables.proofs.LookLemmas.{if_ok_from}
@@ -14,10 +14,12 @@ use Rattle.store_rows.specs.Rows.{Stored}
 use Rattle.store_tables.specs.declared.error.TableError.{TableError}
 use Rattle.store_tables.specs.Kept.{connection_of}
 use Rattle.site_store.specs.declared.error.OpenError.{OpenError}
-use Rattle.site_store.specs.SiteText.{named, site_text}
+use Rattle.site_store.specs.SiteText.{named}
 use Rattle.site_store.specs.Opened.{IsCurrent, IsDeviceCause, IsDue, IsOwn, IsReady, IsRefused, IsRefusedBlank, Readies, ReadiesBlank}
 use Rattle.site_store.proofs.OpenLemmas.{beside_none, beside_some, refused, refused_blank, readies_any, settled_none, settled}
-use Rattle.site_store.proofs.OwnLemmas.{any_of, any_of_either, any_of_nothing_or, device_two, either_own, fault_of, if_err_from, made_own, memory_cause, memory_is_none, none_kept, some_found, some_kept, table_cause}
+use Rattle.site_store.proofs.OwnLemmas.{any_of, any_of_either, any_of_nothing_or, device_two, either_own, fault_of, if_err_from, memory_cause, memory_is_none, none_kept, some_found, some_kept, table_cause}
+use Rattle.site_store.proofs.LeftLemmas.{left_none, left_or_none, left_or_some, left_some}
+use Rattle.site_store.proofs.RangeLemmas.{in_range}
 use Rattle.site_store.proofs.opening.prepare.Goals as goal
 
 abbrev error : TableError → Result (Option Stored) TableError
@@ -33,7 +35,7 @@ returns-clause-ready g c it keeps =
     let conn = connection_of c.look.new.self in
     subst (λ (e : OpenError). IsRefused g.S.Store c.args.layout.now c.args.site (named c.args.group) it conn e) (sym c.from.ensures)
     (refused g.S.Store conn c.args.layout.now c.args.site (named c.args.group) it c.in-Err.error
-    (λ is clean sound. c.in-Err.ensures.own it sound.in_range keeps clean (ap error is)) (c.in-Err.ensures.kept it keeps))
+    (λ is clean content. c.in-Err.ensures.own it (in_range it content) keeps clean (ap error is)) (c.in-Err.ensures.kept it keeps))
 
 pub returns-clause-made : goal.returns-clause-made
 returns-clause-made g c blank =
@@ -54,29 +56,28 @@ returns-in-Ok-Some-clause-settles g c a b keeps =
 -- ---- after a creation in doubt
 
 pub returns-in-Ok-Some-clause-settles_or : goal.returns-in-Ok-Some-clause-settles_or
-returns-in-Ok-Some-clause-settles_or g c keeps =
+returns-in-Ok-Some-clause-settles_or g c it keeps =
     let layout = c.args.layout.now in
     let conn = connection_of c.look.new.self in
-    let new = made (site_text c.args.site (named c.args.group)) (line_of layout) in
-    let found = c.in-Ok-Some.ensures.settles_or new keeps in
+    let next = connection_of c.open_found.new.tables in
+    let found = c.in-Ok-Some.ensures.settles_or it keeps in
     let t = c.in-Ok-Some.field-0 in
-    if_ok_from c.open_found.result (λ index is clean.
+    if_ok_from c.open_found.result (λ index is.
+    let ready : HasCleanDisk (state g.S.Store next) → IsReady g.S.Store layout c.args.site (named c.args.group) it next index =
+    λ clean.
     let early = c.open_found.ensures.honest clean in
-    let kept = some_kept g.S.Store conn new _ early t found c.in-Ok-Some.content c.in-Ok-Some.field-0-is in
-    let same = some_found g.S.Store conn new _ early t found c.in-Ok-Some.content c.in-Ok-Some.field-0-is in
-    let ready : IsReady g.S.Store layout c.args.site (named c.args.group) new (connection_of c.open_found.new.tables) index =
-    subst (λ (r : Result Index OpenError). Readies g.S.Store layout c.args.site (named c.args.group) new (connection_of c.open_found.new.tables) r) is
-    (c.open_found.ensures.ready new kept (λ _. same)) in
-    ready.stores clean)
+    let kept = some_kept g.S.Store conn it _ early t found c.in-Ok-Some.content c.in-Ok-Some.field-0-is in
+    let same = some_found g.S.Store conn it _ early t found c.in-Ok-Some.content c.in-Ok-Some.field-0-is in
+    subst (λ (r : Result Index OpenError). Readies g.S.Store layout c.args.site (named c.args.group) it next r) is (c.open_found.ensures.ready it kept (λ _. same)) in
+    inr (record { fits = λ clean. (ready clean).fits clean; stores = λ clean. (ready clean).stores clean }))
 
 pub returns-in-Ok-None-clause-settles_or : goal.returns-in-Ok-None-clause-settles_or
-returns-in-Ok-None-clause-settles_or g c keeps =
+returns-in-Ok-None-clause-settles_or g c it keeps =
     let layout = c.args.layout.now in
-    let new = made (site_text c.args.site (named c.args.group)) (line_of layout) in
-    let found = c.in-Ok-None.ensures.settles_or new keeps in
-    if_ok_from c.make_new.result (λ index is clean.
-    let blank = none_kept g.S.Store (connection_of c.look.new.self) new _ (c.make_new.ensures.honest clean) c.in-Ok-None.field-0 found c.in-Ok-None.field-0-is in
-    subst (λ (r : Result Index OpenError). ReadiesBlank g.S.Store layout c.args.site (named c.args.group) (connection_of c.make_new.new.tables) r) is (c.make_new.ensures.made blank) clean)
+    let found = c.in-Ok-None.ensures.settles_or it keeps in
+    if_ok_from c.make_new.result (λ index is. inl (λ clean.
+    let blank = none_kept g.S.Store (connection_of c.look.new.self) it _ (c.make_new.ensures.honest clean) c.in-Ok-None.field-0 found c.in-Ok-None.field-0-is in
+    subst (λ (r : Result Index OpenError). ReadiesBlank g.S.Store layout c.args.site (named c.args.group) (connection_of c.make_new.new.tables) r) is (c.make_new.ensures.made blank) clean))
 
 -- ---- a content of the site's own is refused by the device alone
 
@@ -93,27 +94,55 @@ returns-in-Ok-None-clause-own g c a b first second keeps =
 pub returns-clause-own : goal.returns-clause-own
 returns-clause-own g c a b first second keeps = λ clean.
     subst IsDeviceCause (sym c.from.ensures)
-    (table_cause c.in-Err.error (λ is. c.in-Err.ensures.good (any_of_either g.S.Store (connection_of c.args.tables.now) IsInRange a b first.in_range second.in_range keeps) clean (ap error is)))
+    (table_cause c.in-Err.error (λ is. c.in-Err.ensures.good (any_of_either g.S.Store (connection_of c.args.tables.now) IsInRange a b (in_range a first.content) (in_range b second.content) keeps) clean (ap error is)))
 
 pub returns-in-Ok-Some-clause-own_or : goal.returns-in-Ok-Some-clause-own_or
-returns-in-Ok-Some-clause-own_or g c keeps =
-    let layout = c.args.layout.now in
-    let new = made (site_text c.args.site (named c.args.group)) (line_of layout) in
+returns-in-Ok-Some-clause-own_or g c it own keeps =
     if_err_from c.open_found.result (λ e is clean.
-    let same = some_found g.S.Store (connection_of c.look.new.self) new _ (c.open_found.ensures.honest clean) c.in-Ok-Some.field-0 (c.in-Ok-Some.ensures.settles_or new keeps) c.in-Ok-Some.content c.in-Ok-Some.field-0-is in
-    IfErr-at_err IsDeviceCause is (c.open_found.ensures.own (subst (IsOwn layout c.args.site (named c.args.group)) (sym same) (made_own layout c.args.site (named c.args.group)))))
+    let same = some_found g.S.Store (connection_of c.look.new.self) it _ (c.open_found.ensures.honest clean) c.in-Ok-Some.field-0 (c.in-Ok-Some.ensures.settles_or it keeps) c.in-Ok-Some.content c.in-Ok-Some.field-0-is in
+    IfErr-at_err IsDeviceCause is (c.open_found.ensures.own (subst (IsOwn c.args.layout.now c.args.site (named c.args.group)) (sym same) own)))
 
 pub returns-in-Ok-None-clause-own_or : goal.returns-in-Ok-None-clause-own_or
-returns-in-Ok-None-clause-own_or g c keeps =
+returns-in-Ok-None-clause-own_or g c it own keeps =
     IfErr-weaker c.make_new.result IsDeviceCause _ (λ e cause clean. cause) c.make_new.ensures.device
 
 pub returns-clause-own_or : goal.returns-clause-own_or
-returns-clause-own_or g c keeps = λ clean.
-    let layout = c.args.layout.now in
-    let new = made (site_text c.args.site (named c.args.group)) (line_of layout) in
+returns-clause-own_or g c it own keeps = λ clean.
     subst IsDeviceCause (sym c.from.ensures)
     (table_cause c.in-Err.error
-    (λ is. c.in-Err.ensures.good (any_of_nothing_or g.S.Store (connection_of c.args.tables.now) IsInRange new (made_own layout c.args.site (named c.args.group)).in_range keeps) clean (ap error is)))
+    (λ is. c.in-Err.ensures.good (any_of_nothing_or g.S.Store (connection_of c.args.tables.now) IsInRange it (in_range it own.content) keeps) clean (ap error is)))
+
+-- ---- what a refusal leaves
+
+pub returns-in-Ok-Some-clause-left : goal.returns-in-Ok-Some-clause-left
+returns-in-Ok-Some-clause-left g c a b keeps =
+    if_err_from c.open_found.result (λ e is.
+    left_some g.S.Store (connection_of c.open_found.new.tables) c.args.layout.now c.args.site (named c.args.group) c.open_found.result e is a b _ _ _ c.in-Ok-Some.field-0
+    (c.in-Ok-Some.ensures.settles a b keeps) c.in-Ok-Some.content c.in-Ok-Some.field-0-is (c.open_found.ensures.ready a) (c.open_found.ensures.ready b))
+
+pub returns-in-Ok-None-clause-left : goal.returns-in-Ok-None-clause-left
+returns-in-Ok-None-clause-left g c a b keeps =
+    if_err_from c.make_new.result (λ e is.
+    left_none g.S.Store (connection_of c.make_new.new.tables) c.args.layout.now c.args.site (named c.args.group) c.make_new.result e is a b _ _ _ c.in-Ok-None.field-0
+    (c.in-Ok-None.ensures.settles a b keeps) c.in-Ok-None.field-0-is c.make_new.ensures.honest)
+
+pub returns-clause-left : goal.returns-clause-left
+returns-clause-left g c a b keeps = ∣ inl (c.in-Err.ensures.either a b keeps) ∣₁
+
+pub returns-in-Ok-Some-clause-left_or : goal.returns-in-Ok-Some-clause-left_or
+returns-in-Ok-Some-clause-left_or g c it keeps =
+    if_err_from c.open_found.result (λ e is.
+    left_or_some g.S.Store (connection_of c.open_found.new.tables) c.args.layout.now c.args.site (named c.args.group) c.open_found.result e is it _ _ _ c.in-Ok-Some.field-0
+    (c.in-Ok-Some.ensures.settles_or it keeps) c.open_found.ensures.honest c.in-Ok-Some.content c.in-Ok-Some.field-0-is (c.open_found.ensures.ready it))
+
+pub returns-in-Ok-None-clause-left_or : goal.returns-in-Ok-None-clause-left_or
+returns-in-Ok-None-clause-left_or g c it keeps =
+    if_err_from c.make_new.result (λ e is.
+    left_or_none g.S.Store (connection_of c.make_new.new.tables) c.args.layout.now c.args.site (named c.args.group) c.make_new.result e is it _ _ _ c.in-Ok-None.field-0
+    (c.in-Ok-None.ensures.settles_or it keeps) c.make_new.ensures.honest c.in-Ok-None.field-0-is c.make_new.ensures.made)
+
+pub returns-clause-left_or : goal.returns-clause-left_or
+returns-clause-left_or g c it keeps = ∣ inl (c.in-Err.ensures.bare_or it keeps) ∣₁
 
 -- ---- when a fault comes
 
@@ -165,9 +194,19 @@ returns-in_err-line-clause-own g c a b first second keeps =
     rw p.1 (λ clean. memory_cause p.0 p.2)
 
 pub returns-in_err-line-clause-own_or : goal.returns-in_err-line-clause-own_or
-returns-in_err-line-clause-own_or g c keeps =
+returns-in_err-line-clause-own_or g c it own keeps =
     let p = err_from_is_err_and c.from_residual.result c.from_residual.ensures.1 in
     rw p.1 (λ clean. memory_cause p.0 p.2)
+
+pub returns-in_err-line-clause-left : goal.returns-in_err-line-clause-left
+returns-in_err-line-clause-left g c a b keeps =
+    let p = err_from_is_err_and c.from_residual.result c.from_residual.ensures.1 in
+    rw p.1 (∣ inl keeps ∣₁)
+
+pub returns-in_err-line-clause-left_or : goal.returns-in_err-line-clause-left_or
+returns-in_err-line-clause-left_or g c it keeps =
+    let p = err_from_is_err_and c.from_residual.result c.from_residual.ensures.1 in
+    rw p.1 (∣ inl keeps ∣₁)
 
 pub returns-in_err-line-clause-fault : goal.returns-in_err-line-clause-fault
 returns-in_err-line-clause-fault g c sound it keeps =

@@ -53,7 +53,7 @@ returns-clause-fault g c d keeps is = λ honest.
     )
 
 pub commit_rows-requires-clause-tellable : goal.commit_rows-requires-clause-tellable
-commit_rows-requires-clause-tellable g c = tellable c.args.self.now.layout c.args.self.now.site c.args.change.now c.sites.ensures.layout.few_sites c.requires
+commit_rows-requires-clause-tellable g c = tellable c.args.self.now.layout c.args.self.now.site c.args.change.now c.sites.ensures.layout.few_sites c.sites.ensures.layout.few_records c.requires
 
 -- ---- the content
 

@@ -9,7 +9,7 @@ use Rattle.store_rows.specs.Changes.{renewed}
 use Rattle.store_tables.specs.Kept.{connection_of}
 use Rattle.store_tables.specs.Transacts.{made}
 use Rattle.site_store.specs.SiteText.{named, site_text}
-use Rattle.site_store.specs.Opened.{CommitsNothing, IsDue, IsReady, IsRefusal}
+use Rattle.site_store.specs.Opened.{CommitsNothing, IsDue, IsLeftEither, IsLeftOr, IsReady, IsRefusal}
 use Rattle.store_rows.proofs.StepLemmas.{survives_same}
 use Rattle.site_store.proofs.OpenLemmas.{stored_again}
 use Rattle.site_store.proofs.OwnLemmas.{memory_is_none}
@@ -46,13 +46,16 @@ returns-in-Ok-prepare-clause-honest g c honest =
 -- ---- after a creation in doubt, and refusals by the device
 
 pub returns-in-Ok-prepare-clause-settles_or : goal.returns-in-Ok-prepare-clause-settles_or
-returns-in-Ok-prepare-clause-settles_or g c keeps =
+returns-in-Ok-prepare-clause-settles_or g c it keeps =
+    let line = line_of c.args.layout.now in
     let row = site_text c.args.site (named c.args.group) in
     let same_row = ap (site_text c.args.site) c.in-Ok-copied_group.ensures in
     let again = λ (it : Stored). stored_again g.S.Store (connection_of c.prepare.new.tables) c.args.layout.now _ row _ c.in-Ok-prepare.index it c.in-Ok.ensures same_row in
-    let new = made row (line_of c.args.layout.now) in
-    let settled = c.in-Ok-prepare.ensures.settles_or (subst (λ (h : Held g.row.S.Denot). KeepsNothingOr g.S.Store h new) (sym c.over-tables.ensures.connection) keeps) in
-    λ honest. (new, (again new (settled honest), refl))
+    let new = made row line in
+    elim (c.in-Ok-prepare.ensures.settles_or it (subst (λ (h : Held g.row.S.Denot). KeepsNothingOr g.S.Store h it) (sym c.over-tables.ensures.connection) keeps)) [
+      | inl stores ↦ inl (λ honest. (new, (again new (stores honest), refl)))
+      | inr ready ↦ inr (λ honest. (renewed line it, (again (renewed line it) (ready.stores honest), refl)))
+    ]
 
 pub returns-in-Err-clause-own : goal.returns-in-Err-clause-own
 returns-in-Err-clause-own g c a b first second keeps = λ clean.
@@ -60,10 +63,27 @@ returns-in-Err-clause-own g c a b first second keeps = λ clean.
     (subst (λ (h : Held g.row.S.Denot). HasCleanDisk (state g.S.Store h)) c.into_connection.ensures clean)
 
 pub returns-in-Err-clause-own_or : goal.returns-in-Err-clause-own_or
-returns-in-Err-clause-own_or g c keeps = λ clean.
-    c.in-Err.ensures.own_or
-    (subst (λ (h : Held g.row.S.Denot). KeepsNothingOr g.S.Store h (made (site_text c.args.site (named c.args.group)) (line_of c.args.layout.now))) (sym c.over-tables.ensures.connection) keeps)
+returns-in-Err-clause-own_or g c it own keeps = λ clean.
+    c.in-Err.ensures.own_or it own (subst (λ (h : Held g.row.S.Denot). KeepsNothingOr g.S.Store h it) (sym c.over-tables.ensures.connection) keeps)
     (subst (λ (h : Held g.row.S.Denot). HasCleanDisk (state g.S.Store h)) c.into_connection.ensures clean)
+
+-- ---- what a refusal leaves
+
+pub returns-in-Err-clause-left : goal.returns-in-Err-clause-left
+returns-in-Err-clause-left g c a b keeps =
+    subst (λ (h : Held g.row.S.Denot). IsLeftEither g.S.Store c.args.layout.now a b h c.in-Err.error) (sym c.into_connection.ensures)
+    (c.in-Err.ensures.left a b (subst (λ (h : Held g.row.S.Denot). KeepsEither g.S.Store h a b) (sym c.over-tables.ensures.connection) keeps))
+
+pub returns-in-Err-clause-left_or : goal.returns-in-Err-clause-left_or
+returns-in-Err-clause-left_or g c it keeps =
+    subst (λ (h : Held g.row.S.Denot). IsLeftOr g.S.Store c.args.layout.now c.args.site (named c.args.group) it h c.in-Err.error) (sym c.into_connection.ensures)
+    (c.in-Err.ensures.left_or it (subst (λ (h : Held g.row.S.Denot). KeepsNothingOr g.S.Store h it) (sym c.over-tables.ensures.connection) keeps))
+
+pub returns-in_default-clause-left : goal.returns-in_default-clause-left
+returns-in_default-clause-left g c a b keeps = ∣ inl keeps ∣₁
+
+pub returns-in_default-clause-left_or : goal.returns-in_default-clause-left_or
+returns-in_default-clause-left_or g c it keeps = ∣ inl keeps ∣₁
 
 pub returns-in-Err-clause-fault : goal.returns-in-Err-clause-fault
 returns-in-Err-clause-fault g c it keeps = λ fault clean.
