@@ -13,7 +13,7 @@ use Rattle.desk_log.specs.Desk.{DeskState, IsFresh, IsMadeFor, Leaves, first_acc
 use Rattle.session_book.specs.declared.error.CloseError.{CloseError}
 use Rattle.session_book.specs.declared.error.CloseError.TheVariants.{PassMissing, Mismatch, Memory}
 use Rattle.session_book.specs.Passes.{PassState}
-use Rattle.session_book.specs.Sites.{SiteState, IsSite, IsAstray, IsNewSite, IsSameOpening, IsRunOf, KeepsOf, AreAll, BearsOut, IsClosed, IsCloseFault}
+use Rattle.session_book.specs.Sites.{SiteState, IsSite, IsNewSite, IsSameOpening, IsDeskAstray, IsRunOf, KeepsOf, AreAll, BearsOut, IsClosed, IsCloseFault}
 
 -- the site of a desk that was opened
 pub new_site : {K : Type 0} (g : Ghosts K) (keeper : K) (layout : LayoutState) (i passes limit : ℕ) (d : DeskState K) (l : LayoutState) (first : DurableState) → IsFresh g keeper layout i limit d → l ≡ d.core.layout → first ≡ d.log.first → IsNewSite g keeper layout i passes limit (record { layout = l; site = i; first = first; limit = limit; passes = passes })
@@ -78,22 +78,23 @@ pub some_missing : (b : Bool) (n m : ℕ) (xs ys : List PassState) → (IsTrue b
 some_missing b n m xs ys told same_count same is = λ all.
     let both : false ≡ true = sym is ∙ told.1 (subst (λ (k : ℕ). AreAll k xs) (sym same_count) (subst (AreAll m) (sym same) all)) in cc
 
--- what a closing found: the log of the opening, which is legal, does not bear out a pass; or a desk of another opening
+-- what a closing found: the log of the opening does not bear out a pass; or the desk is of another opening
 abbrev pub FindsAstray : {K : Type 0} → SiteState → List PassState → DeskState K → ℕ → ℕ → Type 0
 FindsAstray s ps d pass at =
-    (IsSameOpening d s.layout s.site s.first s.limit × IsLegal (first_account d) d.log.entries × IsAstray s.limit d.log.entries ps pass at)
-    ⊎ ((pass ≡ length ps) × (at ≡ 0))
+    IsDeskAstray d s.layout s.site s.first s.limit ps pass at
+    ⊎ ((¬ IsSameOpening d s.layout s.site s.first s.limit) × (pass ≡ length ps) × (at ≡ 0))
 
 mismatched : {K : Type 0} (s : SiteState) (ps : List PassState) (d : DeskState K) (pass at : ℕ) → AreAll s.passes ps → FindsAstray s ps d pass at → IsCloseFault s ps (Mismatch pass at)
-mismatched s ps d pass at all (inl (opening, legal, astray)) = (
+mismatched s ps d pass at all (inl found) = (
   all,
   inl record {
     entries = d.log.entries;
-    legal = subst (λ (a : Account). IsLegal a d.log.entries) (λ k. begun (opening.of_layout k) (opening.of_site k) (opening.began k)) legal;
-    astray = astray;
+    legal = subst (λ (a : Account). IsLegal a d.log.entries) (λ k. begun (found.opening.of_layout k) (found.opening.of_site k) (found.opening.began k)) found.legal;
+    within = found.within;
+    astray = found.astray;
   },
 )
-mismatched s ps d pass at all (inr (no_pass, none)) = (all, inr (no_pass ∙ all.as_many, none))
+mismatched s ps d pass at all (inr (other, no_pass, none)) = (all, inr (no_pass ∙ all.as_many, none))
 
 -- a refusal that came after the passes were counted
 pub refused : {K : Type 0} (s : SiteState) (ps : List PassState) (d : DeskState K) (e : CloseError) → e ≢ PassMissing → ((pass at : ℕ) → e ≡ Mismatch pass at → FindsAstray s ps d pass at) → AreAll s.passes ps → IsCloseFault s ps e

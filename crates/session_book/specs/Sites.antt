@@ -124,6 +124,13 @@ module _ {K : Type 0} where
     pub began : d.log.first ≡ first
     pub places : d.log.limit ≡ limit
 
+  -- a desk is that of an opening, and its log, legal and within its limit, does not bear out the pass with this number
+  pub record IsDeskAstray (d : DeskState K) (layout : LayoutState) (i : ℕ) (first : DurableState) (limit : ℕ) (ps : List PassState) (pass at : ℕ) : Type 0 where
+    pub opening : IsSameOpening d layout i first limit
+    pub legal : IsLegal (first_account d) d.log.entries
+    pub within : length d.log.entries ≤ limit
+    pub astray : IsAstray limit d.log.entries ps pass at
+
   -- the run that a desk leaves, whose entries are as many as the passes' receipts
   pub record IsRunOf (d : DeskState K) (ps : List PassState) (run : Run) : Type 0 where
     pub sites : run.sites ≡ d.core.layout.sites
@@ -154,14 +161,16 @@ pub record IsClosed {K : Type 0} (g : Ghosts K) (was_kept : DurableState → Typ
   pub kept : was_kept s.first → Leaves g (ends_in_fault false run.entries) k (account_after (begun s.layout s.site s.first) run.entries) (account_tried (begun s.layout s.site s.first) run.entries)
   pub found : (e : DurableState) → was_kept e → g.is_honest k → s.first ≡ e
 
--- a legal log of the opening does not bear out the pass with this number, from this place on
+-- a legal log of the opening, within its limit, does not bear out the pass with this number, from this place on
 pub record IsLogAstray (s : SiteState) (ps : List PassState) (pass at : ℕ) : Type 0 where
   pub entries : List Entry
   pub legal : IsLegal (begun s.layout s.site s.first) entries
+  pub within : length entries ≤ s.limit
   pub astray : IsAstray s.limit entries ps pass at
 
 -- What is wrong with a closing: a pass is missing; or all are there, and the log under the lock does not bear out the
--- pass that is named, or, where that number is no pass's, is of another opening; or memory ran out.
+-- pass that is named, or, where that number is no pass's, the desk there is of another opening, which only the private
+-- test of the closing can see; or memory ran out.
 abbrev pub IsCloseFault : SiteState → List PassState → CloseError → Type 0
 IsCloseFault s ps PassMissing = ¬ AreAll s.passes ps
 IsCloseFault s ps (Mismatch pass at) = AreAll s.passes ps × (IsLogAstray s ps pass at ⊎ ((pass ≡ s.passes) × (at ≡ 0)))

@@ -1,11 +1,10 @@
 //! Closing a site: what its passes hold is compared with the log, and the log is given away.
 ghost use Rattle.std.specs.Prelude.{◌≡◌, ◌≢◌, ℕ, List, ◌+◌, ◌<◌, ◌≤◌, ◌++◌, ◌↔◌, ◌⊎◌, ◌^◌, [], ◌∷◌, All, IsTrue, IfOk, IfErr, IfSome, None, false, length, take, vec_capacity};
-ghost use Rattle.desk_log.specs.Log.{IsLegal, ends_in_fault};
-ghost use Rattle.desk_log.specs.Desk.{first_account};
+ghost use Rattle.desk_log.specs.Log.{ends_in_fault};
 ghost use Rattle.desk_log.specs.declared.entry.Entry.{Entry as EntryThere};
 ghost use Rattle.session_book.specs.declared.error.CloseError.TheVariants.{PassMissing, Mismatch};
 ghost use Rattle.session_book.specs.Passes.{receipts_of, receipts_in, IsFirstOther};
-ghost use Rattle.session_book.specs.Sites.{AreAll, BearsOut, has_number, IsAstray, IsSameOpening};
+ghost use Rattle.session_book.specs.Sites.{AreAll, BearsOut, has_number, IsSameOpening, IsDeskAstray};
 
 use crate::error::CloseError;
 use crate::pass::{Pass, Receipt};
@@ -55,8 +54,8 @@ pub(crate) fn checked<K: Keeper, L: Ledger>(
     ensures room { IfOk result (λ runs. (runs.items ≡ []) × (1 ≤ vec_capacity runs)) }
     ensures all_there { IfErr result (λ e. e ≢ PassMissing) }
     ensures astray { IfErr result (λ e. (pass at : ℕ) → e ≡ Mismatch pass at
-        → (IsSameOpening desk.now layout.now site first.now limit × IsLegal (first_account desk.now) desk.now.log.entries × IsAstray limit desk.now.log.entries passes.now pass at)
-        ⊎ ((pass ≡ length passes.now) × (at ≡ 0))) }
+        → IsDeskAstray desk.now layout.now site first.now limit passes.now pass at
+        ⊎ ((¬ IsSameOpening desk.now layout.now site first.now limit) × (pass ≡ length passes.now) × (at ≡ 0))) }
 {
     if !is_same_opening(desk, layout, site, first, limit) {
         // No pass has this number: the desk is not the one that was opened.
@@ -84,7 +83,8 @@ fn is_same_opening<K: Keeper>(
     first: &Durable,
     limit: usize,
 ) -> bool
-    ensures { IsTrue result ↔ IsSameOpening desk.now layout.now site first.now limit }
+    ensures same { IsTrue result ↔ IsSameOpening desk.now layout.now site first.now limit }
+    ensures within { IsTrue result → length desk.now.log.entries ≤ limit }
 {
     let core = desk.core();
     core.site() == site
