@@ -21,7 +21,7 @@ use Rattle.judge_engine.specs.declared.cut.CutError.{CutError}
 use Rattle.judge_engine.specs.declared.cut.CutError.TheVariants as cut
 use Rattle.judge_engine.specs.Cuts.{IsCutFault, cut_in}
 use Rattle.judge_engine.specs.Engine.{EndsJudge}
-use Rattle.layout_file.specs.LayoutFile.{ReadsLayout, built_in_layout}
+use Rattle.layout_file.specs.LayoutFile.{ReadsLayoutFile, built_in_layout}
 use Rattle.play_engine.specs.Plays.{EndsPlay}
 use Rattle.site_databases.specs.Databases.{EndsStored}
 use Rattle.line_conversation.specs.Stream.{StreamState}
@@ -75,17 +75,17 @@ abbrev pub FindsBuiltIn : Result LayoutState LayoutFault → Type 0
 FindsBuiltIn (Ok layout) = layout ≡ built_in_layout
 FindsBuiltIn (Err e) = e ≡ layout.Memory
 
--- What it finds at a layout file: what some bytes describe, or that there is no such file, or that it could not be
--- read, or is too long. No contract can say what a file holds.
-abbrev pub FindsFile : Result LayoutState LayoutFault → Type 0
-FindsFile (Err layout.NotRead) = Unit {0}
-FindsFile (Err layout.TooLong) = Unit {0}
-FindsFile answer = (bytes : List ℕ) × ReadsLayout bytes answer
+-- What it finds in a layout file that was opened, and of which nothing was read before: what all its bytes describe, or
+-- that it could not be read, or is too long. No contract can say at which path it stands, or what is in it.
+pub record FindsFile {F : Type 0} (remaining : F → Option (List ℕ)) (answer : Result LayoutState LayoutFault) : Type 0 where
+  pub opened : F
+  pub source_after : SourceState
+  pub read : ReadsLayoutFile (record { remaining = remaining opened; fault = None }) source_after answer
 
--- what the program finds for a layout: the built-in one, or what is in the file that is named
-abbrev pub FindsLayout : Option Text → Result LayoutState LayoutFault → Type 0
-FindsLayout None answer = FindsBuiltIn answer
-FindsLayout (Some path) answer = FindsFile answer
+-- what the program finds for a layout: the built-in one, or what is in the file that is named, if that was opened
+abbrev pub FindsLayout : {F : Type 0} → (F → Option (List ℕ)) → Option Text → Result LayoutState LayoutFault → Type 0
+FindsLayout remaining None answer = FindsBuiltIn answer
+FindsLayout remaining (Some path) answer = FindsFile remaining answer ⊎ IsUnopened answer
 
 -- The cut that the arguments name: all calls, where they name none. A word that names no cut is refused; memory may run
 -- out over any word.
@@ -135,13 +135,14 @@ module _ (t : Ghosts (NotedState StreamState)) (u : Ghosts (NotedState OneLineSt
       (source_after ≡ source) × (sink_after ≡ sink) × EndsWith (without_layout fault) errors errors_after code
 
   -- a command is asked for, and that one was carried out under the cut and the layout that the arguments name
-  pub record RunsCommand (arguments : List Text) (source source_after : SourceState) (sink sink_after errors errors_after : SinkState) (code : ℕ) : Type 0 where
+  pub record RunsCommand {F : Type 0} (remaining : F → Option (List ℕ)) (arguments : List Text)
+      (source source_after : SourceState) (sink sink_after errors errors_after : SinkState) (code : ℕ) : Type 0 where
     pub asked : usage_errors arguments ≡ []
     pub lengths : Option (List ℕ)
     pub cut_found : FindsCut (asked_cut arguments) (Ok lengths)
     pub group_fits : is_good_group (asked_group arguments) ≡ true
     pub layout : Result LayoutState LayoutFault
-    pub found : FindsLayout (asked_layout arguments) layout
+    pub found : FindsLayout remaining (asked_layout arguments) layout
     pub carried_out : EndsUnder (asked_command arguments) lengths (asked_out arguments) (asked_group arguments) (asked_words arguments) layout source source_after sink sink_after
         errors errors_after code
 
@@ -175,10 +176,10 @@ pub record RunsNone (arguments : List Text) (source source_after : SourceState) 
   pub told : EndsUnasked kind sink sink_after errors errors_after code
 
 -- what the program does with its arguments
-abbrev pub RunsProgram : Ghosts (NotedState StreamState) → Ghosts (NotedState OneLineState) → List Text → SourceState → SourceState
+abbrev pub RunsProgram : {F : Type 0} → (F → Option (List ℕ)) → Ghosts (NotedState StreamState) → Ghosts (NotedState OneLineState) → List Text → SourceState → SourceState
     → SinkState → SinkState → SinkState → SinkState → ℕ → Type 0
-RunsProgram t u arguments source source_after sink sink_after errors errors_after code =
-    RunsCommand t u arguments source source_after sink sink_after errors errors_after code
+RunsProgram remaining t u arguments source source_after sink sink_after errors errors_after code =
+    RunsCommand t u remaining arguments source source_after sink sink_after errors errors_after code
     ⊎ RefusesCut arguments source source_after sink sink_after errors errors_after code
     ⊎ RefusesGroup arguments source source_after sink sink_after errors errors_after code
     ⊎ RunsNone arguments source source_after sink sink_after errors errors_after code

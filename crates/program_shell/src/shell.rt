@@ -1,4 +1,4 @@
-ghost use Rattle.std.specs.Prelude.{◌≡◌, None, Some, map, MatchOption, MatchResult, option_copied, option_map, string_bytes};
+ghost use Rattle.std.specs.Prelude.{◌≡◌, ◌⊎◌, None, Some, map, MatchOption, MatchResult, option_copied, option_map, string_bytes};
 ghost use Rattle.clap.specs.Words.{kind_of};
 ghost use Rattle.command_arguments.specs.Arguments.{words_of};
 ghost use Rattle.program_shell.specs.Shell.{EndsCommand, EndsUnasked, EndsWithoutCut, EndsUnread, FindsBuiltIn, FindsCut, FindsFile, IsUnopened, RunsProgram, unopened};
@@ -77,8 +77,8 @@ pub fn run_with<
     sink: Sink<O>,
     errors: &mut Sink<E>,
 ) -> (u8, Source<I>, Sink<O>)
-    ensures { RunsProgram ⟦<Noted<StreamConversation<I, O>> as Conversation>⟧ ⟦<Noted<OneLine<'static, O>> as Conversation>⟧ (map string_bytes arguments.now)
-        source result.1 sink result.2 errors.old errors.new result.0 }
+    ensures { RunsProgram R.File.Read.remaining ⟦<Noted<StreamConversation<I, O>> as Conversation>⟧ ⟦<Noted<OneLine<'static, O>> as Conversation>⟧
+        (map string_bytes arguments.now) source result.1 sink result.2 errors.old errors.new result.0 }
 {
     let mut sink = sink;
     let asked = match requested(rt.alloc(), arguments) {
@@ -230,7 +230,7 @@ fn end_without_cut<E: Write>(error: CutError, errors: &mut Sink<E>) -> u8
 
 // The layout of the file, or the built-in one.
 fn layout_at<R: Files + AllocGlobal>(rt: &R, path: Option<&str>) -> Result<Layout, LayoutFault>
-    ensures { MatchOption path.entry (FindsBuiltIn result) (λ _. FindsFile result) }
+    ensures { MatchOption path.entry (FindsBuiltIn result) (λ _. FindsFile R.File.Read.remaining result ⊎ IsUnopened result) }
 {
     let Some(path) = path else {
         return match built_in(rt.alloc()) {
@@ -243,7 +243,7 @@ fn layout_at<R: Files + AllocGlobal>(rt: &R, path: Option<&str>) -> Result<Layou
 
 // The layout of a file that was opened, or why it was not.
 fn layout_from<F: Read + Drop>(alloc: Global, opened: io::Result<F>) -> Result<Layout, LayoutFault>
-    ensures { MatchResult opened (λ _. FindsFile result) (λ _. IsUnopened result) }
+    ensures { MatchResult opened (λ _. FindsFile F.remaining result) (λ _. IsUnopened result) }
 {
     match opened {
         Ok(file) => read_layout_file(alloc, &mut Source::new(file)),
