@@ -1,5 +1,5 @@
 -- From the runs of all sites to what is written of them, and from the answer to a script to the end of the engine.
-use Rattle.std.proofs.Common.{◌≡◌, ℕ, ◌+◌, ◌<◌, ◌≤◌, List, [], ◌∷◌, length, slice_index_or, All, Option, None, inl, inr, Ok, Err, refl, sym, ap, subst, arith}
+use Rattle.std.proofs.Common.{◌≡◌, ℕ, ◌+◌, ◌<◌, List, [], slice_index_or, All, Option, None, inl, inr, Ok, sym, subst, arith}
 use Rattle.std.proofs.lemmas.List.Elements.{All-cons, All-nil}
 use Rattle.merge_core.specs.Layout.{LayoutState, IsLayout, layout_fault, at_sites}
 use Rattle.multi_site_world.proofs.WorldCode.{no_fault}

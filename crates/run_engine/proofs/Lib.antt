@@ -1,3 +1,4 @@
 pub mod ScriptLemmas
 pub mod EngineLemmas
 pub mod SiteLemmas
+pub mod ThreadLemmas

@@ -1,9 +1,8 @@
 -- From a site that was opened, asked and closed to its run, and from the runs of all jobs to those of all sites.
-use Rattle.std.proofs.Common.{◌≡◌, ℕ, zero, suc, ◌-◌, ◌<◌, List, [], ◌∷◌, ◌++◌, All, map, length, slice_index_or, take, true, Some, Result, Ok, Err, IfOk, refl, sym, ap, subst, ◌∙◌, arith}
+use Rattle.std.proofs.Common.{◌≡◌, ℕ, zero, suc, ◌-◌, ◌<◌, List, [], ◌∷◌, ◌++◌, map, length, slice_index_or, true, Some, Result, Ok, Err, IfOk, sym, ap, subst, ◌∙◌, arith}
 use Rattle.std.proofs.lemmas.List.{length-map}
 use Rattle.std.proofs.lemmas.List.Elements.{All-pop}
 use Rattle.std.proofs.Math.ListN.{get_or-map}
-use Rattle.std.proofs.Math.Seq.{take-append_seam}
 use Rattle.std.specs.declared.alloc.AllocError.{AllocError}
 use Rattle.merge_core.specs.Layout.{LayoutState}
 use Rattle.admission_model.specs.declared.ask.Ask.{Ask}
@@ -19,10 +18,10 @@ use Rattle.run_engine.specs.declared.sites.Job.{Job}
 use Rattle.run_engine.specs.declared.tasks.Caller.{Caller}
 use Rattle.run_engine.specs.declared.tasks.Task.{Task}
 use Rattle.run_engine.specs.declared.tasks.Task.TheVariants.{Calls, Link}
-use Rattle.run_engine.specs.Tasks.{EndsInCaller, EndsInCalled, HasCalled, HasRunTask, IsCaller, IsCalled}
+use Rattle.run_engine.specs.Tasks.{EndsInCaller, EndsInCalled, HasCalled, HasRunTask, HaveRun, IsCaller, IsCalled}
 use Rattle.run_engine.specs.Scripts.{asks_of}
 use Rattle.run_engine.specs.Callers.{HasAsked, ask_calls, calls_in}
-use Rattle.run_engine.specs.Runs.{AreAnswers, AreJobs, AreSiteRuns, IsClosedWith, IsJob, IsOpenedFor, IsSiteRun}
+use Rattle.run_engine.specs.Runs.{AreAnswers, AreJobs, AreSiteRuns, CameOf, CameOfEach, IsClosedWith, IsJob, IsOpenedFor, IsSiteRun}
 
 -- a site was closed with a pass behind all others
 pub closed_with : {K : Type 0} (g : Ghosts K) (was_kept : DurableState → Type 0) (s : SiteState) (ps before : List PassState) (pass : PassState) (t : Transcript) (k : K)
@@ -61,12 +60,6 @@ site_run layout i passes asks s ps pass t opened asked closed =
       asked = subst (λ (n : ℕ). calls_in (receipts_of n run.entries) ≡ ask_calls asks) asked.number (ap calls_in closed.receipts ∙ asked.calls);
     }
 
--- what came of the job at a place
-pub record CameOf (jobs : List Job) (i : ℕ) (answer : Result Transcript AllocError) : Type 0 where
-  pub job : Job
-  pub there : (d : Job) → slice_index_or jobs i d ≡ job
-  pub came : IfOk answer (IsSiteRun job.layout job.site job.asks.items)
-
 -- the transcript of a job is that of its site
 job_run : (layout : LayoutState) (asked : List Asked) (jobs : List Job) (i : ℕ) (t : Transcript) → AreJobs layout asked jobs → i < length jobs → CameOf jobs i (Ok t) → IsSiteRun layout i (asks_of i asked) t
 job_run layout asked jobs i t are below came =
@@ -84,17 +77,17 @@ answer_at : (ts : List Transcript) (i : ℕ) (d : Transcript) → slice_index_or
 answer_at ts i d = get_or-map answer ts i d
 
 pub all_runs : (layout : LayoutState) (asked : List Asked) (jobs : List Job) (answers : List (Result Transcript AllocError)) (ts : List Transcript)
-    → AreJobs layout asked jobs → length answers ≡ length jobs → ((i : ℕ) (d : Result Transcript AllocError) → i < length jobs → CameOf jobs i (slice_index_or answers i d)) → AreAnswers answers ts
+    → AreJobs layout asked jobs → CameOfEach jobs answers → AreAnswers answers ts
     → AreSiteRuns layout asked ts
-all_runs layout asked jobs answers ts are many came is =
-    let count : length ts ≡ length jobs = sym (length-map ts answer) ∙ (sym (ap length is) ∙ many) in
+all_runs layout asked jobs answers ts are came is =
+    let count : length ts ≡ length jobs = sym (length-map ts answer) ∙ (sym (ap length is) ∙ came.number) in
     record {
       number = count ∙ are.number;
       each = λ i d below.
           let within : i < length jobs = omega (arith, below, count) in
           job_run layout asked jobs i (slice_index_or ts i d) are within
           (subst (λ (r : Result Transcript AllocError). CameOf jobs i r) (answer_at ts i d)
-          (subst (λ (rs : List (Result Transcript AllocError)). CameOf jobs i (slice_index_or rs i (answer d))) is (came i (answer d) within)));
+          (subst (λ (rs : List (Result Transcript AllocError)). CameOf jobs i (slice_index_or rs i (answer d))) is (came.each i (answer d) within)));
     }
 
 -- a caller's task that was carried out is that of a caller who has asked
@@ -105,24 +98,19 @@ task_called asks records turns (Calls a) (Link q) is ran = absurd ran
 task_called asks records turns (Link p) new is ran = absurd is
 
 -- .. behind all others too
-pub ends_in_called : {L : Type 0} (asks : List Ask) (records turns : ℕ) (old new : List (Task L)) → length new ≡ length old → EndsInCaller asks old
-    → ((i : ℕ) (d : Task L) → i < length old → HasRunTask records turns (slice_index_or old i d) (slice_index_or new i d)) → EndsInCalled asks new
-ends_in_called {L = L} asks records turns old new many ends ran = record {
-  some = omega (arith, many, ends.some);
+pub ends_in_called : {L : Type 0} (asks : List Ask) (records turns : ℕ) (old new : List (Task L)) → EndsInCaller asks old → HaveRun records turns old new → EndsInCalled asks new
+ends_in_called {L = L} asks records turns old new ends ran = record {
+  some = omega (arith, ran.number, ends.some);
   last = λ d.
       let last : ℕ = length old - 1 in
       let there : last < length old = omega (arith, ends.some) in
-      subst (λ (n : ℕ). IsCalled asks (slice_index_or new (n - 1) d)) (sym many)
-      (task_called asks records turns (slice_index_or old last d) (slice_index_or new last d) (ends.last d) (ran last d there));
+      subst (λ (n : ℕ). IsCalled asks (slice_index_or new (n - 1) d)) (sym ran.number)
+      (task_called asks records turns (slice_index_or old last d) (slice_index_or new last d) (ends.last d) (ran.each last d there));
 }
 
 pub if_ok : {T E : Type 0} (r : Result T E) (P Q : T → Type 0) → ((x : T) → P x → Q x) → IfOk r P → IfOk r Q
 if_ok (Ok x) P Q f p = f x p
 if_ok (Err e) P Q f p = p
-
--- a list whose front was replaced by one as long as itself
-pub replaced : {A : Type 0} (n : ℕ) (front rest : List A) → n ≡ length front → take n (front ++ rest) ≡ front
-replaced n front rest is = subst (λ (k : ℕ). take k (front ++ rest) ≡ front) (sym is) (take-append_seam front rest)
 
 -- the runs of both sites of a layout
 two_at : (layout : LayoutState) (asked : List Asked) (t u : Transcript) → IsSiteRun layout 0 (asks_of 0 asked) t → IsSiteRun layout 1 (asks_of 1 asked) u

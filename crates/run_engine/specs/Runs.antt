@@ -1,5 +1,5 @@
 -- What the sites of a run leave (this project's own).
-use Rattle.std.specs.Prelude.{◌≡◌, ℕ, ◌<◌, List, [], ◌∷◌, map, length, slice_index_or, Result, Ok}
+use Rattle.std.specs.Prelude.{◌≡◌, ℕ, ◌<◌, List, [], ◌∷◌, map, length, slice_index_or, Result, Ok, IfOk}
 use Rattle.std.specs.declared.alloc.AllocError.{AllocError}
 use Rattle.merge_core.specs.Layout.{LayoutState}
 use Rattle.admission_model.specs.declared.ask.Ask.{Ask}
@@ -43,6 +43,21 @@ pub record IsJob (layout : LayoutState) (asked : List Asked) (i : ℕ) (job : Jo
 pub record AreJobs (layout : LayoutState) (asked : List Asked) (jobs : List Job) : Type 0 where
   pub number : length jobs ≡ layout.sites
   pub each : (i : ℕ) (d : Job) → i < length jobs → IsJob layout asked i (slice_index_or jobs i d)
+
+-- what a job gives: the run of its site, where memory and threads sufficed
+abbrev pub GivesRun : Job → Result Transcript AllocError → Type 0
+GivesRun job answer = IfOk answer (IsSiteRun job.layout job.site job.asks.items)
+
+-- what came of the job at a place
+pub record CameOf (jobs : List Job) (i : ℕ) (answer : Result Transcript AllocError) : Type 0 where
+  pub job : Job
+  pub there : (d : Job) → slice_index_or jobs i d ≡ job
+  pub came : GivesRun job answer
+
+-- what came of each job, in order
+pub record CameOfEach (jobs : List Job) (answers : List (Result Transcript AllocError)) : Type 0 where
+  pub number : length answers ≡ length jobs
+  pub each : (i : ℕ) (d : Result Transcript AllocError) → i < length jobs → CameOf jobs i (slice_index_or answers i d)
 
 -- each answer is one of these, in order
 abbrev pub AreAnswers : List (Result Transcript AllocError) → List Transcript → Type 0

@@ -1,6 +1,6 @@
 -- What a script of a run asks of its sites (this project's own format): the lines of a script of several sites that are
 -- calls of a site, and no other.
-use Rattle.std.specs.Prelude.{◌≡◌, ℕ, ◌+◌, ◌≤◌, ◌==◌, nat_lt, List, [], ◌∷◌, ◌++◌, length, map, if◌then◌else◌, Option, Some, None, Result, Ok, Err}
+use Rattle.std.specs.Prelude.{◌≡◌, ℕ, ◌+◌, ◌≤◌, ◌==◌, nat_lt, List, [], ◌∷◌, ◌++◌, length, map, if◌then◌else◌, Option, Some, Result, Ok, Err}
 use Rattle.merge_core.specs.Layout.{LayoutState}
 use Rattle.admission_model.specs.declared.ask.Ask.{Ask}
 use Rattle.multi_site_world.specs.declared.event.Event.{Event}

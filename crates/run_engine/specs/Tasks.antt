@@ -23,6 +23,11 @@ HasRunTask records turns (Calls old) (Calls new) = HasCalled old new
 HasRunTask records turns (Link old) (Link new) = HasRunPort records turns old new
 HasRunTask records turns old new = ⊥
 
+-- each task was carried out, and they are in order
+pub record HaveRun {L : Type 0} (records turns : ℕ) (old new : List (Task L)) : Type 0 where
+  pub number : length new ≡ length old
+  pub each : (i : ℕ) (d : Task L) → i < length old → HasRunTask records turns (slice_index_or old i d) (slice_index_or new i d)
+
 -- the task is that of a caller who asks this, and has pass 0, which was just given out
 abbrev pub IsCaller : {L : Type 0} → List Ask → Task L → Type 0
 IsCaller asks (Calls caller) = (caller.pass ≡ new_pass 0) × (caller.asks.items ≡ asks)

@@ -18,8 +18,8 @@ use text_input::{InputError, Sink, Source, read_input};
 /// site in the script's order, and then the verdict on the closed logs at their ends. Between all sites are links whose
 /// runners take so many turns, at most 1,000. The lines of the closed logs are written first, where there is a sink for
 /// them. A script with a line that can't be read is refused before a site is opened. Memory that is refused outside a
-/// runner's turn ends the run once its threads have ended. Where a thread can't be started, tasks run in turn, and then
-/// may wait for ever for one another. May wait.
+/// runner's turn ends the run once its threads have ended. Where a thread can't be started, its links are closed, so that
+/// all others end, and the answer is `Memory`; only at two sites are the tasks then carried out one after another. May wait.
 pub fn run_engine<Rt: Threads + Wait + Sync, R: Read, W: Write, F: Write>(
     rt: &Rt,
     alloc: Global,

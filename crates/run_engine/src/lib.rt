@@ -7,10 +7,12 @@ pub use script::{Asked, LineError, MOST_LINES, ScriptError, read_script};
 
 mod callers;
 mod engine;
+mod joins;
 mod links;
 mod logs;
 mod pairs;
 mod replies;
 mod script;
+mod site_threads;
 mod sites;
 mod tasks;

@@ -10,7 +10,7 @@ ghost use Rattle.run_engine.specs.Runs.{AreSiteRuns, IsClosedWith};
 use crate::script::Asked;
 use crate::sites::{asks_of, opened};
 use crate::tasks::{AlwaysOpen, Caller, run_caller};
-use admission_core::Ask;
+use admission_core::{Ask, Call};
 use durable_keeper::{Keeper, MemoryKeeper};
 use merge_core::Layout;
 use ruled_pair::{RuledEnd, run_ruled_pair};
@@ -23,6 +23,10 @@ use std::thread::{Threads, join_mut};
 
 // The passes of a site: its caller's, and those of its two runners.
 const PASSES: u16 = 3;
+
+// The most turns of a round. A link holds 16 texts: those of 15 turns, and the word that ends them. So the sender of a round
+// never waits for its receiver, and a round ends even where no thread can be started and the sender runs before it.
+const ROUND_TURNS: u64 = 15;
 
 /// What works at one of two sites: its caller, and both ends of its links.
 #[derive(Drop)]
@@ -108,7 +112,7 @@ fn work_of<L: Opening>(passes: Vec<Pass<L>>, asks: Vec<Ask>) -> Result<Work<L>, 
     })
 }
 
-// Runs the callers of both sites and both links, a thread for each. `Err` where memory was refused before a link was there.
+// Runs the callers of both sites and both links, a thread for each. `Err` where memory was refused for a link.
 fn work_both<
     K: Keeper + Send,
     L: Opening + Send + Sync,
@@ -137,7 +141,7 @@ fn work_both<
         rt,
         &mut || -> bool
             requires { IsSend K.row × IsSend L.row × IsSync L.row × IsSend N.row × IsSend M.row × IsSync M.row × IsSync R.row × (turns ≤ 1000000000) }
-        { run_ruled_pair(rt, alloc, site, peer, end, peer_end, turns).is_ok() },
+        { run_rounds(rt, alloc, site, peer, end, peer_end, turns) },
         &mut || -> ()
             requires { IsSend K.row × IsSend L.row × IsSync L.row × IsSend N.row × IsSend M.row × IsSync M.row × IsSync R.row }
         { call_both(rt, site, peer, caller, peer_caller) },
@@ -146,6 +150,55 @@ fn work_both<
         return Err(AllocError);
     }
     Ok(())
+}
+
+// Runs both links for so many turns, in rounds, each over new links. Whether memory sufficed for all of them.
+fn run_rounds<
+    K: Keeper + Send,
+    L: Opening + Send + Sync,
+    N: Keeper + Send,
+    M: Opening + Send + Sync,
+    R: Threads + Wait + Sync,
+>(
+    rt: &R,
+    alloc: Global,
+    site: &Site<K, L>,
+    peer: &Site<N, M>,
+    end: &mut RuledEnd<L, AlwaysOpen>,
+    peer_end: &mut RuledEnd<M, AlwaysOpen>,
+    turns: u64,
+) -> bool {
+    let mut begun = 0;
+    'rounds: while begun < turns {
+        let round = (turns - begun).min(ROUND_TURNS);
+        let ended = begun + round;
+        ask_help(rt, site, &mut end.out_pass, begun, ended);
+        ask_help(rt, peer, &mut peer_end.out_pass, begun, ended);
+        if run_ruled_pair(rt, alloc, site, peer, end, peer_end, round).is_err() {
+            return false;
+        }
+        begun = ended;
+    }
+    true
+}
+
+// Asks a site for help with each record whose turn comes between these turns of the run. The turns of a round begin at 0, so
+// its outbox asks for the first records only; that is enough where a round has a turn for each record.
+fn ask_help<K: Keeper, L: Opening, R: Wait>(
+    rt: &R,
+    site: &Site<K, L>,
+    pass: &mut Pass<L>,
+    from: u64,
+    to: u64,
+) {
+    let records = u64::from(site.records());
+    if records <= ROUND_TURNS {
+        return;
+    }
+    for turn in from..to {
+        let r = (turn % records) as u16;
+        let _ = site.call(rt, pass, Call::Ask(Ask::Help { r }));
+    }
 }
 
 // Runs the callers of both sites, a thread for each.

@@ -12,6 +12,7 @@ ghost use Rattle.run_engine.specs.Runs.{AreAnswers, AreJobs, AreSiteRuns, IsClos
 use crate::links::{Ends, ends_of};
 use crate::pairs::run_two;
 use crate::script::Asked;
+use crate::site_threads::run_jobs;
 use crate::tasks::{Caller, Task, run_tasks};
 use admission_core::Ask;
 use durable_keeper::MemoryKeeper;
@@ -22,7 +23,6 @@ use std::alloc::{AllocError, Global};
 use std::marker::Brand;
 use std::sync::Wait;
 use std::sync::ledger::Blank;
-use std::thread;
 use std::thread::Threads;
 
 // How many calls the log of a site has places for: more than a script of the most lines and runners of the most turns make.
@@ -39,8 +39,9 @@ pub struct Job {
 
 /// Carries out a script at all sites of a layout at the same time, each over a new keeper in memory, with links between all
 /// whose runners take so many turns, at most 10^9. What each site leaves, in order of sites, once all have ended. `Err`
-/// where memory was refused outside a runner's turn. Where a thread can't be started, tasks run in turn, and then may
-/// wait for ever for one another. May wait.
+/// where memory was refused outside a runner's turn. Where a thread can't be started, its links are closed, so that all
+/// others end, and the answer is `Err`; only at two sites are the tasks then carried out one after another, of which none
+/// waits for a later one. May wait.
 pub fn run_sites<R: Threads + Wait + Sync>(
     rt: &R,
     alloc: Global,
@@ -55,14 +56,7 @@ pub fn run_sites<R: Threads + Wait + Sync>(
         return run_two(rt, alloc, layout, turns, asked);
     }
     let jobs = jobs_of(alloc, layout, asked)?;
-    let answers = thread::map_vec(
-        rt,
-        jobs,
-        &|job: Job| -> Result<Transcript, AllocError>
-            requires { turns ≤ 1000000000 }
-            ensures { IfOk result (IsSiteRun job.layout job.site job.asks.items) }
-        { run_site(rt, alloc, job, turns) },
-    )?;
+    let answers = run_jobs(rt, alloc, jobs, turns)?;
     all_answers(alloc, answers)
 }
 
@@ -115,8 +109,8 @@ fn all_answers(
     Ok(all)
 }
 
-// Opens a site, has it run, and closes it.
-fn run_site<R: Threads + Wait + Sync>(
+/// Opens a site, has it run, and closes it. On every path the ends of its links are dropped before it returns.
+pub fn run_site<R: Threads + Wait + Sync>(
     rt: &R,
     alloc: Global,
     job: Job,
@@ -159,10 +153,10 @@ fn run_over<L: Opening + Send + Sync, R: Threads + Wait + Sync>(
         ends,
     } = job;
     let (site, all) = opened::<L>(alloc, blank, layout, number, passes)?;
-    let mut tasks = tasks_of(alloc, all, asks, ends)?;
-    run_tasks(rt, alloc, &site, tasks.as_mut_slice(), turns);
-    let pass = caller_pass(&mut tasks)?;
-    closed(rt, alloc, site, pass, tasks)
+    let tasks = tasks_of(alloc, all, asks, ends)?;
+    let mut done = run_tasks(rt, alloc, &site, tasks, turns)?;
+    let pass = caller_pass(&mut done)?;
+    closed(rt, alloc, site, pass, done)
 }
 
 /// A site over a new keeper in memory, and its passes.

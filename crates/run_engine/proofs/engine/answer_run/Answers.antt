@@ -1,4 +1,4 @@
-use Rattle.std.proofs.Common.{rules, List, ℕ, All, MatchBool, IfSome, subst, sym, string_bytes}
+use Rattle.std.proofs.Common.{rules, List, All, IfSome, subst, sym, string_bytes}
 use Rattle.std.proofs.lemmas.Bool.{MatchBool-at_true}
 use Rattle.desk_log.specs.declared.transcript.Transcript.{Transcript}
 use Rattle.text_input.specs.Source.{HasFault}

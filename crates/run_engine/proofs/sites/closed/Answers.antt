@@ -1,5 +1,4 @@
-use Rattle.std.proofs.Common.{rules, ◌≡◌, List, [], ◌∷◌, ◌++◌}
-use Rattle.session_book.specs.Passes.{PassState}
+use Rattle.std.proofs.Common.{rules, ◌≡◌, [], ◌∷◌, ◌++◌}
 use Rattle.run_engine.proofs.SiteLemmas.{closed_with}
 use Rattle.run_engine.proofs.sites.closed.Goals as goal
 
