@@ -5,21 +5,25 @@
 #     checks/asked_memory.sh
 set -eu
 . "$(dirname "$0")/refusing.sh"
-tests=crates/session_tests/out/session_tests_tests
-[ -x "$tests" ] || (cd crates/session_tests && rt test)
 
 wrong=0
-# A test, and the most requests and bytes that it may make.
+# A crate of tests, one of its tests, and the most requests and bytes that it may make.
 within() {
-    REFUSE_TOTAL=$work/total LD_PRELOAD=$work/refuse.so "$tests" "$1" > "$work/out" 2>&1 || { cat "$work/out"; exit 1; }
+    tests=crates/$1/out/$1_tests
+    [ -x "$tests" ] || (cd "crates/$1" && rt test)
+    REFUSE_TOTAL=$work/total LD_PRELOAD=$work/refuse.so "$tests" "$2" > "$work/out" 2>&1 || { cat "$work/out"; exit 1; }
     read -r requests bytes < "$work/total"
-    echo "$1: $requests requests, $bytes bytes"
-    [ "$requests" -le "$2" ] && [ "$bytes" -le "$3" ] || { echo "  more than $2 requests or $3 bytes"; wrong=1; }
+    echo "$2: $requests requests, $bytes bytes"
+    [ "$requests" -le "$3" ] && [ "$bytes" -le "$4" ] || { echo "  more than $3 requests or $4 bytes"; wrong=1; }
 }
 
 # Two desks with a log of 16 places each: one of 65,536 places would take megabytes.
-within desks::a_log_takes_as_many_entries_as_its_limit 100 40000
+within session_tests desks::a_log_takes_as_many_entries_as_its_limit 100 40000
 # 65,536 calls: their log has its places from the start, and the receipts of a pass double theirs, so few calls ask for
 # memory. Receipts that grew one by one would ask 65,536 times.
-within sites::the_longest_log_is_closed_by_all_passes 1000 40000000
+within session_tests sites::the_longest_log_is_closed_by_all_passes 1000 40000000
+# Twelve calls, a snapshot among them: a second snapshot, or one copy more of a reply, would ask more often.
+within session_tests sites::a_store_is_called_once_an_opening_and_once_a_change 60 15100
+# One snapshot of a book with 243 rows of 16 sites: a second one, or a copy, would take 10,000 bytes and more.
+within site_tests admission::limits::a_full_site_tells_and_keeps 2095 1100000
 exit $wrong

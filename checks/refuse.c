@@ -57,7 +57,8 @@ int posix_memalign(void **out, size_t align, size_t size) {
     return refused(size) ? ENOMEM : real(out, align, size);
 }
 
-static void tell_total(void) {
+/* programs end by `_exit`, tests as C's programs do */
+static void __attribute__((destructor)) tell_total(void) {
     const char *total = getenv("REFUSE_TOTAL");
     FILE *file = total ? fopen(total, "w") : 0;
     if (!file) return;
@@ -65,7 +66,6 @@ static void tell_total(void) {
     fclose(file);
 }
 
-/* how the programs of the toolchain end */
 void _exit(int status) {
     static void (*real)(int) __attribute__((noreturn));
     if (!real) real = dlsym(RTLD_NEXT, "_exit");
