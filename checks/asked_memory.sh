@@ -26,4 +26,6 @@ within session_tests sites::the_longest_log_is_closed_by_all_passes 1000 4000000
 within session_tests sites::a_store_is_called_once_an_opening_and_once_a_change 60 15100
 # One snapshot of a book with 243 rows of 16 sites: a second one, or a copy, would take 10,000 bytes and more.
 within site_tests admission::limits::a_full_site_tells_and_keeps 2095 1100000
+# Stores are opened again, and looked at once each: a second look would ask for all their rows again.
+within store_tests stores_opened::a_keeper_is_opened_again_after_a_crash 7480 20100000
 exit $wrong

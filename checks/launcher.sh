@@ -165,6 +165,9 @@ ends 8 "" "log refused NotTranscript" serve --site 0 --store "$work/new.db" --cr
     && [ ! -e "$work/new.db" ] && [ "$(cat "$work/no.log")" = "no log" ] \
     && ends 0 "" "" serve --site 0 --store "$work/new.db" --create --log "$work/new.log" </dev/null
 tell $? "8 for a file that is no log, which stays; the new store is removed, and can be made with another log"
+ends 8 "" "log refused NotTranscript" serve --site 0 --store "$work/new.db" --log "$work/no.log" </dev/null \
+    && ends 0 "0" "" ask --site 0 --store "$work/new.db" sessions a </dev/null
+tell $? "8 for the same at a store that was there before, which stays"
 echo "0 send" | ends 4 "line 1 refused BadWord" "" run --out "$work/run.log" && [ -z "$(ls "$work"/run.log* 2>/dev/null)" ]
 tell $? "4 for a script that is refused, and no file for its logs"
 echo "0 leave a 1" | ends 0 "0: refused NotHere

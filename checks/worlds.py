@@ -88,13 +88,14 @@ class World(scripts.Script):
         self.runs.setdefault(s, []).append((layout, []))
 
     def say(self, s, what):
-        before = self.world.sites[s].restarted(self.world.sites[s].layout) if s < len(self.world.sites) else None
+        before, verb = None, what.split(" ")[0]
+        if s < len(self.world.sites):
+            before = self.world.sites[s].restarted(self.world.sites[s].layout)
+            if s not in self.processes:
+                self.open(s)
         reply = super().say(s, what)
-        verb = what.split(" ")[0]
         if before is None or reply.startswith(("refused NoMessage", "refused NoGrowth")):
             return reply
-        if s not in self.processes:
-            self.open(s)
         if verb in ("restart", "grow"):
             self.stop(s, before)
             return reply

@@ -1,7 +1,7 @@
 //! The closed logs that a run writes: they are read again, and judged again. Those of two linked sites have the calls of
 //! their runners.
 use crate::runs::{ONE_SITE, ending};
-use admission_core::{Ask, Call};
+use admission_core::{Ask, Call, Reply};
 use desk_log::{Entry, Transcript};
 use exit_status::Status;
 use judge_engine::{Cut, judge_engine};
@@ -130,20 +130,32 @@ struct Calls {
     other: u32,
 }
 
-// One call more. At each of two sites pass 0 is the caller's, pass 1 the outbox's, and pass 2 the inbox's.
-fn count_entry(calls: &mut Calls, entry: &Entry) {
-    let count = match (entry.pass, &entry.call) {
-        (0, _) => return,
-        (1, Call::Ask(Ask::Help { .. })) => &mut calls.help,
-        (1, Call::Snapshot) => &mut calls.snapshot,
-        (2, Call::Merge(_)) => &mut calls.merge,
+// Whether a pass may be an outbox's, and whether it may be an inbox's. Pass 0 is the caller's; at each of two sites pass 1 is
+// the outbox's, and pass 2 the inbox's.
+fn may_be(sites: u16, pass: u16) -> (bool, bool) {
+    if sites == 2 {
+        (pass == 1, pass == 2)
+    } else {
+        (pass > 0, pass > 0)
+    }
+}
+
+// One call more.
+fn count_entry(calls: &mut Calls, sites: u16, entry: &Entry) {
+    if entry.pass == 0 {
+        return;
+    }
+    let count = match (may_be(sites, entry.pass), &entry.call) {
+        ((true, _), Call::Ask(Ask::Help { .. })) => &mut calls.help,
+        ((true, _), Call::Snapshot) => &mut calls.snapshot,
+        ((_, true), Call::Merge(_)) => &mut calls.merge,
         _ => &mut calls.other,
     };
     *count = count.saturating_add(1);
 }
 
-// What the runners of a site called in its last run.
-fn calls_of(transcript: &Transcript) -> Option<Calls> {
+// What the runners of a site, of so many, called in its last run.
+fn calls_of(sites: u16, transcript: &Transcript) -> Option<Calls> {
     let mut calls = Calls {
         help: 0,
         snapshot: 0,
@@ -151,36 +163,129 @@ fn calls_of(transcript: &Transcript) -> Option<Calls> {
         other: 0,
     };
     for entry in transcript.runs.as_slice().last()?.entries.as_slice() {
-        count_entry(&mut calls, entry);
+        count_entry(&mut calls, sites, entry);
     }
     Some(calls)
 }
 
-// What the runners of two sites called.
+// What the runners of each site called.
 fn linked_calls<Rt: Threads + Wait + Sync>(
     rt: &Rt,
     alloc: Global,
+    toml: &str,
     script: &str,
-) -> Option<(Calls, Calls)> {
-    let logs = logs_of(rt, alloc, TWO_SITES, script)?;
-    let layout = read_layout(alloc, TWO_SITES.as_bytes()).ok()?;
+) -> Option<Vec<Calls>> {
+    let logs = logs_of(rt, alloc, toml, script)?;
+    let layout = read_layout(alloc, toml.as_bytes()).ok()?;
     let transcripts = read_transcripts(alloc, &layout, logs.bytes()).ok()?;
-    let transcripts = transcripts.as_slice();
-    Some((
-        calls_of(transcripts.first()?)?,
-        calls_of(transcripts.get(1)?)?,
-    ))
+    let mut all = Vec::new(alloc);
+    for transcript in transcripts.as_slice() {
+        all.push(calls_of(layout.sites(), transcript)?).ok()?;
+    }
+    Some(all)
 }
 
-// Two sites are linked both ways: in each of the 30 turns each asks itself to help and tells, and hears the other.
+// Whether the runners of each of so many sites called that.
+fn call_so<Rt: Threads + Wait + Sync>(
+    rt: &Rt,
+    alloc: Global,
+    toml: &str,
+    sites: usize,
+    each: Calls,
+) -> Option<bool> {
+    let found = linked_calls(rt, alloc, toml, "1 announce a 5\n0 read a 1\n")?;
+    let mut as_many = 0usize;
+    for calls in found.as_slice() {
+        as_many = as_many.saturating_add(usize::from(*calls == each));
+    }
+    Some(as_many == sites && found.len() == sites)
+}
+
+// Each two sites are linked both ways: in each of the 30 turns of a link its sender asks itself to help and tells, and its
+// receiver hears.
 #[test]
-fn two_sites_tell_each_other_at_each_turn(rt: HostRuntime) {
-    let each = Calls {
-        help: 30,
-        snapshot: 30,
-        merge: 30,
-        other: 0,
-    };
-    let found = linked_calls(&rt, rt.alloc(), "1 announce a 5\n0 read a 1\n");
-    assert!(rt; found == Some((each, each)), "{found:?}");
+fn sites_tell_each_other_at_each_turn(rt: HostRuntime) {
+    for (toml, sites, links) in [(TWO_SITES, 2, 1), (THREE_SITES, 3, 2)] {
+        let each = Calls {
+            help: 30 * links,
+            snapshot: 30 * links,
+            merge: 30 * links,
+            other: 0,
+        };
+        assert!(rt;
+            call_so(&rt, rt.alloc(), toml, sites, each) == Some(true),
+            "{sites} sites"
+        );
+    }
+}
+
+// Whether some merge of a site's log told it of something new.
+fn heard_news(transcript: &Transcript) -> Option<bool> {
+    let mut heard = false;
+    for entry in transcript.runs.as_slice().last()?.entries.as_slice() {
+        if let Reply::Merged(raised) = &entry.reply {
+            heard = heard || *raised > 0;
+        }
+    }
+    Some(heard)
+}
+
+// Whether each site but the first heard something new.
+fn all_heard<Rt: Threads + Wait + Sync>(rt: &Rt, alloc: Global) -> Option<bool> {
+    let logs = logs_of(rt, alloc, THREE_SITES, "")?;
+    let layout = read_layout(alloc, THREE_SITES.as_bytes()).ok()?;
+    let transcripts = read_transcripts(alloc, &layout, logs.bytes()).ok()?;
+    let mut all = transcripts.len() == 3;
+    for transcript in transcripts.as_slice() {
+        all = all && (transcript.site == 0 || heard_news(transcript)?);
+    }
+    Some(all)
+}
+
+// Site 0 has all seats at first, and gives some before it tells: both others hear of it, so no link ends where it begins.
+#[test]
+fn each_of_three_sites_hears_of_the_first(rt: HostRuntime) {
+    assert!(rt; all_heard(&rt, rt.alloc()) == Some(true));
+}
+
+// A layout of two sites with 20 records.
+fn twenty_records(alloc: Global) -> Option<String> {
+    let mut toml = String::new(alloc);
+    toml.push_str("sites = 2\n").ok()?;
+    for name in "abcdefghijklmnopqrst".chars() {
+        toml.push_str("[[record]]\nname = \"").ok()?;
+        toml.push(name).ok()?;
+        toml.push_str("\"\nseats = 2\nhome = 0\nproblem = 1\n")
+            .ok()?;
+    }
+    Some(toml)
+}
+
+// The greatest record that a runner of the first site asked it to help with.
+fn last_helped<Rt: Threads + Wait + Sync>(rt: &Rt, alloc: Global) -> Option<u16> {
+    let toml = twenty_records(alloc)?;
+    let logs = logs_of(rt, alloc, toml.as_str(), "")?;
+    let layout = read_layout(alloc, toml.as_bytes()).ok()?;
+    let transcripts = read_transcripts(alloc, &layout, logs.bytes()).ok()?;
+    let mut last = 0u16;
+    for entry in transcripts
+        .as_slice()
+        .first()?
+        .runs
+        .as_slice()
+        .last()?
+        .entries
+        .as_slice()
+    {
+        if let Call::Ask(Ask::Help { r }) = &entry.call {
+            last = last.max(*r);
+        }
+    }
+    Some(last)
+}
+
+// In 30 turns each of 20 records has its turn.
+#[test]
+fn each_record_has_its_turn(rt: HostRuntime) {
+    assert!(rt; last_helped(&rt, rt.alloc()) == Some(19));
 }

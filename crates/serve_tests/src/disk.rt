@@ -7,13 +7,14 @@ use std::io::{Error, ErrorKind, Read, Seek, SeekFrom, Write};
 use std::rc::Rc;
 use std::rt::Files;
 
-/// What fails: the opening or a read, in this way, or the writes, or the cuts.
+/// What fails: the opening or a read, in this way, or the writes, the syncs, or the cuts.
 #[derive(Clone, Copy, Debug, PartialEq, Eq)]
 pub enum Fault {
     None,
     Open(ErrorKind),
     Read(ErrorKind),
     Write,
+    Sync,
     Cut,
 }
 
@@ -127,6 +128,9 @@ impl OpenFile for DiskFile {
     }
 
     fn sync_data(&self) -> io::Result<()> {
+        if self.fault == Fault::Sync {
+            return Err(unsupported());
+        }
         Ok(())
     }
 }

@@ -56,7 +56,7 @@ const WRONG_STORE: LogError = LogError::Refused(LogRefusal::WrongStore);
 
 const NOT_READ: LogError = LogError::Refused(LogRefusal::NotRead);
 
-static OPENINGS: [Opening; 15] = [
+static OPENINGS: [Opening; 16] = [
     (["", "", ""], Fault::None, false, None, [RUN, "", ""]),
     ([RUN, "", ""], Fault::None, false, None, [RUN, RUN, ""]),
     (
@@ -109,7 +109,7 @@ static OPENINGS: [Opening; 15] = [
         Some(LogError::Refused(LogRefusal::NotTranscript { line: 2 })),
         [RUN, "x\n", ""],
     ),
-    // a file that can't be opened, read, cut or written
+    // a file that can't be opened, read, written, synced or cut
     (
         [RUN, "", ""],
         Fault::Open(ErrorKind::NotFound),
@@ -144,6 +144,13 @@ static OPENINGS: [Opening; 15] = [
         true,
         Some(LogError::Io),
         [RUN, READ, ""],
+    ),
+    (
+        [RUN, READ, ""],
+        Fault::Sync,
+        true,
+        Some(LogError::Io),
+        [RUN, READ, LATER_RUN],
     ),
     (
         [RUN, READ, ""],
