@@ -1,5 +1,5 @@
 -- A site that was opened, and one that is closed.
-use Rattle.std.proofs.Common.{◌≡◌, ◌≢◌, ℕ, ◌⊎◌, inl, inr, Bool, true, false, List, [], ◌∷◌, length, refl, sym, ap, subst, ◌∙◌, arith}
+use Rattle.std.proofs.Common.{◌≡◌, ◌≢◌, ℕ, Bool, true, false, List, [], ◌∷◌, length, refl, sym, ap, subst, ◌∙◌, arith}
 use Rattle.std.specs.Prelude.{All, IsTrue, ◌↔◌}
 use Rattle.merge_core.specs.Layout.{LayoutState, IsLayout}
 use Rattle.admission_model.specs.Account.{Account}
@@ -78,26 +78,19 @@ pub some_missing : (b : Bool) (n m : ℕ) (xs ys : List PassState) → (IsTrue b
 some_missing b n m xs ys told same_count same is = λ all.
     let both : false ≡ true = sym is ∙ told.1 (subst (λ (k : ℕ). AreAll k xs) (sym same_count) (subst (AreAll m) (sym same) all)) in cc
 
--- what a closing found: the log of the opening does not bear out a pass; or the desk is of another opening
-abbrev pub FindsAstray : {K : Type 0} → SiteState → List PassState → DeskState K → ℕ → ℕ → Type 0
-FindsAstray s ps d pass at =
-    IsDeskAstray d s.layout s.site s.first s.limit ps pass at
-    ⊎ ((¬ IsSameOpening d s.layout s.site s.first s.limit) × (pass ≡ length ps) × (at ≡ 0))
-
-mismatched : {K : Type 0} (s : SiteState) (ps : List PassState) (d : DeskState K) (pass at : ℕ) → AreAll s.passes ps → FindsAstray s ps d pass at → IsCloseFault s ps (Mismatch pass at)
-mismatched s ps d pass at all (inl found) = (
+mismatched : {K : Type 0} (s : SiteState) (ps : List PassState) (d : DeskState K) (pass at : ℕ) → AreAll s.passes ps → IsDeskAstray d s.layout s.site s.first s.limit ps pass at → IsCloseFault s ps (Mismatch pass at)
+mismatched s ps d pass at all found = (
   all,
-  inl record {
+  record {
     entries = d.log.entries;
     legal = subst (λ (a : Account). IsLegal a d.log.entries) (λ k. begun (found.opening.of_layout k) (found.opening.of_site k) (found.opening.began k)) found.legal;
     within = found.within;
     astray = found.astray;
   },
 )
-mismatched s ps d pass at all (inr (other, no_pass, none)) = (all, inr (no_pass ∙ all.as_many, none))
 
 -- a refusal that came after the passes were counted
-pub refused : {K : Type 0} (s : SiteState) (ps : List PassState) (d : DeskState K) (e : CloseError) → e ≢ PassMissing → ((pass at : ℕ) → e ≡ Mismatch pass at → FindsAstray s ps d pass at) → AreAll s.passes ps → IsCloseFault s ps e
+pub refused : {K : Type 0} (s : SiteState) (ps : List PassState) (d : DeskState K) (e : CloseError) → e ≢ PassMissing → ((pass at : ℕ) → e ≡ Mismatch pass at → IsDeskAstray d s.layout s.site s.first s.limit ps pass at) → AreAll s.passes ps → IsCloseFault s ps e
 refused s ps d PassMissing other told all = absurd (other refl)
 refused s ps d (Mismatch pass at) other told all = mismatched s ps d pass at all (told pass at refl)
 refused s ps d Memory other told all = all

@@ -1,5 +1,5 @@
 -- A site behind its lock, as contracts see it, and what closing it tells.
-use Rattle.std.specs.Prelude.{◌≡◌, ℕ, ◌<◌, ◌≤◌, ◌==◌, ◌⊎◌, Bool, true, false, List, [], ◌∷◌, ◌++◌, length, slice_index_or, All, IsTrue, Result, Ok, Err, Vec, zero, suc}
+use Rattle.std.specs.Prelude.{◌≡◌, ℕ, ◌<◌, ◌≤◌, ◌==◌, Bool, true, false, List, [], ◌∷◌, ◌++◌, length, slice_index_or, All, IsTrue, Result, Ok, Err, Vec, zero, suc}
 use Rattle.std.specs.Global.{Global}
 use Rattle.std.specs.List.{list_any}
 use Rattle.merge_core.specs.Layout.{LayoutState, IsLayout}
@@ -168,12 +168,11 @@ pub record IsLogAstray (s : SiteState) (ps : List PassState) (pass at : ℕ) : T
   pub within : length entries ≤ s.limit
   pub astray : IsAstray s.limit entries ps pass at
 
--- What is wrong with a closing: a pass is missing; or all are there, and the log under the lock does not bear out the
--- pass that is named, or, where that number is no pass's, the desk there is of another opening, which only the private
--- test of the closing can see; or memory ran out.
+-- What is wrong with a closing: a pass is missing; or all are there, and a legal log of the opening does not bear out the
+-- pass that is named; or memory ran out.
 abbrev pub IsCloseFault : SiteState → List PassState → CloseError → Type 0
 IsCloseFault s ps PassMissing = ¬ AreAll s.passes ps
-IsCloseFault s ps (Mismatch pass at) = AreAll s.passes ps × (IsLogAstray s ps pass at ⊎ ((pass ≡ s.passes) × (at ≡ 0)))
+IsCloseFault s ps (Mismatch pass at) = AreAll s.passes ps × IsLogAstray s ps pass at
 IsCloseFault s ps Memory = AreAll s.passes ps
 
 -- the answer to a closing: a transcript and the keeper, or what is wrong, with the site and the passes

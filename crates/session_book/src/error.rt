@@ -7,10 +7,10 @@ pub enum CloseError {
     #[error("a pass of the site is missing")]
     PassMissing,
     /// The receipt with this number is not the log's entry, or the pass has a mark that the log does not bear out: then
-    /// `at` is the number of its receipts. Where `pass` is the number of all passes, which is no pass's, the log under
-    /// the lock is of another opening.
+    /// `at` is the number of its receipts.
     #[error("receipt {at} of pass {pass} is not in the log")]
     Mismatch { pass: u16, at: usize },
+    /// Also where the desk under the lock is not the one that was opened, which can't happen.
     #[error("out of memory")]
     Memory,
 }

@@ -2,9 +2,9 @@ use Rattle.std.proofs.Common.{List, [], ◌∷◌, refl, sym, ap, subst}
 use Rattle.std.specs.Prelude.{All}
 use Rattle.desk_log.specs.Desk.{DeskState}
 use Rattle.desk_log.specs.declared.transcript.Transcript.{Transcript}
-use Rattle.session_book.specs.Sites.{SiteState, AreAll, BearsOut, IsSameOpening, IsClosed, IsCloseFault}
+use Rattle.session_book.specs.Sites.{SiteState, AreAll, BearsOut, IsSameOpening, IsDeskAstray, IsClosed, IsCloseFault}
 use Rattle.session_book.specs.Passes.{PassState}
-use Rattle.session_book.proofs.SiteLemmas.{FindsAstray, closed, all_there, some_missing, refused}
+use Rattle.session_book.proofs.SiteLemmas.{closed, all_there, some_missing, refused}
 use Rattle.session_book.proofs.site.Site.close.Goals as goal
 
 pub returns-then-not-are_all : goal.returns-then-not-are_all
@@ -22,7 +22,7 @@ returns-in-Err g c =
     all_there c.are_all.result k.passes k.passes c.as_slice.result.now c.args.passes.items c.are_all.ensures refl c.as_slice.ensures.value c.if-not-are_all.false in
     let fault : IsCloseFault s c.args.passes.items c.in-Err.error =
     refused s c.args.passes.items c.desk.result.now c.in-Err.error c.in-Err.ensures.all_there
-    (λ pass at is. subst (λ (ps : List PassState). FindsAstray s ps c.desk.result.now pass at) c.as_slice-2.ensures.value (c.in-Err.ensures.astray pass at is))
+    (λ pass at is. subst (λ (ps : List PassState). IsDeskAstray c.desk.result.now s.layout s.site s.first s.limit ps pass at) c.as_slice-2.ensures.value (c.in-Err.ensures.astray pass at is))
     all in
     (subst (λ (x : SiteState). IsCloseFault x c.args.passes.items c.in-Err.error) c.self.view_is fault, c.self.view_is, refl)
 
