@@ -3,7 +3,7 @@
 //! runs over links.
 #![tactic(auto)]
 
-ghost use Rattle.std.specs.Prelude.{◌≡◌, All, IsSome, IfSome};
+ghost use Rattle.std.specs.Prelude.{◌≡◌, All, IsSome, IfSome, true};
 ghost use Rattle.admission_core.specs.Kept.{DurableState};
 
 use admission_core::{Ask, Call};
@@ -29,6 +29,8 @@ pub enum Changes<'a, K: Keeper, L: Opening, R> {
 }
 
 impl<'a, K: Keeper, L: Opening, R: Wait> Gate for Changes<'a, K, L, R> {
+    ghost answers = { λ _ _ answer _. answer ≡ true };
+
     fn open(&mut self, turn: u64) -> bool {
         if let Changes::One(rt, site, pass) = self {
             let r = (turn % u64::from(RECORDS)) as u16;

@@ -1,5 +1,5 @@
 ghost use Rattle.std.specs.Prelude.{◌≡◌, ⊤, ℕ, ◌+◌, Bool, true, false, List, [], ◌∷◌, ◌++◌, length, string_bytes, Err, MatchResult};
-ghost use Rattle.exchange_threads.specs.declared.inlet.TakeError.TheVariants.{Closed};
+ghost use Rattle.exchange_threads.specs.declared.inlet.TakeError.TheVariants.{Closed, Memory as NoRoom};
 ghost use Rattle.session_book.specs.declared.pass.Receipt.{Receipt};
 ghost use Rattle.exchange_threads.specs.Fates.{IsFateOf, fate_lacks, is_ended};
 
@@ -30,6 +30,9 @@ pub trait Inlet {
     /// No text will come any more.
     ghost closed: { Self → Type 0 };
 
+    /// It is as it was, its room aside.
+    ghost rests: { Self → Self → Type 0 };
+
     /// It is the same inlet, perhaps later.
     ghost same: { Self → Self → Type 0 };
 
@@ -38,6 +41,7 @@ pub trait Inlet {
         ensures taken { (rs : List Receipt) (ts : List (List ℕ)) (m : ℕ) → accounts self.old rs ts m false
             → MatchResult result (λ text. holds self.new (string_bytes text) rs ts m) (λ _. accounts self.new rs ts m false) }
         ensures closed { result ≡ Err Closed → closed self.new }
+        ensures memory { result ≡ Err NoRoom → rests self.old self.new }
         ensures same { same self.old self.new };
 
     /// Notes what came of the text in hand. The caller shows that it is. Takes no memory.
@@ -62,6 +66,8 @@ impl Inlet for Receiver<String> {
     ghost holds = { λ _ _ _ _ _. ⊤ };
 
     ghost closed = { λ _. ⊤ };
+
+    ghost rests = { λ _ _. ⊥ };
 
     ghost same = { λ _ _. ⊤ };
 

@@ -1,4 +1,4 @@
-ghost use Rattle.std.specs.Prelude.{◌≡◌, ◌⊎◌, ◌+◌, ◌<◌, ◌≤◌, List, ◌∷◌, ◌++◌, [], Option, None, length};
+ghost use Rattle.std.specs.Prelude.{◌≡◌, ◌≢◌, ◌⊎◌, Bool, if◌then◌else◌, ◌+◌, ◌<◌, ◌≤◌, List, ◌∷◌, ◌++◌, [], Option, None, length};
 ghost use Rattle.merge_core.specs.Delta.{DeltaState};
 ghost use Rattle.session_book.specs.declared.pass.Receipt.{Receipt};
 ghost use Rattle.exchange_threads.specs.declared.turn.Turn.TheVariants.{GoesOn, EndsRun};
@@ -116,6 +116,8 @@ fn out_turn<K: Keeper, L: Opening, G: Gate, O: Outlet, R: Wait>(
     ensures told { HasTold (length site.now.layout.records) pass.old pass.new told.old.report told.new.report opened.old opened.new result }
     ensures at { IsOutAt (told.old.report.turns + 1) told.new.report }
     ensures opened { opened.new ≤ told.old.report.turns + 1 }
+    ensures asked { ((gate.new ≡ gate.old) × (opened.new ≡ opened.old) × (result ≢ GoesOn))
+        ⊎ ((b : Bool) × (G.answers gate.old told.old.report.turns b gate.new) × (opened.new ≡ opened.old + (if b then 1 else 0))) }
     ensures accounts { O.accounts outlet.new pass.new.receipts told.new.report.sent told.new.last }
     ensures early { result ≡ EndsRun → O.closed outlet.new ⊎ IsMarked pass.new }
     ensures same { O.same outlet.old outlet.new }
@@ -170,8 +172,9 @@ pub fn run_outbox_at<K: Keeper, L: Opening, G: Gate, O: Outlet, R: Wait>(
 /// meets want of memory is counted, does nothing more, and the runner goes on. The sender and the gate are dropped
 /// at the end.
 ///
-/// A turn writes what changed since the snapshot before it, and nothing where nothing did; to find that it reads both
-/// snapshots once, row by row. May wait, for the site's lock, the channel and the gate.
+/// A text has what changed since the snapshot before it. A turn costs what the site knows, since the log and the pass's
+/// receipt keep the snapshot whole, and it is compared with the one before it, row by row. May wait, for the site's lock,
+/// the channel and the gate.
 pub fn run_outbox<K: Keeper, L: Opening, G: Gate + Drop, R: Wait>(
     rt: &R,
     alloc: Global,

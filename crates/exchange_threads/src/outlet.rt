@@ -1,5 +1,5 @@
 ghost use Rattle.std.specs.Prelude.{◌≡◌, ⊤, ℕ, ◌+◌, List, [], ◌∷◌, ◌++◌, Option, Some, length, string_bytes, Err, OnOk, OnErr};
-ghost use Rattle.exchange_threads.specs.declared.outlet.PutError.TheVariants.{Closed};
+ghost use Rattle.exchange_threads.specs.declared.outlet.PutError.TheVariants.{Closed, Memory as NoRoom};
 ghost use Rattle.merge_core.specs.Delta.{DeltaState};
 ghost use Rattle.session_book.specs.declared.pass.Receipt.{Receipt};
 ghost use Rattle.exchange_threads.specs.Outbox.{sent_text, shown_receipt};
@@ -27,6 +27,9 @@ pub trait Outlet {
     /// Nobody will take a text any more.
     ghost closed: { Self → Type 0 };
 
+    /// It is as it was, its room aside.
+    ghost rests: { Self → Self → Type 0 };
+
     /// It is the same outlet, perhaps later.
     ghost same: { Self → Self → Type 0 };
 
@@ -36,6 +39,7 @@ pub trait Outlet {
         ensures put { (rs : List Receipt) (n : ℕ) (last : Option DeltaState) (d : DeltaState) → accounts self.old rs n last → place ≡ length rs
             → string_bytes text ≡ sent_text n last d → OnOk result (accounts self.new (rs ++ shown_receipt d ∷ []) (n + 1) (Some d)) }
         ensures closed { result ≡ Err Closed → closed self.new }
+        ensures memory { result ≡ Err NoRoom → rests self.old self.new }
         ensures same { same self.old self.new }
         ensures kept { (rs : List Receipt) (n : ℕ) (last : Option DeltaState) → accounts self.old rs n last → OnErr result (accounts self.new rs n last) };
 
@@ -52,6 +56,8 @@ impl Outlet for Sender<String> {
     ghost accounts = { λ _ _ _ _. ⊤ };
 
     ghost closed = { λ _. ⊤ };
+
+    ghost rests = { λ _ _. ⊤ };
 
     ghost same = { λ _ _. ⊤ };
 

@@ -64,6 +64,8 @@ pub fn make_link(alloc: Global) -> Result<(Putter, Taker), AllocError>
     ensures capacity { IfOk result (λ ends. ends.0.capacity ≡ link_capacity) }
     ensures unfinished { IfOk result (λ ends. ends.0.finished ≡ false) }
     ensures receives { IfOk result (λ ends. ends.1.receives ≡ true) }
+    ensures ended { IfOk result (λ ends. ends.1.ended ≡ false) }
+    ensures closed { IfOk result (λ ends. ends.0.closed ≡ false) }
 {
     let (sender, receiver, mut pass) = bounded_with::<Parcel, Log, Order, Global>(
         alloc,
@@ -130,6 +132,7 @@ impl Putter {
         ensures capacity { self.new.capacity ≡ self.old.capacity }
         ensures put { self.new.put ≡ self.old.put }
         ensures finished { (self.new.finished ≡ true) ⊎ (self.new.closed ≡ true) }
+        ensures done { self.new.finished ≡ true → self.old.closed ≡ false → self.old.finished ≡ false → self.new.closed ≡ false }
     {
         if !send(rt, &self.sender, &mut self.pass, Parcel::Last) {
             self.closed = true;
@@ -180,6 +183,7 @@ impl Taker {
         ensures link { self.new.link ≡ self.old.link }
         ensures taken { IfSome result (λ text. self.new.taken ≡ self.old.taken ++ string_bytes text ∷ []) }
         ensures none { IfNone result (self.new.taken ≡ self.old.taken) }
+        ensures open { IfSome result (λ _. (self.new.ended ≡ self.old.ended) × (self.new.receives ≡ self.old.receives)) }
         ensures ended { IfNone result (self.new.ended ≡ true) }
         ensures closed { IfNone result (self.new.receives ≡ false) }
     {

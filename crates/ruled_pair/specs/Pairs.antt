@@ -18,19 +18,23 @@ use Rattle.ruled_pair.specs.declared.pair.PairError.TheVariants.{NoLink, Memory}
 use Rattle.ruled_pair.specs.Sent.{AreSent}
 use Rattle.ruled_pair.specs.Heard.{AreHeard}
 
--- nothing was put yet, and the pass has so many receipts
+-- nothing was put yet, the link is open, and the pass has so many receipts
 pub record IsFreshOutlet (e : RuledOutlet) (count : ℕ) : Type 0 where
   pub first : e.first ≡ count
   pub put : e.put.items ≡ []
   pub sent_at : e.sent_at.items ≡ []
   pub link : e.putter.put ≡ []
+  pub unfinished : e.putter.finished ≡ false
+  pub open_yet : e.putter.closed ≡ false
 
--- nothing was taken yet, and the pass has so many receipts
+-- nothing was taken yet, the link is open, and the pass has so many receipts
 pub record IsFreshInlet (e : RuledInlet) (count : ℕ) : Type 0 where
   pub first : e.first ≡ count
   pub taken : e.taken.items ≡ []
   pub fates : e.fates.items ≡ []
   pub link : e.taker.taken ≡ []
+  pub going : e.taker.ended ≡ false
+  pub open_yet : e.taker.receives ≡ true
 
 -- the report of a sending end is right, and tells what was put; the link was told that no text follows, or its taker is gone
 pub record HasSent (old new : RuledOutlet) (rs : List Receipt) (n : ℕ) : Type 0 where

@@ -63,6 +63,8 @@ impl Inlet for RuledInlet {
 
     ghost closed = { λ e. e.taker.ended ≡ true };
 
+    ghost rests = { λ a b. b.taker ≡ a.taker };
+
     ghost same = { λ a b. (b.first ≡ a.first) × (b.taker.link ≡ a.taker.link) };
 
     fn take<R: Wait>(&mut self, rt: &R) -> Result<String, TakeError> {

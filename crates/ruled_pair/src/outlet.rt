@@ -60,6 +60,8 @@ impl Outlet for RuledOutlet {
 
     ghost closed = { λ e. e.putter.closed ≡ true };
 
+    ghost rests = { λ a b. b.putter ≡ a.putter };
+
     ghost same = { λ a b. (b.first ≡ a.first) × (b.putter.link ≡ a.putter.link) };
 
     fn put<R: Wait>(&mut self, rt: &R, place: u64, text: String) -> Result<(), PutError> {

@@ -1,9 +1,10 @@
 //! Two sites at work with links that keep their order between them: one function opens, runs and closes both.
-ghost use Rattle.std.specs.Prelude.{◌≡◌, ◌≤◌, true, [], ◌∷◌, IfOk, OnOk, List};
+ghost use Rattle.std.specs.Prelude.{◌≡◌, ◌<◌, ◌≤◌, ◌+◌, true, [], ◌∷◌, IfOk, OnOk, List};
 ghost use denote.Param.Send.{IsSend, IsSync};
 ghost use Rattle.admission_core.specs.Kept.{DurableState};
 ghost use Rattle.session_book.specs.Passes.{new_pass};
 ghost use Rattle.session_book.specs.Sites.{new_passes};
+ghost use Rattle.ordered_link.specs.Rule.{link_capacity};
 ghost use Rattle.run_engine.specs.Tasks.{HasCalled};
 ghost use Rattle.run_engine.specs.Runs.{AreSiteRuns, IsClosedWith};
 
@@ -152,6 +153,15 @@ fn work_both<
     Ok(())
 }
 
+// The turns of the next round, of so many that are left.
+fn round_of(left: u64) -> u64
+    ensures room { result + 1 ≤ link_capacity }
+    ensures some { 0 < left → 0 < result }
+    ensures within { result ≤ left }
+{
+    left.min(ROUND_TURNS)
+}
+
 // Runs both links for so many turns, in rounds, each over new links. Whether memory sufficed for all of them.
 fn run_rounds<
     K: Keeper + Send,
@@ -170,7 +180,7 @@ fn run_rounds<
 ) -> bool {
     let mut begun = 0;
     'rounds: while begun < turns {
-        let round = (turns - begun).min(ROUND_TURNS);
+        let round = round_of(turns - begun);
         let ended = begun + round;
         ask_help(rt, site, &mut end.out_pass, begun, ended);
         ask_help(rt, peer, &mut peer_end.out_pass, begun, ended);

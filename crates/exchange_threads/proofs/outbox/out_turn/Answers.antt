@@ -17,14 +17,14 @@ returns-in-EndsRun-clause-told g c =
 
 pub returns-then-not-is_open-clause-told : goal.returns-then-not-is_open-clause-told
 returns-then-not-is_open-clause-told g c =
-    let shut : c.is_open.new.opened ≡ c.args.opened.now = grind (arith, c.is_open.ensures, c.if-not-is_open.true) in
+    let shut : c.is_open.new.opened ≡ c.args.opened.now = grind (arith, c.is_open.ensures.counted, c.if-not-is_open.true) in
     subst (λ (n : ℕ). HasTold (length c.args.site.now.layout.records) c.args.pass.now c.ask_help.new.pass c.args.told.now.report c.ask_help.new.told.report c.args.opened.now n GoesOn) (sym shut)
     (told_shut (length c.args.site.now.layout.records) c.args.pass.now c.ask_help.new.pass c.args.told.now.report c.ask_help.new.told.report c.args.opened.now
     (subst (λ (x : Turn). HasAsked (length c.args.site.now.layout.records) c.args.pass.now c.ask_help.new.pass c.args.told.now.report c.ask_help.new.told.report x) c.in-GoesOn.is c.ask_help.ensures.asked))
 
 pub returns-clause-told : goal.returns-clause-told
 returns-clause-told g c =
-    let is_open : c.is_open.new.opened ≡ c.args.opened.now + 1 = grind (arith, c.is_open.ensures, c.if-not-is_open.false) in
+    let is_open : c.is_open.new.opened ≡ c.args.opened.now + 1 = grind (arith, c.is_open.ensures.counted, c.if-not-is_open.false) in
     subst (λ (n : ℕ). HasTold (length c.args.site.now.layout.records) c.args.pass.now c.tell.new.pass c.args.told.now.report c.tell.new.told.report c.args.opened.now n c.tell.result) (sym is_open)
     (told_shown (length c.args.site.now.layout.records) c.args.pass.now c.ask_help.new.pass c.tell.new.pass c.args.told.now.report c.ask_help.new.told c.tell.new.told c.args.opened.now c.tell.result
     (subst (λ (x : Turn). HasAsked (length c.args.site.now.layout.records) c.args.pass.now c.ask_help.new.pass c.args.told.now.report c.ask_help.new.told.report x) c.in-GoesOn.is c.ask_help.ensures.asked)
