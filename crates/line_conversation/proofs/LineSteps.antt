@@ -1,5 +1,5 @@
 -- Reading one line, part by part.
-use Rattle.std.proofs.Common.{◌≡◌, ℕ, ◌≤◌, ◌<◌, inl, inr, Bool, true, false, List, [], ◌∷◌, ◌++◌, length, refl, sym, ap, subst, ◌∙◌, append_assoc, append-nil, arith}
+use Rattle.std.proofs.Common.{◌≡◌, ℕ, ◌+◌, ◌≤◌, ◌<◌, inl, inr, Bool, true, false, List, [], ◌∷◌, ◌++◌, length, refl, sym, ap, subst, ◌∙◌, append_assoc, append-nil, length-append, arith}
 use Rattle.std.specs.Prelude.{IsTrue, ◌↔◌, not}
 use Rattle.std.specs.Io.KnownBytes.{Consumes, IsAtEnd, Keeps}
 use Rattle.std.proofs.KnownBytes.{Consumes-kept, Consumes-trans}
@@ -15,7 +15,7 @@ use Rattle.line_conversation.specs.Begins.{nothing_lost}
 
 -- a line begins
 pub line_begins : (source : SourceState) (ahead : List ℕ) (limit : ℕ) (ended : Bool)
-    → ReadsSoFar source source ahead ahead (record { bytes = []; limit = limit; fate = fate.Kept }) ended ended
+    → ReadsSoFar source source ahead ahead (record { bytes = []; limit = limit; fate = fate.Kept }) ended ended 0
 line_begins source ahead limit ended = record {
   lost = [];
   line = [];
@@ -25,6 +25,8 @@ line_begins source ahead limit ended = record {
   holds = (refl, omega arith);
   closed = λ closed. (refl, closed);
   at_end = λ was now. was now;
+  fewer = λ going. omega arith;
+  few = omega arith;
 }
 
 -- a line that came whole is told by what became of it
@@ -41,11 +43,11 @@ never_fails fate.TooLong e = cc
 never_fails fate.NoRoom e = cc
 
 -- a line on the way
-module _ (source now : SourceState) (ahead ahead_now : List ℕ) (held : HeldState) (ended ended_now : Bool) (so_far : ReadsSoFar source now ahead ahead_now held ended ended_now) where
+module _ (source now : SourceState) (ahead ahead_now : List ℕ) (held : HeldState) (ended ended_now : Bool) (reads : ℕ) (so_far : ReadsSoFar source now ahead ahead_now held ended ended_now reads) where
   -- its LF came
-  pub line_ends : (part rest : List ℕ) (after : HeldState) (reads : ℕ) (told : Next) → ahead_now ≡ part ++ 10 ∷ rest → HasNoLf part → Takes part held after → told ≡ next_of after.fate
+  pub line_ends : (part rest : List ℕ) (after : HeldState) (told : Next) → ahead_now ≡ part ++ 10 ∷ rest → HasNoLf part → Takes part held after → told ≡ next_of after.fate
       → ReadsLine source now ahead rest after ended ended_now reads told
-  line_ends part rest after reads told split plain takes is = record {
+  line_ends part rest after told split plain takes is = record {
     lost = so_far.lost;
     consumed = so_far.consumed;
     closed = so_far.closed;
@@ -54,11 +56,12 @@ module _ (source now : SourceState) (ahead ahead_now : List ℕ) (held : HeldSta
         (cuts_by after.fate after.limit (so_far.line ++ part) (ahead ++ so_far.lost) after.bytes rest ended_now (takes so_far.line so_far.holds)
         (no_lf_behind so_far.line part so_far.plain plain, inl (so_far.split ∙ (ap (λ (xs : List ℕ). so_far.line ++ xs) split ∙ sym (append_assoc so_far.line part (10 ∷ rest))))));
     failed = λ e. absurd (never_fails after.fate (sym is ∙ e));
+    few = so_far.few;
   }
 
   -- all that was read ahead came
   pub more_came : (rest : List ℕ) (after : HeldState) → HasNoLf ahead_now → rest ≡ [] → Takes ahead_now held after
-      → ReadsSoFar source now ahead rest after ended ended_now
+      → ReadsSoFar source now ahead rest after ended ended_now reads
   more_came rest after plain none takes = record {
     lost = so_far.lost;
     line = so_far.line ++ ahead_now;
@@ -68,6 +71,8 @@ module _ (source now : SourceState) (ahead ahead_now : List ℕ) (held : HeldSta
     holds = takes so_far.line so_far.holds;
     closed = so_far.closed;
     at_end = so_far.at_end;
+    fewer = so_far.fewer;
+    few = so_far.few;
   }
 
 some_byte : (bs : List ℕ) → (bs ≡ [] → ⊥) → 0 < length bs
@@ -75,26 +80,27 @@ some_byte [] some = absurd (some refl)
 some_byte (b ∷ bs) some = omega arith
 
 -- nothing is ahead
-module _ (source now : SourceState) (ahead ahead_now : List ℕ) (held : HeldState) (ended ended_now : Bool) (so_far : ReadsSoFar source now ahead ahead_now held ended ended_now) (none : ahead_now ≡ []) where
+module _ (source now : SourceState) (ahead ahead_now : List ℕ) (held : HeldState) (ended ended_now : Bool) (reads : ℕ) (so_far : ReadsSoFar source now ahead ahead_now held ended ended_now reads) (none : ahead_now ≡ []) where
   all_came : ahead ++ so_far.lost ≡ so_far.line
   all_came = so_far.split ∙ (ap (λ (xs : List ℕ). so_far.line ++ xs) none ∙ append-nil so_far.line)
 
   -- the source had told its end, and no byte of a line came
-  pub no_line : (empty : Bool) (reads : ℕ) → ended_now ≡ true → ((line : List ℕ) → Holds line held → (IsTrue empty ↔ (line ≡ []))) → empty ≡ true
+  pub no_line : (empty : Bool) → ended_now ≡ true → ((line : List ℕ) → Holds line held → (IsTrue empty ↔ (line ≡ []))) → empty ≡ true
       → ReadsLine source now ahead ahead_now held ended ended_now reads next.End
-  no_line empty reads closed tells is = record {
+  no_line empty closed tells is = record {
     lost = so_far.lost;
     consumed = so_far.consumed;
     closed = so_far.closed;
     at_end = so_far.at_end;
     cut = (closed, all_came ∙ (tells so_far.line so_far.holds).0 is, none);
     failed = λ e. absurd (cc);
+    few = so_far.few;
   }
 
   -- or some did
-  pub last_line : (empty : Bool) (reads : ℕ) (told : Next) → ended_now ≡ true → ((line : List ℕ) → Holds line held → (IsTrue empty ↔ (line ≡ []))) → empty ≡ false → told ≡ next_of held.fate
+  pub last_line : (empty : Bool) (told : Next) → ended_now ≡ true → ((line : List ℕ) → Holds line held → (IsTrue empty ↔ (line ≡ []))) → empty ≡ false → told ≡ next_of held.fate
       → ReadsLine source now ahead ahead_now held ended ended_now reads told
-  last_line empty reads told closed tells is told_is = record {
+  last_line empty told closed tells is told_is = record {
     lost = so_far.lost;
     consumed = so_far.consumed;
     closed = so_far.closed;
@@ -103,15 +109,16 @@ module _ (source now : SourceState) (ahead ahead_now : List ℕ) (held : HeldSta
         (cuts_by held.fate held.limit so_far.line (ahead ++ so_far.lost) held.bytes ahead_now ended_now so_far.holds
         (so_far.plain, inr (closed, some_byte so_far.line some, all_came, none)));
     failed = λ e. absurd (never_fails held.fate (sym told_is ∙ e));
+    few = so_far.few;
   }
     where
       some : so_far.line ≡ [] → ⊥
       some nothing = let both : true ≡ false = sym ((tells so_far.line so_far.holds).1 nothing) ∙ is in cc
 
   -- the source is read once more
-  pub read_more : (later : SourceState) (read : List ℕ) (came ended_then : Bool) → ended_now ≡ false → Consumes now.remaining later.remaining read → (came ≡ false → IsAtEnd later.remaining) → ended_then ≡ not came
-      → ReadsSoFar source later ahead read held ended ended_then
-  read_more later read came ended_then going consumed at_end is = record {
+  pub read_more : (later : SourceState) (read : List ℕ) (came ended_then : Bool) → ended_now ≡ false → Consumes now.remaining later.remaining read → (came ≡ false → IsAtEnd later.remaining) → (came ≡ true → 0 < length read)
+      → ended_then ≡ not came → ReadsSoFar source later ahead read held ended ended_then (reads + 1)
+  read_more later read came ended_then going consumed at_end some is = record {
     lost = so_far.lost ++ read;
     line = so_far.line;
     consumed = Consumes-trans source.remaining now.remaining later.remaining so_far.lost read so_far.consumed consumed;
@@ -120,6 +127,13 @@ module _ (source now : SourceState) (ahead ahead_now : List ℕ) (held : HeldSta
     holds = so_far.holds;
     closed = λ closed. absurd (both closed);
     at_end = λ was end. at_end (not_came came (sym is ∙ end));
+    fewer = λ more.
+        let came_so : 0 < length read = some (was_there came (sym is ∙ more)) in
+        let before : reads ≤ length so_far.lost = so_far.fewer going in
+        omega (arith, came_so, before, length-append so_far.lost read);
+    few =
+        let before : reads ≤ length so_far.lost = so_far.fewer going in
+        omega (arith, before, length-append so_far.lost read);
   }
     where
       both : ended ≡ true → ⊥
@@ -129,21 +143,26 @@ module _ (source now : SourceState) (ahead ahead_now : List ℕ) (held : HeldSta
       not_came true e = absurd (cc)
       not_came false e = refl
 
+      was_there : (b : Bool) → not b ≡ false → b ≡ true
+      was_there true e = refl
+      was_there false e = absurd (cc)
+
   -- the source fails
-  pub read_fails : (later : SourceState) (left : List ℕ) (reads : ℕ) → ended_now ≡ false → Keeps now.remaining later.remaining → HasFault later.fault
+  pub read_fails : (later : SourceState) (left : List ℕ) → ended_now ≡ false → Keeps now.remaining later.remaining → HasFault later.fault
       → ReadsLine source later ahead left held ended ended_now reads next.Failed
-  read_fails later left reads going keeps fault = record {
+  read_fails later left going keeps fault = record {
     lost = so_far.lost;
     consumed = Consumes-kept source.remaining now.remaining later.remaining so_far.lost so_far.consumed keeps;
     closed = so_far.closed;
     at_end = λ was end. let clash : false ≡ true = sym going ∙ end in absurd (cc);
     cut = tt;
     failed = λ e. inl fault;
+    few = so_far.few;
   }
 
 -- no more reads are counted
 pub uncounted : (source now : SourceState) (ahead ahead_now : List ℕ) (held : HeldState) (ended ended_now : Bool) (reads : ℕ)
-    → ReadsSoFar source now ahead ahead_now held ended ended_now → 18446744073709551615 ≤ reads
+    → ReadsSoFar source now ahead ahead_now held ended ended_now reads → 18446744073709551615 ≤ reads
     → ReadsLine source now ahead ahead_now held ended ended_now reads next.Failed
 uncounted source now ahead ahead_now held ended ended_now reads so_far is = record {
   lost = so_far.lost;
@@ -152,4 +171,5 @@ uncounted source now ahead ahead_now held ended ended_now reads so_far is = reco
   at_end = so_far.at_end;
   cut = tt;
   failed = λ e. inr is;
+  few = so_far.few;
 }

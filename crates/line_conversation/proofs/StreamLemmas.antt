@@ -1,14 +1,16 @@
 -- Turns of a conversation with a reader and a writer.
-use Rattle.std.proofs.Common.{◌≡◌, ℕ, ◌<◌, ◌⊎◌, inl, inr, Bool, true, false, List, [], ◌∷◌, ◌++◌, length, refl, sym, ap, subst, ◌∙◌, append_assoc, append-nil}
+use Rattle.std.proofs.Common.{◌≡◌, ℕ, ◌+◌, ◌<◌, ◌≤◌, ◌⊎◌, inl, inr, Bool, true, false, List, [], ◌∷◌, ◌++◌, length, refl, sym, ap, subst, ◌∙◌, append_assoc, append-nil, length-append, arith}
 use Rattle.std.specs.Io.KnownBytes.{Appends, Consumes}
 use Rattle.std.specs.Prelude.{is_some}
 use Rattle.std.proofs.KnownBytes.{Appends-trans, Consumes-trans}
 use Rattle.text_input.specs.Source.{HasFault}
 use Rattle.text_input.specs.Sink.{SinkState, Writes}
+use denote.Enum.Bare.{sameb}
+use Rattle.line_conversation.specs.contracts.conversation.Next.{the_type}
 use Rattle.line_conversation.specs.declared.conversation.Next.{Next}
 use Rattle.line_conversation.specs.declared.conversation.Next.TheVariants as next
 use Rattle.line_conversation.specs.Turns.{Line, Whole, TooLong, NoRoom, Turn, Heard, Told, told_in, heard_by}
-use Rattle.line_conversation.specs.Stream.{CutsLine, Cuts, CutsTurns, HeldState, Hears, ReadsLine, StreamState, TookPlace}
+use Rattle.line_conversation.specs.Stream.{CutsLine, Cuts, CutsTurns, HeldState, Hears, MayFail, ReadsLine, StreamState, TookPlace}
 
 -- bytes that come behind what is left, where the input had not ended
 more_left : (limit : ℕ) (ended : Bool) (bytes : List ℕ) (turns : List Turn) (rest more : List ℕ) → CutsTurns limit false bytes turns rest
@@ -81,12 +83,20 @@ cut_next next.End limit ended bytes turns ahead kept rest whole before (closed, 
     (subst (λ (xs : List ℕ). CutsTurns limit ended bytes turns xs) (none ∙ sym nothing) before)
 cut_next next.Failed limit ended bytes turns ahead kept rest whole before cut = absurd (whole refl)
 
+-- a reading that is noted as failed has
+pub is_failed : (told : Next) → sameb the_type told next.Failed ≡ true → told ≡ next.Failed
+is_failed next.Line e = absurd (cc)
+is_failed next.TooLong e = absurd (cc)
+is_failed next.Memory e = absurd (cc)
+is_failed next.End e = absurd (cc)
+is_failed next.Failed e = refl
+
 -- a conversation after one more reading
 pub heard_more : (first old new : StreamState) (held : HeldState) (told : Next) → old.broken ≡ false
     → ReadsLine old.source new.source old.ahead new.ahead held old.ended new.ended new.reads told → held.limit ≡ old.limit
-    → new.kept ≡ held.bytes → new.limit ≡ held.limit → new.sink ≡ old.sink → (told ≡ next.Failed → new.broken ≡ true)
+    → new.kept ≡ held.bytes → new.limit ≡ held.limit → new.sink ≡ old.sink → (told ≡ next.Failed → new.broken ≡ true) → (new.broken ≡ true → told ≡ next.Failed)
     → (before : List Turn) → TookPlace first before old → TookPlace first (before ++ heard_by told new.kept) new
-heard_more first old new held told open_so read limit kept limit_now sink broken before was = record {
+heard_more first old new held told open_so read limit kept limit_now sink broken fails before was = record {
   lost = was.lost ++ read.lost;
   consumed = Consumes-trans first.source.remaining old.source.remaining new.source.remaining was.lost read.lost was.consumed read.consumed;
   limit = limit_now ∙ (limit ∙ was.limit);
@@ -99,7 +109,12 @@ heard_more first old new held told open_so read limit kept limit_now sink broken
       subst (λ (xs : List ℕ). Appends first.sink.contents new.sink.contents xs) (sym (told_same before told new.kept))
       (subst (λ (s : SinkState). Appends first.sink.contents s.contents (told_in before)) (sym sink)
       (was.told (sym (ap (λ (s : SinkState). s.fault) sink) ∙ whole)));
+  failed = λ first_open now_broken. why (read.failed (fails now_broken));
 }
+  where
+    why : MayFail new.source new.reads → HasFault new.source.fault ⊎ (18446744073709551615 ≤ length (was.lost ++ read.lost) + 1)
+    why (inl fault) = inl fault
+    why (inr many) = inr (omega (arith, many, read.few, length-append was.lost read.lost))
 
 -- one that had failed
 pub still_broken : (first old : StreamState) (before : List Turn) (kept : List ℕ) → TookPlace first before old → TookPlace first (before ++ heard_by next.Failed kept) old
@@ -118,6 +133,8 @@ told_text first old new text same writes before was = record {
   told = λ whole.
       subst (λ (xs : List ℕ). Appends first.sink.contents new.sink.contents xs) (sym (told_more before text))
       (Appends-trans first.sink.contents old.sink.contents new.sink.contents (told_in before) text (was.told (sym writes.kept ∙ whole)) writes.appended);
+  failed = λ first_open broken. subst (λ (s : StreamState). HasFault s.source.fault ⊎ (18446744073709551615 ≤ length was.lost + 1)) (sym same)
+      (was.failed first_open (sym (ap (λ (s : StreamState). s.broken) same) ∙ broken));
 }
 
 -- or where it failed
@@ -130,4 +147,6 @@ untold_text first old new same fault before was = record {
   heard = λ whole. subst (λ (s : StreamState). CutsTurns first.limit s.ended (first.ahead ++ was.lost) before s.ahead) (sym same)
       (was.heard (sym (ap (λ (s : StreamState). s.broken) same) ∙ whole));
   told = λ whole. let clash : false ≡ true = sym (ap is_some whole) ∙ fault in absurd (cc);
+  failed = λ first_open broken. subst (λ (s : StreamState). HasFault s.source.fault ⊎ (18446744073709551615 ≤ length was.lost + 1)) (sym same)
+      (was.failed first_open (sym (ap (λ (s : StreamState). s.broken) same) ∙ broken));
 }

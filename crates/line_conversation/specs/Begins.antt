@@ -1,5 +1,6 @@
 -- The conversation with a reader and a writer before any turn.
-use Rattle.std.proofs.Common.{ℕ, List, [], Option, Some, None, refl, sym, append-nil}
+use Rattle.std.proofs.Common.{◌≡◌, ◌∙◌, ℕ, Bool, true, false, List, [], Option, Some, None, refl, sym, subst, append-nil}
+use Rattle.std.specs.Prelude.{MatchBool}
 use Rattle.std.specs.Io.KnownBytes.{Appends, Consumes}
 use Rattle.line_conversation.specs.Stream.{StreamState, TookPlace}
 
@@ -11,6 +12,9 @@ pub nothing_written : (known : Option (List ℕ)) → Appends known known []
 nothing_written None = tt
 nothing_written (Some xs) = sym (append-nil xs)
 
+not_both : (b : Bool) → b ≡ false → b ≡ true → ⊥
+not_both b is_false is_true = subst (λ (x : Bool). MatchBool x (Unit {0}) ⊥) (sym is_true ∙ is_false) tt
+
 -- before any turn nothing took place
 pub took_nothing : (s : StreamState) → TookPlace s [] s
 took_nothing s = record {
@@ -19,4 +23,5 @@ took_nothing s = record {
   limit = refl;
   heard = λ whole. append-nil s.ahead;
   told = λ whole. nothing_written s.sink.contents;
+  failed = λ open_so broken. absurd (not_both s.broken open_so broken);
 }

@@ -1,6 +1,6 @@
 -- The conversation with a reader and a writer: what was read ahead, what is kept of a line, and how the bytes of the
 -- reader are cut into the lines that were heard.
-use Rattle.std.specs.Prelude.{◌≡◌, ℕ, ◌≤◌, ◌<◌, ◌⊎◌, Bool, true, false, List, [], ◌∷◌, ◌++◌, length, None}
+use Rattle.std.specs.Prelude.{◌≡◌, ℕ, ◌+◌, ◌≤◌, ◌<◌, ◌⊎◌, Bool, true, false, List, [], ◌∷◌, ◌++◌, length, None}
 use Rattle.std.specs.Io.KnownBytes.{Appends, Consumes, IsAtEnd}
 use Rattle.text_input.specs.Lines.{HasNoLf}
 use Rattle.text_input.specs.Source.{HasFault, SourceState}
@@ -57,7 +57,7 @@ abbrev pub MayFail : SourceState → ℕ → Type 0
 MayFail source reads = HasFault source.fault ⊎ (18446744073709551615 ≤ reads)
 
 -- One line was read: the source lost these bytes, and none once it had told its end; what was read ahead and they begin
--- with the line.
+-- with the line. Each read but the last brought a byte at least.
 pub record ReadsLine (source source_after : SourceState) (ahead ahead_after : List ℕ) (held : HeldState) (ended ended_after : Bool) (reads : ℕ) (told : Next) : Type 0 where
   pub lost : List ℕ
   pub consumed : Consumes source.remaining source_after.remaining lost
@@ -65,10 +65,11 @@ pub record ReadsLine (source source_after : SourceState) (ahead ahead_after : Li
   pub at_end : (ended ≡ true → IsAtEnd source.remaining) → ended_after ≡ true → IsAtEnd source_after.remaining
   pub cut : Cuts told ended_after (ahead ++ lost) held.bytes held.limit ahead_after
   pub failed : told ≡ next.Failed → MayFail source_after reads
+  pub few : reads ≤ length lost + 1
 
 -- A line on the way: the source lost these bytes so far, and what was read ahead and they are the parts of the line that
 -- came, and what is ahead now. For private clauses.
-pub record ReadsSoFar (source source_now : SourceState) (ahead ahead_now : List ℕ) (held : HeldState) (ended ended_now : Bool) : Type 0 where
+pub record ReadsSoFar (source source_now : SourceState) (ahead ahead_now : List ℕ) (held : HeldState) (ended ended_now : Bool) (reads : ℕ) : Type 0 where
   pub lost : List ℕ
   pub line : List ℕ
   pub consumed : Consumes source.remaining source_now.remaining lost
@@ -77,6 +78,8 @@ pub record ReadsSoFar (source source_now : SourceState) (ahead ahead_now : List 
   pub holds : Holds line held
   pub closed : ended ≡ true → (lost ≡ []) × (ended_now ≡ true)
   pub at_end : (ended ≡ true → IsAtEnd source.remaining) → ended_now ≡ true → IsAtEnd source_now.remaining
+  pub fewer : ended_now ≡ false → reads ≤ length lost
+  pub few : reads ≤ length lost + 1
 
 -- a conversation with a reader and a writer
 pub record StreamState : Type 0 where
@@ -115,13 +118,15 @@ CutsTurns limit ended bytes (Told text ∷ turns) rest = CutsTurns limit ended b
 
 -- These turns took place: the lines that were heard are those of the bytes that the reader lost, from what was read
 -- ahead on, unless a reading failed; and the texts that were told were written, one behind the other, unless the writer
--- failed.
+-- failed. Reading fails where the reader does, or where so many reads were made that they are not counted, each of which
+-- but the last took a byte.
 pub record TookPlace (first : StreamState) (turns : List Turn) (last : StreamState) : Type 0 where
   pub lost : List ℕ
   pub consumed : Consumes first.source.remaining last.source.remaining lost
   pub limit : last.limit ≡ first.limit
   pub heard : last.broken ≡ false → CutsTurns first.limit last.ended (first.ahead ++ lost) turns last.ahead
   pub told : last.sink.fault ≡ None → Appends first.sink.contents last.sink.contents (told_in turns)
+  pub failed : first.broken ≡ false → last.broken ≡ true → HasFault last.source.fault ⊎ (18446744073709551615 ≤ length lost + 1)
 
 -- no line comes any more
 pub record HasEnded (s : StreamState) : Type 0 where

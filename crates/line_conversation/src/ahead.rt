@@ -32,7 +32,7 @@ impl Model for Ahead {
 }
 
 impl Ahead {
-    ghost use Rattle.std.specs.Prelude.{◌≡◌, ◌≤◌, [], ◌∷◌, ◌++◌, ℕ, List, IfErr, IfOk, MatchBool, length, take, drop, true, false};
+    ghost use Rattle.std.specs.Prelude.{◌≡◌, ◌≤◌, [], ◌∷◌, ◌++◌, ◌<◌, ℕ, List, IfErr, IfOk, MatchBool, length, take, drop, true, false};
     ghost use Rattle.std.specs.Io.KnownBytes.{Consumes, IsAtEnd, Keeps};
     ghost use Rattle.text_input.specs.Lines.{HasNoLf};
     ghost use Rattle.text_input.specs.Source.{HasFault};
@@ -76,6 +76,7 @@ impl Ahead {
         ensures read { IfOk result (λ _. Consumes source.old.remaining source.new.remaining self.new) }
         ensures kind { IfOk result (λ _. source.new.fault ≡ source.old.fault) }
         ensures end { IfOk result (λ some. some ≡ false → IsAtEnd source.new.remaining) }
+        ensures some { IfOk result (λ some. some ≡ true → 0 < length self.new) }
         ensures failed { IfErr result (λ _. Keeps source.old.remaining source.new.remaining) }
         ensures fault { IfErr result (λ _. HasFault source.new.fault) }
         ensures none { IfErr result (λ _. self.new ≡ []) }

@@ -32,8 +32,8 @@ impl Model for Held {
 }
 
 impl Held {
-    ghost use Rattle.std.specs.Prelude.{◌≡◌, ◌↔◌, ℕ, List, [], ◌++◌, IsTrue};
-    ghost use Rattle.line_conversation.specs.declared.held.Fate.TheVariants.{Kept};
+    ghost use Rattle.std.specs.Prelude.{◌≡◌, ◌⊎◌, ◌+◌, ◌≤◌, ◌↔◌, ℕ, List, [], ◌++◌, length, IsTrue};
+    ghost use Rattle.line_conversation.specs.declared.held.Fate.TheVariants.{Kept, NoRoom};
     ghost use Rattle.line_conversation.specs.Stream.{Holds, next_of};
 
     /// No line yet, of which so many bytes will be kept. Takes no memory.
@@ -60,6 +60,7 @@ impl Held {
     pub fn keep(&mut self, part: &[u8])
         ensures limit { self.new.limit ≡ self.old.limit }
         ensures holds { (line : List ℕ) → Holds line self.old → Holds (line ++ part.now) self.new }
+        ensures room { self.new.fate ≡ NoRoom → (self.old.fate ≡ NoRoom) ⊎ (length self.old.bytes + length part.now ≤ self.old.limit) }
     {
         if part.is_empty() || self.fate != Fate::Kept {
             return;

@@ -79,7 +79,7 @@ module _ {K C L : Type 0} (g : Ghosts K) (t : TalkGhosts C) (h : LogGhosts L) (l
   ran Io there s = (there, talked_in_part s.first s.began s.ended)
   ran (NoStore refusal) there (unfit, untouched) = (there, untouched.silent)
   ran (NoLayout fault) there (is, none, same, untouched) = absurd (none there)
-  ran Memory there untouched = (there, untouched.silent)
+  ran Memory there (is_there, untouched) = (there, untouched.silent)
   ran Refused there ended = absurd ended
   ran Usage there ended = absurd ended
 

@@ -1,7 +1,11 @@
 -- How a service ends: its exit status, and what is then said on standard error (the project's own).
-use Rattle.std.specs.Prelude.{◌≡◌, ℕ, Bool, List, ◌++◌, codes, if◌then◌else◌}
+use Rattle.std.specs.Prelude.{◌≡◌, ℕ, Bool, true, false, List, ◌++◌, codes, if◌then◌else◌}
+use Rattle.sqlite.specs.declared.error.Error.{Error}
+use Rattle.sqlite.specs.declared.error.Error.TheVariants.{SqliteFailure}
+use Rattle.sqlite.specs.declared.error.ErrorCode.TheVariants.{OutOfMemory, DatabaseBusy}
 use Rattle.text_input.specs.Sink.{SinkState}
-use Rattle.exit_status.specs.declared.status.Status.TheVariants.{Fault}
+use Rattle.exit_status.specs.declared.status.Status.TheVariants.{Fault, NoStore as Refused, Memory as NoRoom}
+use Rattle.exit_status.specs.declared.store_refusal.StoreRefusal.TheVariants.{StoreFault}
 use Rattle.exit_status.specs.Endings.{Says, status_code, status_line}
 use Rattle.live_databases.specs.declared.service_end.Absence.{Absence}
 use Rattle.live_databases.specs.declared.service_end.Absence.TheVariants.{NoStore, Exists, InUse, WrongGroup}
@@ -23,6 +27,23 @@ absence_name WrongGroup = codes "WrongGroup"
 abbrev pub refused_store : OpenError → ServiceEnd
 refused_store opening.WrongGroup = Absent WrongGroup
 refused_store error = Ended (refusal_status error)
+
+-- why a database is not served that is there, or is not
+abbrev pub absence_of : Bool → Absence
+absence_of true = Exists
+absence_of false = NoStore
+
+-- how a service ends whose database could not be opened
+abbrev pub unopened_end : Error → ServiceEnd
+unopened_end (SqliteFailure OutOfMemory) = Ended NoRoom
+unopened_end (SqliteFailure DatabaseBusy) = Absent InUse
+unopened_end error = Ended (Refused StoreFault)
+
+-- the site's log could not be used, and nothing was served
+abbrev pub is_unlogged : ServiceEnd → Bool
+is_unlogged (NoLog refusal) = true
+is_unlogged Unlogged = true
+is_unlogged ended = false
 
 -- the exit status of each end
 abbrev pub service_code : ServiceEnd → ℕ

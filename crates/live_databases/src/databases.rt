@@ -1,7 +1,8 @@
 //! The database at a path, of a runtime that has some.
-ghost use Rattle.std.specs.Prelude.{◌≡◌, ◌<◌, false, IfOk, option_copied};
+ghost use Rattle.std.specs.Prelude.{◌≡◌, ◌<◌, true, false, IfOk, option_copied};
 ghost use Rattle.live_databases.specs.LiveDatabases.{EndsLive};
 ghost use Rattle.live_databases.specs.LiveStores.{IsUnserved};
+ghost use Rattle.live_databases.specs.Endings.{absence_of, is_unlogged, unopened_end};
 
 use crate::service_end::{Absence, ServiceEnd};
 use crate::serving::{serve_live_over, serve_logged_over};
@@ -66,8 +67,8 @@ impl LiveDatabases for HostRuntime {
         };
         let (ended, connection) = serve_open(self, opening, connection, layout, conversation);
         let _ = connection.close(); // what was answered is in the log, if not in the file
-        if opening.create && was_unserved(ended) {
-            let _ = fs::remove_file(self, opening.path);
+        if opening.create && is_unlogged(ended) {
+            remove_made(self, opening, ended);
         }
         ended
     }
@@ -107,8 +108,20 @@ fn serve_open<C: Conversation>(
     )
 }
 
+// Removes the store that this start made, where nothing was served for want of a log that can be used. No other store is
+// ever removed.
+fn remove_made(rt: &HostRuntime, opening: Opening<'_>, ended: ServiceEnd)
+    requires made { opening.create ≡ true }
+    requires unlogged { is_unlogged ended ≡ true }
+{
+    let _ = ended;
+    let _ = fs::remove_file(rt, opening.path);
+}
+
 // Whether nothing was served, for want of a log that can be used.
-fn was_unserved(ended: ServiceEnd) -> bool {
+fn is_unlogged(ended: ServiceEnd) -> bool
+    ensures { result ≡ is_unlogged ended }
+{
     match ended {
         ServiceEnd::NoLog(_) | ServiceEnd::Unlogged => true,
         _ => false,
@@ -124,7 +137,9 @@ fn is_there(rt: &HostRuntime, path: &str) -> bool {
 }
 
 // Why a database is not served that is there, or is not.
-fn absence(there: bool) -> Absence {
+fn absence(there: bool) -> Absence
+    ensures { result ≡ absence_of there }
+{
     if there {
         return Absence::Exists;
     }
@@ -152,7 +167,8 @@ fn open_in_time(
 
 // How a service ends whose database could not be opened.
 fn unopened(error: Error) -> ServiceEnd
-    ensures { IsUnserved result }
+    ensures unserved { IsUnserved result }
+    ensures ended { result ≡ unopened_end error }
 {
     match error {
         Error::SqliteFailure(ErrorCode::OutOfMemory) => ServiceEnd::Ended(Status::Memory),

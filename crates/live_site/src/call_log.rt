@@ -1,5 +1,5 @@
 //! Where the calls of a site are logged.
-ghost use Rattle.std.specs.Prelude.{◌≡◌, List, [], ◌∷◌, ◌++◌, true, false, OnOk, Err};
+ghost use Rattle.std.specs.Prelude.{◌≡◌, List, [], ◌∷◌, ◌++◌, true, false, OnOk, Ok, Err};
 ghost use Rattle.desk_log.specs.declared.entry.Entry.{Entry};
 ghost use Rattle.live_site.specs.Entries.{entry_of};
 ghost use Rattle.live_site.specs.declared.call_log.LogFault.TheVariants.{Memory, Failed};
@@ -53,14 +53,20 @@ impl CallLog for NoLog {
 
     ghost begins = { λ l. tt };
 
-    fn enter(&mut self, layout: &Layout, call: &Call, reply: &Reply) -> Result<(), LogFault> {
+    fn enter(&mut self, layout: &Layout, call: &Call, reply: &Reply) -> Result<(), LogFault>
+        ensures entered { result ≡ Ok tt }
+        ensures unchanged { self.new ≡ self.old }
+    {
         let _ = layout;
         let _ = call;
         let _ = reply;
         Ok(())
     }
 
-    fn take_back(&mut self) -> bool {
+    fn take_back(&mut self) -> bool
+        ensures taken { result ≡ true }
+        ensures unchanged { self.new ≡ self.old }
+    {
         true
     }
 }

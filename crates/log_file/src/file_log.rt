@@ -101,7 +101,10 @@ fn write_line(
 }
 
 impl<F: LogFile> CallLog for FileLog<F> {
-    ghost use Rattle.log_file.specs.Logged.{HasFailed, HasLogged};
+    ghost use Rattle.std.specs.Prelude.{List, [], ◌∷◌, ◌++◌, true, OnOk, Err};
+    ghost use Rattle.desk_log.specs.declared.entry.Entry.{Entry as EntryThere};
+    ghost use Rattle.live_site.specs.declared.call_log.LogFault.TheVariants.{Memory as OutOfMemory, Failed};
+    ghost use Rattle.log_file.specs.Logged.{HasFailed, HasLogged, LogState};
     ghost use Rattle.log_file.specs.NoEntry.{nothing_logged};
 
     ghost took = { λ first entries last. HasLogged F.LogFile first entries last };
@@ -111,7 +114,14 @@ impl<F: LogFile> CallLog for FileLog<F> {
     ghost begins = { λ l. nothing_logged _ l (F.begins l.file) };
 
     /// The records are named by the log's own layout, which is the site's.
-    fn enter(&mut self, layout: &Layout, call: &Call, reply: &Reply) -> Result<(), LogFault> {
+    fn enter(&mut self, layout: &Layout, call: &Call, reply: &Reply) -> Result<(), LogFault>
+        ensures entered { (first : LogState F) (before : List EntryThere) → HasLogged F.LogFile first before self.old
+            → OnOk result (HasLogged F.LogFile first (before ++ entry_of call.now reply.now ∷ []) self.new) }
+        ensures memory { (first : LogState F) (before : List EntryThere) → HasLogged F.LogFile first before self.old
+            → result ≡ Err OutOfMemory → HasLogged F.LogFile first before self.new }
+        ensures failed { result ≡ Err Failed → HasFailed F.LogFile self.new }
+        ensures stays { self.old.failed ≡ true → (result ≡ Err Failed) × (self.new ≡ self.old) }
+    {
         let _ = layout;
         if self.failed {
             return Err(LogFault::Failed);
@@ -132,7 +142,12 @@ impl<F: LogFile> CallLog for FileLog<F> {
         Ok(())
     }
 
-    fn take_back(&mut self) -> bool {
+    fn take_back(&mut self) -> bool
+        ensures taken { (first : LogState F) (before : List EntryThere) (last : EntryThere) → HasLogged F.LogFile first (before ++ last ∷ []) self.old
+            → result ≡ true → HasLogged F.LogFile first before self.new }
+        ensures failed { result ≡ false → HasFailed F.LogFile self.new }
+        ensures stays { self.old.failed ≡ true → (result ≡ false) × (self.new ≡ self.old) }
+    {
         if self.failed {
             return false;
         }
