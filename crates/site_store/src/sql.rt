@@ -1,5 +1,5 @@
 //! A keeper over an SQLite database.
-ghost use Rattle.std.specs.Prelude.{◌≡◌, ◌≢◌, ◌↔◌, ℕ, ◌<◌, ◌^◌, List, All, Err, false, string_bytes, option_map, IsTrue, IfOk, OnOk};
+ghost use Rattle.std.specs.Prelude.{◌≡◌, ◌≢◌, ◌⊎◌, ◌↔◌, ℕ, ◌+◌, ◌<◌, ◌^◌, List, length, All, Err, false, string_bytes, option_map, IsTrue, IfOk, OnOk};
 ghost use Rattle.sqlite.specs.Effect.{Database};
 ghost use Rattle.sqlite.specs.State.{HasCleanDisk};
 ghost use Rattle.sqlite.specs.Held.{state};
@@ -7,13 +7,13 @@ ghost use Rattle.sqlite.specs.declared.connection.Connection.{Connection};
 ghost use Rattle.merge_core.specs.Layout.{LayoutState};
 ghost use Rattle.store_rows.specs.Rows.{Stored};
 ghost use Rattle.store_rows.specs.Steps.{IsStorable};
-ghost use Rattle.store_tables.specs.Kept.{has_failed, connection_of};
+ghost use Rattle.store_tables.specs.Kept.{has_failed, connection_of, IsRefusalOf};
 ghost use Rattle.store_rows.specs.Holding.{Keeps, KeepsBeside, KeepsEither};
 ghost use Rattle.store_tables.specs.Transacts.{Takes};
 ghost use Rattle.store_tables.specs.declared.error.TableError.TheVariants.{BadStore, Memory as NoMemory, StoreFault as NoStore};
 ghost use Rattle.store_content.specs.Plan.{IsTellable, LacksPlace, after};
 ghost use Rattle.site_store.specs.SiteText.{named};
-ghost use Rattle.site_store.specs.Sql.{Stores, Changes, ChangesEither};
+ghost use Rattle.site_store.specs.Sql.{Stores, Changes, ChangesEither, row_count};
 ghost use Rattle.durable_keeper.specs.declared.error.KeeperError.TheVariants.{Memory, StoreFault};
 
 use crate::error::{OpenError, keeper_error};
@@ -71,6 +71,9 @@ fn put<S: Alter>(tables: &mut Tables<S>, rows: &Rows) -> Result<(), TableError>
     ensures honest { HasCleanDisk (state S.Store (connection_of tables.new)) → HasCleanDisk (state S.Store (connection_of tables.old)) }
     ensures fault { result ≡ Err NoStore → IsTrue (has_failed tables.new) }
     ensures sound { result ≢ Err NoStore → has_failed tables.new ≡ false }
+    ensures refused { has_failed tables.old ≡ false → (it : Stored) → Takes rows.now.edit it → Keeps S.Store (connection_of tables.old) it
+        → HasCleanDisk (state S.Store (connection_of tables.new)) → result ≡ Err NoStore
+        → IsRefusalOf (length rows.now.cells + length rows.now.notices + 1) tables.old tables.new }
     ensures kind { result ≢ Err BadStore }
 {
     tables.commit(&rows.cells, &rows.notices, rows.edit)
@@ -105,6 +108,9 @@ fn commit_rows<S: Alter>(
         → result ≡ Err StoreFault → ChangesEither S.Store layout site change.now it (connection_of tables.new) }
     ensures full { (layout : LayoutState) (site : List ℕ) (it : Stored) → Stores S.Store layout site (connection_of tables.old) index.old it
         → LacksPlace change.now.session it → result ≡ Err StoreFault }
+    ensures refused { (layout : LayoutState) (site : List ℕ) (it : Stored) → Stores S.Store layout site (connection_of tables.old) index.old it
+        → HasCleanDisk (state S.Store (connection_of tables.new)) → result ≡ Err StoreFault
+        → LacksPlace change.now.session it ⊎ IsRefusalOf (row_count change.now it) tables.old tables.new }
     ensures beside { (layout : LayoutState) (site : List ℕ) (it : Stored) (others : Database) → Stores S.Store layout site (connection_of tables.old) index.old it
         → KeepsBeside S.Store (connection_of tables.old) others → KeepsBeside S.Store (connection_of tables.new) others }
     ensures honest { HasCleanDisk (state S.Store (connection_of tables.new)) → HasCleanDisk (state S.Store (connection_of tables.old)) }
@@ -166,7 +172,7 @@ impl<S: Alter + Drop> Drop for SqlKeeper<S> {
 }
 
 impl<S: Alter> SqlKeeper<S> {
-    ghost use Rattle.std.specs.Prelude.{◌≡◌, ◌≢◌, [], None, Err, false, IfOk, IfErr, OnOk};
+    ghost use Rattle.std.specs.Prelude.{◌≡◌, ◌≢◌, ◌⊎◌, [], None, Err, false, IfOk, IfErr, OnOk};
     ghost use Rattle.admission_core.specs.Kept.{DurableState};
     ghost use Rattle.durable_keeper.specs.Keeping.{IsChange, changed};
     ghost use Rattle.store_rows.specs.Rows.{Stored};
@@ -174,7 +180,7 @@ impl<S: Alter> SqlKeeper<S> {
     ghost use Rattle.sqlite.specs.Effect.{Database};
     ghost use Rattle.store_content.specs.Plan.{LacksPlace, after_change};
     ghost use Rattle.durable_keeper.specs.declared.error.KeeperError.TheVariants.{Memory, StoreFault};
-    ghost use Rattle.site_store.specs.Sql.{KeepsContent, KeepsContentOr, KeepsEitherPart, KeepsPart, below, faults_of, group_of, is_honest, layout_of, site_of};
+    ghost use Rattle.site_store.specs.Sql.{KeepsContent, KeepsContentOr, KeepsEitherPart, KeepsPart, IsRefusedBelow, below, faults_of, group_of, is_honest, layout_of, row_count, site_of};
     ghost use Rattle.site_store.specs.SiteText.{named};
     ghost use Rattle.site_store.specs.Opened.{CommitsNothing, IsByDevice, IsCurrent, IsFault, IsJudgedFirst, IsKeeperOf, IsLeftEither, IsLeftOr, IsOwn, Opens, OpensBlank, Settles, SettlesOr, left_by};
 
@@ -239,6 +245,8 @@ impl<S: Alter> SqlKeeper<S> {
         ensures content { (it : Stored) → KeepsContent self.old it → OnOk result (KeepsContent self.new (after_change change.now it)) }
         ensures doubt { (it : Stored) → KeepsContent self.old it → result ≡ Err StoreFault → KeepsContentOr self.new change.now it }
         ensures full { (it : Stored) → KeepsContent self.old it → LacksPlace change.now.session it → result ≡ Err StoreFault }
+        ensures refused { faults_of self.old ≡ 0 → (it : Stored) → KeepsContent self.old it → is_honest self.new → result ≡ Err StoreFault
+            → LacksPlace change.now.session it ⊎ IsRefusedBelow (row_count change.now it) self.old self.new }
         ensures ok { (d : DurableState) → KeepsPart self.old d → OnOk result (KeepsPart self.new (changed change.now d)) }
         ensures memory { (d : DurableState) → KeepsPart self.old d → result ≡ Err Memory → KeepsPart self.new d }
         ensures fault { (d : DurableState) → KeepsPart self.old d → result ≡ Err StoreFault → KeepsEitherPart self.new d (changed change.now d) }

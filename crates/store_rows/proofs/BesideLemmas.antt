@@ -39,7 +39,7 @@ tables_spared tables tree db next all t other there =
 -- ---- no foreign key acts
 
 -- a key is not that of a tree
-IsFar : ℕ → Option ParentKey → Type 0
+unfoldable pub IsFar : ℕ → Option ParentKey → Type 0
 IsFar tree None = Unit {0}
 IsFar tree (Some key) = (key.0 == tree) ≡ false
 
@@ -74,7 +74,7 @@ found_behind more name other =
     rw (a.0, b.0, c.0, c.1) refl
 
 module _ (more : Schema) (apart : AreBehind more) (keys : Keys) (tree : ℕ) (own : tree < first_other_tree) (olds news : List Row) where
-  far_key : (ref : Reference) → is_own_name ref.parent ≡ false → IsFar tree (parent_key (behind schema_4 more).tables ref)
+  pub far_key : (ref : Reference) → is_own_name ref.parent ≡ false → IsFar tree (parent_key (behind schema_4 more).tables ref)
   far_key ref other =
       subst (λ o. IsFar tree (option_and_then (λ t. option_and_then (key_in t) (key_places t ref.parent_columns)) o)) (sym (found_behind more ref.parent other))
       (far_found tree ref (λ t. same_name t.name ref.parent) more.tables own apart.trees)

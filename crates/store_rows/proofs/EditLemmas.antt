@@ -170,7 +170,7 @@ put_all_keyed [] rows was ints = was
 put_all_keyed (n ∷ news) rows was ints = let parts = and_parts _ _ ints in put_all_keyed news (put_row n rows) (put_keyed n rows was parts.0) parts.1
 
 -- given rowids stay
-as_given : (rows all : List Row) → numbered Given rows all ≡ all
+pub as_given : (rows all : List Row) → numbered Given rows all ≡ all
 as_given rows [] = refl
 as_given rows (r ∷ all) = ap (λ (rest : List Row). r ∷ rest) (as_given (put_row r rows) all)
 
@@ -210,7 +210,7 @@ module _ (task : Task) (idle : (olds news : List Row) → works task.schema task
       (inserted id values db it.0 (alone db (Int id ∷ values)) refl refl news was it.1)
 
   -- the rows that conflict go before the new row comes
-  cleared : (new : Row) (db : Trees) (found : List Row) (one : Written) → Clears task Replace new db found (Ok one)
+  pub cleared : (new : Row) (db : Trees) (found : List Row) (one : Written) → Clears task Replace new db found (Ok one)
       → (mid : Trees) × (mid table.tree ≡ without_all (db table.tree) (ids_of found)) × SparesOthers task db mid × Puts task new mid (Ok one)
   cleared new db [] one h = (db, refl, λ t other none. refl, h)
   cleared new db (x ∷ found) one h =

@@ -56,7 +56,7 @@ pub cast_int : (n : ℤ) → cast Integer (Int n) ≡ Int n
 unfolding unary
 cast_int n = either _ (Int n)
 
-compared_parts : (null test : Bool) → is_true (cond null Null (from_truth (Some test))) ≡ true → test ≡ true
+pub compared_parts : (null test : Bool) → is_true (cond null Null (from_truth (Some test))) ≡ true → test ≡ true
 compared_parts true test h = absurd (cc)
 compared_parts false true h = refl
 compared_parts false false h = absurd (cc)
@@ -83,7 +83,7 @@ judged : (task : Task) (new : Row) (db : Trees) (one : Written) (verdict : Optio
 judged task new db one None h = h
 judged task new db one (Some why) h = absurd (let e : Ok one ≡ Err _ = h in cc)
 
-tried : (task : Task) (new : Row) (db : Trees) (one : Written) → Tries task Replace [] new db (Ok one)
+pub tried : (task : Task) (new : Row) (db : Trees) (one : Written) → Tries task Replace [] new db (Ok one)
     → (found : List Row) × AreConflicts None task.schema.indexes task.table (db task.table.tree) new found × Clears task Replace new db found (Ok one)
 tried task new db one (inl refused) = absurd (let e = refused.1 in cc)
 tried task new db one (inr h) = judged task new db one h.0 h.2
@@ -106,15 +106,19 @@ pub record IsPlainFor (task : Task) (values : Row) : Type 0 where
   pub mended : mended Replace task.table (Null ∷ values) ≡ Null ∷ values
   pub cast : (v : Value) → cast_row task.table (v ∷ values) ≡ cast Integer v ∷ values
 
-module _ (task : Task) (values : Row) (hit : Row → Bool) (fits : IsPlainFor task values)
-    (meets : (id : ℤ) (r : Row) → conflicts None task.schema.indexes task.table (Int id ∷ values) r ≡ (agree plain (0 ∷ []) r (0 ∷ []) (Int id ∷ values) || hit r)) where
+-- such a row at the rowid after the last
+module _ (task : Task) (values : Row) (fits : IsPlainFor task values) where
   open task use {table}
 
-  numbered_row : (top : ℤ) (rows : List Row) → with_rowid (rowids_for table top) rows (cast_row table (Rattle.sqlite.specs.Rows.mended Replace table (Null ∷ values))) ≡ Int (at_least Chosen (next_rowid rows)) ∷ values
+  pub numbered_row : (top : ℤ) (rows : List Row) → with_rowid (rowids_for table top) rows (cast_row table (Rattle.sqlite.specs.Rows.mended Replace table (Null ∷ values))) ≡ Int (at_least Chosen (next_rowid rows)) ∷ values
   numbered_row top rows =
       ap (λ k. with_rowid k rows (cast_row table (Rattle.sqlite.specs.Rows.mended Replace table (Null ∷ values)))) (fits.chosen top)
       ∙ ap (λ (s : Row). with_rowid Chosen rows (cast_row table s)) fits.mended
       ∙ ap (with_rowid Chosen rows) (fits.cast Null ∙ ap (λ (v : Value). v ∷ values) cast_null)
+
+module _ (task : Task) (values : Row) (hit : Row → Bool) (fits : IsPlainFor task values)
+    (meets : (id : ℤ) (r : Row) → conflicts None task.schema.indexes task.table (Int id ∷ values) r ≡ (agree plain (0 ∷ []) r (0 ∷ []) (Int id ∷ values) || hit r)) where
+  open task use {table}
 
   tried_one : (db : Trees) (one : Written) → IsKeyed (db table.tree) → Tries task Replace [] (Int (at_least Chosen (next_rowid (db table.tree))) ∷ values) db (Ok one)
       → IsPut hit values (db table.tree) (one.trees table.tree) × SparesOthers task db one.trees
@@ -129,27 +133,27 @@ module _ (task : Task) (values : Row) (hit : Row → Bool) (fits : IsPlainFor ta
       → IsPut hit values (db table.tree) (out.0.trees table.tree) × SparesOthers task db out.0.trees
   tried_each sources top db out is was h =
       let each = went (subst (λ all. TriesEach task Replace [] all top (nothing db) (Ok out)) is h) in
-      let one = tried_one db each.0 was (subst (λ (new : Row). Tries task Replace [] new db (Ok each.0)) (numbered_row top (db table.tree)) each.1) in
+      let one = tried_one db each.0 was (subst (λ (new : Row). Tries task Replace [] new db (Ok each.0)) (numbered_row task values fits top (db table.tree)) each.1) in
       let trees : each.0.trees ≡ out.0.trees = ap (λ (p : Written × ℤ). p.0.trees) (sym (same_value each.2)) in
       subst (λ (next : Trees). IsPut hit values (db table.tree) (next table.tree) × SparesOthers task db next) trees one
 
 -- ---- cells
 
-abbrev cell_terms : List Term
+abbrev pub cell_terms : List Term
 cell_terms = lit Null ∷ col 0 0 ∷ col 0 1 ∷ col 0 2 ∷ []
 
-abbrev put_cell_command : Command
+abbrev pub put_cell_command : Command
 put_cell_command = InsertOr 1 Replace (Values cell_terms 4) []
 
-put_cell_is : (more : Schema) → command_of (understood (behind schema_4 more) put_cell_text) ≡ put_cell_command
+pub put_cell_is : (more : Schema) → command_of (understood (behind schema_4 more) put_cell_text) ≡ put_cell_command
 unfolding understood everything
 put_cell_is more = refl
 
-put_cell_plain : (more : Schema) → IsPlain (understood (behind schema_4 more) put_cell_text)
+pub put_cell_plain : (more : Schema) → IsPlain (understood (behind schema_4 more) put_cell_text)
 unfolding understood everything
 put_cell_plain more = (refl, refl)
 
-cast_three : (v : Value) (a b c : ℤ) → cast_row cells_table (v ∷ Int a ∷ Int b ∷ Int c ∷ []) ≡ cast Integer v ∷ Int a ∷ Int b ∷ Int c ∷ []
+pub cast_three : (v : Value) (a b c : ℤ) → cast_row cells_table (v ∷ Int a ∷ Int b ∷ Int c ∷ []) ≡ cast Integer v ∷ Int a ∷ Int b ∷ Int c ∷ []
 cast_three v a b c = rw (cast_int a, cast_int b, cast_int c)
 
 abbrev pub cells_there : Table
@@ -181,17 +185,17 @@ puts_cell more apart old new c count has keyed h =
 
 -- ---- marks
 
-abbrev mark_terms : List Term
+abbrev pub mark_terms : List Term
 mark_terms = lit Null ∷ col 0 0 ∷ col 0 1 ∷ []
 
-abbrev put_mark_command : Command
+abbrev pub put_mark_command : Command
 put_mark_command = InsertOr 0 Replace (Values mark_terms 3) []
 
-put_mark_is : (more : Schema) → command_of (understood (behind schema_4 more) put_mark_text) ≡ put_mark_command
+pub put_mark_is : (more : Schema) → command_of (understood (behind schema_4 more) put_mark_text) ≡ put_mark_command
 unfolding understood everything
 put_mark_is more = refl
 
-put_mark_plain : (more : Schema) → IsPlain (understood (behind schema_4 more) put_mark_text)
+pub put_mark_plain : (more : Schema) → IsPlain (understood (behind schema_4 more) put_mark_text)
 unfolding understood everything
 put_mark_plain more = (refl, refl)
 
@@ -221,21 +225,21 @@ puts_mark more apart old new name value count has keyed h =
 
 -- ---- notices
 
-abbrev notice_terms : List Term
+abbrev pub notice_terms : List Term
 notice_terms = lit Null ∷ col 0 0 ∷ col 0 1 ∷ col 0 2 ∷ col 0 3 ∷ []
 
-abbrev put_notice_command : Command
+abbrev pub put_notice_command : Command
 put_notice_command = InsertOr 3 Replace (Values notice_terms 5) []
 
-put_notice_is : (more : Schema) → command_of (understood (behind schema_4 more) put_notice_text) ≡ put_notice_command
+pub put_notice_is : (more : Schema) → command_of (understood (behind schema_4 more) put_notice_text) ≡ put_notice_command
 unfolding understood everything
 put_notice_is more = refl
 
-put_notice_plain : (more : Schema) → IsPlain (understood (behind schema_4 more) put_notice_text)
+pub put_notice_plain : (more : Schema) → IsPlain (understood (behind schema_4 more) put_notice_text)
 unfolding understood everything
 put_notice_plain more = (refl, refl)
 
-cast_four : (v : Value) (a b c d : ℤ) → cast_row notices_table (v ∷ Int a ∷ Int b ∷ Int c ∷ Int d ∷ []) ≡ cast Integer v ∷ Int a ∷ Int b ∷ Int c ∷ Int d ∷ []
+pub cast_four : (v : Value) (a b c d : ℤ) → cast_row notices_table (v ∷ Int a ∷ Int b ∷ Int c ∷ Int d ∷ []) ≡ cast Integer v ∷ Int a ∷ Int b ∷ Int c ∷ Int d ∷ []
 cast_four v a b c d = rw (cast_int a, cast_int b, cast_int c, cast_int d)
 
 abbrev pub notices_there : Table

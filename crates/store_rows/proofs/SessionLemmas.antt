@@ -36,24 +36,24 @@ use Rattle.store_rows.proofs.EditLemmas.{went, same_value, IsKeyed, IsPut, IsTak
 use Rattle.store_rows.proofs.ReadLemmas.{passes, query_on, answer_has, has_answer}
 use Rattle.store_rows.proofs.PutLemmas.{cast_null, cast_int, HasPut}
 
-abbrev session_terms : List Term
+abbrev pub session_terms : List Term
 session_terms = lit Null ∷ col 0 0 ∷ col 0 1 ∷ col 0 2 ∷ col 0 3 ∷ []
 
-abbrev add_command : Command
+abbrev pub add_command : Command
 add_command = Insert 2 (Values session_terms 5)
 
-add_is : (more : Schema) → command_of (understood (behind schema_4 more) add_session_text) ≡ add_command
+pub add_is : (more : Schema) → command_of (understood (behind schema_4 more) add_session_text) ≡ add_command
 unfolding understood everything
 add_is more = refl
 
-add_plain : (more : Schema) → IsPlain (understood (behind schema_4 more) add_session_text)
+pub add_plain : (more : Schema) → IsPlain (understood (behind schema_4 more) add_session_text)
 unfolding understood everything
 add_plain more = (refl, refl)
 
 abbrev pub sessions_there : Table
 sessions_there = record sessions_table { tree = sessions_tree }
 
-cast_session : (v : Value) (a b c d : ℤ) → cast_row sessions_there (v ∷ Int a ∷ Int b ∷ Int c ∷ Int d ∷ []) ≡ cast Integer v ∷ Int a ∷ Int b ∷ Int c ∷ Int d ∷ []
+pub cast_session : (v : Value) (a b c d : ℤ) → cast_row sessions_there (v ∷ Int a ∷ Int b ∷ Int c ∷ Int d ∷ []) ≡ cast Integer v ∷ Int a ∷ Int b ∷ Int c ∷ Int d ∷ []
 cast_session v a b c d = rw (cast_int a, cast_int b, cast_int c, cast_int d)
 
 pub adds_session : (more : Schema) → AreBehind more → (old new : State) (s : StoredSession) (count : ℕ) → old.now.schema ≡ behind schema_4 more → IsKeyed (old.now.trees sessions_tree) → Executes add_session_text (session_row s) old new (Ok count)
@@ -84,17 +84,17 @@ adds_session more apart old new s count has keyed h =
     }
 
 -- the session of a holder at a record
-abbrev drop_filter : List Term
+abbrev pub drop_filter : List Term
 drop_filter = op2 (Compare Eq Binary) (col 1 1) (op1 ToNumeric (col 0 0)) ∷ op2 (Compare Eq Binary) (col 1 2) (op1 ToNumeric (col 0 1)) ∷ []
 
-abbrev drop_command : Command
+abbrev pub drop_command : Command
 drop_command = Delete 2 (record { lets = []; body = query_on 4 drop_filter (col 1 0 ∷ []) [] })
 
-drop_is : (more : Schema) → command_of (understood (behind schema_4 more) drop_session_text) ≡ drop_command
+pub drop_is : (more : Schema) → command_of (understood (behind schema_4 more) drop_session_text) ≡ drop_command
 unfolding understood everything
 drop_is more = refl
 
-drop_plain : (more : Schema) → IsPlain (understood (behind schema_4 more) drop_session_text)
+pub drop_plain : (more : Schema) → IsPlain (understood (behind schema_4 more) drop_session_text)
 unfolding understood everything
 drop_plain more = (refl, refl)
 

@@ -85,6 +85,10 @@ pub each_ok : {A E : Type 0} {P : A → Type 0} (Q : Result A E → Type 0) (r :
 each_ok Q (Ok x) h f = f x h
 each_ok Q (Err e) h f = tt
 
+pub on_each : {A E P : Type 0} (Q : Result A E → Type 0) (r : Result A E) → Q r → ((x : A) → Q (Ok x) → P) → OnOk r P
+on_each Q (Ok x) h f = f x h
+on_each Q (Err e) h f = tt
+
 some_count : (count : ℕ) → (count ≡ 0 → ⊥) → (count == 0) ≡ false
 some_count count h = grind (arith, nat_tests)
 

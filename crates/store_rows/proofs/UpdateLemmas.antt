@@ -45,7 +45,7 @@ key_passes : (a b x y : ℕ) (v : Value) (more rest : Row) → passes key_filter
 unfolding unary
 key_passes a b x y v more rest = rw (equal_whole x a, equal_whole y b) refl
 
-both_are : (a b x y : ℕ) → ((x == a) && ((y == b) && true)) ≡ true → (x ≡ a) × (y ≡ b)
+pub both_are : (a b x y : ℕ) → ((x == a) && ((y == b) && true)) ≡ true → (x ≡ a) × (y ≡ b)
 both_are a b x y h = (grind (arith, nat_tests), grind (arith, nat_tests))
 
 -- a table of a store after the row at a key was changed, if it is there
@@ -57,17 +57,17 @@ pub record HasUpdated (more : Schema) (tree : ℕ) (hit : Row → Bool) (values 
 
 -- ---- cells
 
-abbrev cell_changes : List Term
+abbrev pub cell_changes : List Term
 cell_changes = col 1 0 ∷ col 1 0 ∷ col 1 1 ∷ col 1 2 ∷ col 0 2 ∷ []
 
-abbrev update_cell_command : Command
+abbrev pub update_cell_command : Command
 update_cell_command = Update 1 (record { lets = []; body = query_on 2 key_filter cell_changes [] })
 
-update_cell_is : (more : Schema) → command_of (understood (behind schema_4 more) update_cell_text) ≡ update_cell_command
+pub update_cell_is : (more : Schema) → command_of (understood (behind schema_4 more) update_cell_text) ≡ update_cell_command
 unfolding understood everything
 update_cell_is more = refl
 
-update_cell_plain : (more : Schema) → IsPlain (understood (behind schema_4 more) update_cell_text)
+pub update_cell_plain : (more : Schema) → IsPlain (understood (behind schema_4 more) update_cell_text)
 unfolding understood everything
 update_cell_plain more = (refl, refl)
 
@@ -75,7 +75,7 @@ pub cell_passes : (c d : StoredCell) (r : Row) → drop 1 r ≡ cell_row d → p
 cell_passes c d [] e = absurd (cc)
 cell_passes c d (v ∷ r) e = rw e (key_passes c.r c.slot d.r d.slot v (Int (pos c.n) ∷ []) (Int (pos d.n) ∷ []))
 
-written_cell : (c d : StoredCell) (r : Row) → drop 1 r ≡ cell_row d → passes key_filter (cell_row c) r ≡ true
+pub written_cell : (c d : StoredCell) (r : Row) → drop 1 r ≡ cell_row d → passes key_filter (cell_row c) r ≡ true
     → drop 1 (cast_row cells_there (drop 1 (eval_all cell_changes (cell_row c ∷ r ∷ [])))) ≡ cell_row c
 written_cell c d [] e hit = absurd (cc)
 written_cell c d (v ∷ r) e hit =
@@ -120,17 +120,17 @@ updates_cell more apart old new c count has keyed cells ran =
 
 -- ---- notices
 
-abbrev notice_changes : List Term
+abbrev pub notice_changes : List Term
 notice_changes = col 1 0 ∷ col 1 0 ∷ col 1 1 ∷ col 1 2 ∷ col 0 2 ∷ col 0 3 ∷ []
 
-abbrev update_notice_command : Command
+abbrev pub update_notice_command : Command
 update_notice_command = Update 3 (record { lets = []; body = query_on 7 key_filter notice_changes [] })
 
-update_notice_is : (more : Schema) → command_of (understood (behind schema_4 more) update_notice_text) ≡ update_notice_command
+pub update_notice_is : (more : Schema) → command_of (understood (behind schema_4 more) update_notice_text) ≡ update_notice_command
 unfolding understood everything
 update_notice_is more = refl
 
-update_notice_plain : (more : Schema) → IsPlain (understood (behind schema_4 more) update_notice_text)
+pub update_notice_plain : (more : Schema) → IsPlain (understood (behind schema_4 more) update_notice_text)
 unfolding understood everything
 update_notice_plain more = (refl, refl)
 
@@ -138,7 +138,7 @@ pub notice_passes : (c d : StoredNotice) (r : Row) → drop 1 r ≡ notice_row d
 notice_passes c d [] e = absurd (cc)
 notice_passes c d (v ∷ r) e = rw e (key_passes c.r c.site d.r d.site v (Int (pos c.announced) ∷ Int (pos c.finished) ∷ []) (Int (pos d.announced) ∷ Int (pos d.finished) ∷ []))
 
-written_notice : (c d : StoredNotice) (r : Row) → drop 1 r ≡ notice_row d → passes key_filter (notice_row c) r ≡ true
+pub written_notice : (c d : StoredNotice) (r : Row) → drop 1 r ≡ notice_row d → passes key_filter (notice_row c) r ≡ true
     → drop 1 (cast_row notices_there (drop 1 (eval_all notice_changes (notice_row c ∷ r ∷ [])))) ≡ notice_row c
 written_notice c d [] e hit = absurd (cc)
 written_notice c d (v ∷ r) e hit =

@@ -1,5 +1,5 @@
 -- What the statements of a transaction do to a database.
-use Rattle.std.specs.Prelude.{◌≡◌, ℕ, ◌<◌, ◌^◌, ◌==◌, if◌then◌else◌, [], List, Option, Some, None, ⊤, IsTrue, false}
+use Rattle.std.specs.Prelude.{◌≡◌, ◌⊎◌, ℕ, ◌+◌, ◌<◌, ◌^◌, true, ◌==◌, if◌then◌else◌, [], List, Option, Some, None, ⊤, IsTrue, false}
 use Rattle.sqlite_schema.specs.declared.schema.Schema.{Schema}
 use Rattle.sqlite_catalog.specs.Change.{next_tree, KeepsRows}
 use Rattle.sqlite_rules.specs.Lists.{Has}
@@ -14,7 +14,12 @@ use Rattle.store_rows.specs.declared.content.SessionEdit.{SessionEdit}
 use Rattle.store_rows.specs.declared.content.SessionEdit.TheVariants.{Put, Dropped}
 use Rattle.store_rows.specs.Rows.{cell_before, notice_before, session_before}
 use Rattle.store_rows.specs.Sorted.{put, put_all}
-use Rattle.store_rows.specs.Changes.{without, edited}
+use Rattle.sqlite.specs.declared.error.Error.{Error}
+use Rattle.sqlite.specs.declared.error.Error.TheVariants.{SqliteFailure}
+use Rattle.sqlite.specs.declared.error.ErrorCode.TheVariants.{OutOfMemory}
+use Rattle.store_rows.specs.Changes.{is_of, without, edited}
+use Rattle.store_rows.specs.Refusals.{HasRefused}
+use Rattle.store_rows.specs.Rowids.{has_room}
 use Rattle.store_rows.specs.Holding.{Mark, Parts, HoldsParts, HasBeside, set_mark}
 
 -- statements inside a transaction change what it sees, in this way, and commit nothing
@@ -88,8 +93,25 @@ with_session s p = record p { sessions = put session_before s p.sessions }
 abbrev pub HasNoSuchPlace : StoredSession → Parts → Type 0
 HasNoSuchPlace s p = (x : StoredSession) → Has p.sessions x → (x.place == s.place) ≡ false
 
+-- no session is of the holder of this one at its record, and none has its place
+abbrev pub IsNewTo : StoredSession → Parts → Type 0
+IsNewTo s p = (x : StoredSession) → Has p.sessions x → (is_of s.r s.h x ≡ false) × ((x.place == s.place) ≡ false)
+
 -- the numbers of an edit are such as a store takes
 abbrev pub IsStorable : Option SessionEdit → Type 0
 IsStorable None = ⊤
 IsStorable (Some (Put s)) = (s.h < 2 ^ 63) × (s.place < 2 ^ 63)
 IsStorable (Some (Dropped r h)) = h < 2 ^ 63
+
+-- statements take at most so many rowids of each table
+abbrev pub Uses : ℕ → (Parts → Type 0) → Database → Database → Type 0
+Uses n Fits a b = (p : Parts) → p.tables ≡ Second → Fits p → HoldsParts p a → (k : ℕ) → has_room (n + k) a.trees ≡ true → has_room k b.trees ≡ true
+
+-- a database is no store of the second version whose parts fit and whose tables have so many rowids left
+abbrev pub IsUnfit : ℕ → (Parts → Type 0) → Database → Type 0
+IsUnfit n Fits d = (p : Parts) → p.tables ≡ Second → Fits p → HoldsParts p d → (k : ℕ) → has_room (n + k) d.trees ≡ true → ⊥
+
+-- Why statements inside a transaction are refused: the device refused a call, or the database ran out of memory, or it
+-- was no store that fits.
+abbrev pub IsStopped : ℕ → (Parts → Type 0) → State → State → Error → Type 0
+IsStopped n Fits old new e = HasRefused old new ⊎ ((e ≡ SqliteFailure OutOfMemory) ⊎ IsUnfit n Fits old.now)

@@ -1,14 +1,15 @@
 //! The statements of a transaction, one function each, and what they make of a store.
-ghost use Rattle.std.specs.Prelude.{◌≡◌, ◌<◌, ◌^◌, pos, [], ◌∷◌, All, Some, IsTrue, OnOk, IfOk};
+ghost use Rattle.std.specs.Prelude.{◌≡◌, ◌<◌, ◌^◌, pos, [], ◌∷◌, length, All, Some, Err, IsTrue, OnOk, IfOk};
 ghost use Rattle.sqlite_value.specs.declared.value.Value.TheVariants.{Int};
 ghost use Rattle.sqlite_value.specs.Value.{owned};
 ghost use Rattle.sqlite.specs.Values.{bound};
 ghost use Rattle.store_rows.specs.Rows.{cell_row, notice_row};
 ghost use Rattle.sqlite.specs.State.{HasCleanDisk, KeepsCommit, Survives};
 ghost use Rattle.sqlite.specs.Held.{state};
+ghost use Rattle.sqlite.specs.declared.error.Error.{Error as SqlError};
 ghost use Rattle.store_schema.specs.Tables.{no_schema, schema_1, schema_2, schema_3, schema_4};
 ghost use Rattle.store_rows.specs.Holding.{mark};
-ghost use Rattle.store_rows.specs.Steps.{Goes, Makes, Brings, Any, HasFreePlace, HasNoSuchPlace, IsStorable, if_changed, with_mark, with_cells, with_notices, with_drop, with_session, with_edit};
+ghost use Rattle.store_rows.specs.Steps.{Goes, Makes, Brings, Uses, IsStopped, IsNewTo, Any, HasFreePlace, HasNoSuchPlace, IsStorable, if_changed, with_mark, with_cells, with_notices, with_drop, with_session, with_edit};
 
 use crate::content::{SessionEdit, StoredCell, StoredNotice, StoredSession};
 use sqlite::types::ValueRef;
@@ -125,6 +126,10 @@ fn update_cell<S: Alter>(tx: &mut Transaction<'_, S>, cell: StoredCell) -> Resul
         → IfOk result (λ count. Goes (state S.Store tx.old.conn.now) (state S.Store tx.new.conn.now) (Brings Any (if_changed count (with_cells (cell ∷ []))))) }
     ensures kept { HasCleanDisk (state S.Store tx.new.conn.now) → IsTrue tx.old.conn.now.in_transaction
         → KeepsCommit (state S.Store tx.old.conn.now) (state S.Store tx.new.conn.now) }
+    ensures uses { HasCleanDisk (state S.Store tx.new.conn.now) → IsTrue tx.old.conn.now.in_transaction
+        → OnOk result (Uses 0 Any (state S.Store tx.old.conn.now).now (state S.Store tx.new.conn.now).now) }
+    ensures refused { HasCleanDisk (state S.Store tx.new.conn.now) → IsTrue tx.old.conn.now.in_transaction
+        → (e : SqlError) → result ≡ Err e → IsStopped 0 Any (state S.Store tx.old.conn.now) (state S.Store tx.new.conn.now) e }
     ensures survives { Survives (state S.Store tx.old.conn.now) (state S.Store tx.new.conn.now) (λ _. ⊥) }
 {
     tx.execute(
@@ -141,6 +146,10 @@ fn replace_cell<S: Alter>(tx: &mut Transaction<'_, S>, cell: StoredCell) -> Resu
         → OnOk result (Goes (state S.Store tx.old.conn.now) (state S.Store tx.new.conn.now) (Brings Any (with_cells (cell ∷ [])))) }
     ensures kept { HasCleanDisk (state S.Store tx.new.conn.now) → IsTrue tx.old.conn.now.in_transaction
         → KeepsCommit (state S.Store tx.old.conn.now) (state S.Store tx.new.conn.now) }
+    ensures uses { HasCleanDisk (state S.Store tx.new.conn.now) → IsTrue tx.old.conn.now.in_transaction
+        → OnOk result (Uses 1 Any (state S.Store tx.old.conn.now).now (state S.Store tx.new.conn.now).now) }
+    ensures refused { HasCleanDisk (state S.Store tx.new.conn.now) → IsTrue tx.old.conn.now.in_transaction
+        → (e : SqlError) → result ≡ Err e → IsStopped 1 Any (state S.Store tx.old.conn.now) (state S.Store tx.new.conn.now) e }
     ensures survives { Survives (state S.Store tx.old.conn.now) (state S.Store tx.new.conn.now) (λ _. ⊥) }
 {
     tx.execute(
@@ -158,6 +167,10 @@ fn put_cell<S: Alter>(tx: &mut Transaction<'_, S>, cell: StoredCell) -> Result<(
         → OnOk result (Goes (state S.Store tx.old.conn.now) (state S.Store tx.new.conn.now) (Brings Any (with_cells (cell ∷ [])))) }
     ensures kept { HasCleanDisk (state S.Store tx.new.conn.now) → IsTrue tx.old.conn.now.in_transaction
         → KeepsCommit (state S.Store tx.old.conn.now) (state S.Store tx.new.conn.now) }
+    ensures uses { HasCleanDisk (state S.Store tx.new.conn.now) → IsTrue tx.old.conn.now.in_transaction
+        → OnOk result (Uses 1 Any (state S.Store tx.old.conn.now).now (state S.Store tx.new.conn.now).now) }
+    ensures refused { HasCleanDisk (state S.Store tx.new.conn.now) → IsTrue tx.old.conn.now.in_transaction
+        → (e : SqlError) → result ≡ Err e → IsStopped 1 Any (state S.Store tx.old.conn.now) (state S.Store tx.new.conn.now) e }
     ensures survives { Survives (state S.Store tx.old.conn.now) (state S.Store tx.new.conn.now) (λ _. ⊥) }
 {
     let count = update_cell(tx, cell)?;
@@ -193,6 +206,10 @@ fn update_notice<S: Alter>(
         → IfOk result (λ count. Goes (state S.Store tx.old.conn.now) (state S.Store tx.new.conn.now) (Brings Any (if_changed count (with_notices (notice ∷ []))))) }
     ensures kept { HasCleanDisk (state S.Store tx.new.conn.now) → IsTrue tx.old.conn.now.in_transaction
         → KeepsCommit (state S.Store tx.old.conn.now) (state S.Store tx.new.conn.now) }
+    ensures uses { HasCleanDisk (state S.Store tx.new.conn.now) → IsTrue tx.old.conn.now.in_transaction
+        → OnOk result (Uses 0 Any (state S.Store tx.old.conn.now).now (state S.Store tx.new.conn.now).now) }
+    ensures refused { HasCleanDisk (state S.Store tx.new.conn.now) → IsTrue tx.old.conn.now.in_transaction
+        → (e : SqlError) → result ≡ Err e → IsStopped 0 Any (state S.Store tx.old.conn.now) (state S.Store tx.new.conn.now) e }
     ensures survives { Survives (state S.Store tx.old.conn.now) (state S.Store tx.new.conn.now) (λ _. ⊥) }
 {
     tx.execute(
@@ -210,6 +227,10 @@ fn replace_notice<S: Alter>(tx: &mut Transaction<'_, S>, notice: StoredNotice) -
         → OnOk result (Goes (state S.Store tx.old.conn.now) (state S.Store tx.new.conn.now) (Brings Any (with_notices (notice ∷ [])))) }
     ensures kept { HasCleanDisk (state S.Store tx.new.conn.now) → IsTrue tx.old.conn.now.in_transaction
         → KeepsCommit (state S.Store tx.old.conn.now) (state S.Store tx.new.conn.now) }
+    ensures uses { HasCleanDisk (state S.Store tx.new.conn.now) → IsTrue tx.old.conn.now.in_transaction
+        → OnOk result (Uses 1 Any (state S.Store tx.old.conn.now).now (state S.Store tx.new.conn.now).now) }
+    ensures refused { HasCleanDisk (state S.Store tx.new.conn.now) → IsTrue tx.old.conn.now.in_transaction
+        → (e : SqlError) → result ≡ Err e → IsStopped 1 Any (state S.Store tx.old.conn.now) (state S.Store tx.new.conn.now) e }
     ensures survives { Survives (state S.Store tx.old.conn.now) (state S.Store tx.new.conn.now) (λ _. ⊥) }
 {
     tx.execute(
@@ -228,6 +249,10 @@ fn put_notice<S: Alter>(tx: &mut Transaction<'_, S>, notice: StoredNotice) -> Re
         → OnOk result (Goes (state S.Store tx.old.conn.now) (state S.Store tx.new.conn.now) (Brings Any (with_notices (notice ∷ [])))) }
     ensures kept { HasCleanDisk (state S.Store tx.new.conn.now) → IsTrue tx.old.conn.now.in_transaction
         → KeepsCommit (state S.Store tx.old.conn.now) (state S.Store tx.new.conn.now) }
+    ensures uses { HasCleanDisk (state S.Store tx.new.conn.now) → IsTrue tx.old.conn.now.in_transaction
+        → OnOk result (Uses 1 Any (state S.Store tx.old.conn.now).now (state S.Store tx.new.conn.now).now) }
+    ensures refused { HasCleanDisk (state S.Store tx.new.conn.now) → IsTrue tx.old.conn.now.in_transaction
+        → (e : SqlError) → result ≡ Err e → IsStopped 1 Any (state S.Store tx.old.conn.now) (state S.Store tx.new.conn.now) e }
     ensures survives { Survives (state S.Store tx.old.conn.now) (state S.Store tx.new.conn.now) (λ _. ⊥) }
 {
     let count = update_notice(tx, notice)?;
@@ -246,6 +271,10 @@ fn add_session<S: Alter>(tx: &mut Transaction<'_, S>, session: StoredSession) ->
         → OnOk result (Goes (state S.Store tx.old.conn.now) (state S.Store tx.new.conn.now) (Brings (HasNoSuchPlace session) (with_session session))) }
     ensures kept { HasCleanDisk (state S.Store tx.new.conn.now) → IsTrue tx.old.conn.now.in_transaction
         → KeepsCommit (state S.Store tx.old.conn.now) (state S.Store tx.new.conn.now) }
+    ensures uses { HasCleanDisk (state S.Store tx.new.conn.now) → IsTrue tx.old.conn.now.in_transaction
+        → OnOk result (Uses 1 Any (state S.Store tx.old.conn.now).now (state S.Store tx.new.conn.now).now) }
+    ensures refused { HasCleanDisk (state S.Store tx.new.conn.now) → IsTrue tx.old.conn.now.in_transaction
+        → (e : SqlError) → result ≡ Err e → IsStopped 1 (IsNewTo session) (state S.Store tx.old.conn.now) (state S.Store tx.new.conn.now) e }
     ensures survives { Survives (state S.Store tx.old.conn.now) (state S.Store tx.new.conn.now) (λ _. ⊥) }
 {
     tx.execute(
@@ -268,6 +297,10 @@ fn drop_session<S: Alter>(tx: &mut Transaction<'_, S>, r: u16, h: u64) -> Result
         → OnOk result (Goes (state S.Store tx.old.conn.now) (state S.Store tx.new.conn.now) (Brings Any (with_drop r h))) }
     ensures kept { HasCleanDisk (state S.Store tx.new.conn.now) → IsTrue tx.old.conn.now.in_transaction
         → KeepsCommit (state S.Store tx.old.conn.now) (state S.Store tx.new.conn.now) }
+    ensures uses { HasCleanDisk (state S.Store tx.new.conn.now) → IsTrue tx.old.conn.now.in_transaction
+        → OnOk result (Uses 0 Any (state S.Store tx.old.conn.now).now (state S.Store tx.new.conn.now).now) }
+    ensures refused { HasCleanDisk (state S.Store tx.new.conn.now) → IsTrue tx.old.conn.now.in_transaction
+        → (e : SqlError) → result ≡ Err e → IsStopped 0 Any (state S.Store tx.old.conn.now) (state S.Store tx.new.conn.now) e }
     ensures survives { Survives (state S.Store tx.old.conn.now) (state S.Store tx.new.conn.now) (λ _. ⊥) }
 {
     tx.execute(
@@ -287,6 +320,10 @@ fn put_session<S: Alter>(tx: &mut Transaction<'_, S>, session: StoredSession) ->
         (Brings (λ p. HasFreePlace (Some (SessionEdit.Put session)) p.sessions) (with_edit (Some (SessionEdit.Put session))))) }
     ensures kept { HasCleanDisk (state S.Store tx.new.conn.now) → IsTrue tx.old.conn.now.in_transaction
         → KeepsCommit (state S.Store tx.old.conn.now) (state S.Store tx.new.conn.now) }
+    ensures uses { HasCleanDisk (state S.Store tx.new.conn.now) → IsTrue tx.old.conn.now.in_transaction
+        → OnOk result (Uses 1 Any (state S.Store tx.old.conn.now).now (state S.Store tx.new.conn.now).now) }
+    ensures refused { HasCleanDisk (state S.Store tx.new.conn.now) → IsTrue tx.old.conn.now.in_transaction
+        → (e : SqlError) → result ≡ Err e → IsStopped 1 (λ p. HasFreePlace (Some (SessionEdit.Put session)) p.sessions) (state S.Store tx.old.conn.now) (state S.Store tx.new.conn.now) e }
     ensures survives { Survives (state S.Store tx.old.conn.now) (state S.Store tx.new.conn.now) (λ _. ⊥) }
 {
     drop_session(tx, session.r, session.h)?;
@@ -301,6 +338,10 @@ pub fn put_cells<S: Alter>(tx: &mut Transaction<'_, S>, cells: &[StoredCell]) ->
         → OnOk result (Goes (state S.Store tx.old.conn.now) (state S.Store tx.new.conn.now) (Brings Any (with_cells cells.now))) }
     ensures kept { HasCleanDisk (state S.Store tx.new.conn.now) → IsTrue tx.old.conn.now.in_transaction
         → KeepsCommit (state S.Store tx.old.conn.now) (state S.Store tx.new.conn.now) }
+    ensures uses { HasCleanDisk (state S.Store tx.new.conn.now) → IsTrue tx.old.conn.now.in_transaction
+        → OnOk result (Uses (length cells.now) Any (state S.Store tx.old.conn.now).now (state S.Store tx.new.conn.now).now) }
+    ensures refused { HasCleanDisk (state S.Store tx.new.conn.now) → IsTrue tx.old.conn.now.in_transaction
+        → (e : SqlError) → result ≡ Err e → IsStopped (length cells.now) Any (state S.Store tx.old.conn.now) (state S.Store tx.new.conn.now) e }
     ensures survives { Survives (state S.Store tx.old.conn.now) (state S.Store tx.new.conn.now) (λ _. ⊥) }
 {
     for cell in cells {
@@ -320,6 +361,10 @@ pub fn put_notices<S: Alter>(
         → OnOk result (Goes (state S.Store tx.old.conn.now) (state S.Store tx.new.conn.now) (Brings Any (with_notices notices.now))) }
     ensures kept { HasCleanDisk (state S.Store tx.new.conn.now) → IsTrue tx.old.conn.now.in_transaction
         → KeepsCommit (state S.Store tx.old.conn.now) (state S.Store tx.new.conn.now) }
+    ensures uses { HasCleanDisk (state S.Store tx.new.conn.now) → IsTrue tx.old.conn.now.in_transaction
+        → OnOk result (Uses (length notices.now) Any (state S.Store tx.old.conn.now).now (state S.Store tx.new.conn.now).now) }
+    ensures refused { HasCleanDisk (state S.Store tx.new.conn.now) → IsTrue tx.old.conn.now.in_transaction
+        → (e : SqlError) → result ≡ Err e → IsStopped (length notices.now) Any (state S.Store tx.old.conn.now) (state S.Store tx.new.conn.now) e }
     ensures survives { Survives (state S.Store tx.old.conn.now) (state S.Store tx.new.conn.now) (λ _. ⊥) }
 {
     for notice in notices {
@@ -339,6 +384,10 @@ pub fn edit_session<S: Alter>(
         → OnOk result (Goes (state S.Store tx.old.conn.now) (state S.Store tx.new.conn.now) (Brings (λ p. HasFreePlace edit p.sessions) (with_edit edit))) }
     ensures kept { HasCleanDisk (state S.Store tx.new.conn.now) → IsTrue tx.old.conn.now.in_transaction
         → KeepsCommit (state S.Store tx.old.conn.now) (state S.Store tx.new.conn.now) }
+    ensures uses { HasCleanDisk (state S.Store tx.new.conn.now) → IsTrue tx.old.conn.now.in_transaction
+        → OnOk result (Uses 1 Any (state S.Store tx.old.conn.now).now (state S.Store tx.new.conn.now).now) }
+    ensures refused { HasCleanDisk (state S.Store tx.new.conn.now) → IsTrue tx.old.conn.now.in_transaction
+        → (e : SqlError) → result ≡ Err e → IsStopped 1 (λ p. HasFreePlace edit p.sessions) (state S.Store tx.old.conn.now) (state S.Store tx.new.conn.now) e }
     ensures survives { Survives (state S.Store tx.old.conn.now) (state S.Store tx.new.conn.now) (λ _. ⊥) }
 {
     match edit {

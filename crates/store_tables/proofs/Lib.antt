@@ -5,4 +5,5 @@ pub mod OwnLemmas
 pub mod RefusalLemmas
 pub mod RestartLemmas
 pub mod RiseLemmas
+pub mod StopLemmas
 pub mod TransactLemmas

@@ -31,32 +31,16 @@ use Rattle.sqlite.specs.Clock.{timed}
 use Rattle.sqlite.proofs.Callers.{IsPlain, command_of}
 use Rattle.store_rows.proofs.ReadLemmas.{query_on, shown_same}
 use Rattle.store_rows.proofs.SelectLemmas.{reads}
+pub use Rattle.store_rows.proofs.ChainLemmas.{refused_until, refused_since}
 use Rattle.store_rows.proofs.RefusalLemmas.{IsBare, IsWhole}
 use Rattle.store_tables.specs.declared.reads.Unread.{Unread}
 use Rattle.store_tables.specs.declared.reads.Unread.TheVariants.{Memory, Failed}
 use Rattle.store_tables.specs.Refusals.{HasRefused, HasLackedMemory}
 
--- ---- between more moments
-
-pub refused_until : (a b c : State) → HasRefused a b → b.faults ≤ c.faults → HasRefused a c
-refused_until a b c (inl more) later = inl (omega (arith, more, later))
-refused_until a b c (inr why) later = inr why
-
-pub refused_since : (a b c : State) → Survives a b (λ _. ⊥) → HasCleanDisk b → b.faults ≤ c.faults → HasRefused b c → HasRefused a c
-refused_since a b c one clean later (inl more) = inl (omega (arith, more, one.counts))
-refused_since a b c one clean later (inr (inr limit)) = inr (inr (subst (λ (l : Option ℕ). IsSome l) one.limit limit))
-refused_since a b c one clean later (inr (inl shut)) = elim (cases_Bool a.is_open) [
-  | inl up ↦ elim (one.closes clean up) [
-    | inl still ↦ absurd (both_ways _ shut still)
-    | inr more ↦ inl (omega (arith, more, later))
-  ]
-  | inr down ↦ inr (inl down)
-]
-
 -- ---- one call
 
 -- a call that failed was refused, or the database had no memory for it
-fails_either : (old new : State) (e : Error) → Fails old new ⊥ e → HasRefused old new ⊎ ((e ≡ SqliteFailure OutOfMemory) × HasLackedMemory old new)
+pub fails_either : (old new : State) (e : Error) → Fails old new ⊥ e → HasRefused old new ⊎ ((e ≡ SqliteFailure OutOfMemory) × HasLackedMemory old new)
 fails_either old new e h = by h.0 h.1 h.2
   where
     by : (cause : StoreError) → e ≡ Rattle.sqlite.specs.State.store_error cause → Rattle.sqlite.specs.State.HasCause old new ⊥ cause → HasRefused old new ⊎ ((e ≡ SqliteFailure OutOfMemory) × HasLackedMemory old new)

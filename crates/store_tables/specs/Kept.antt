@@ -1,5 +1,5 @@
 -- What a store over a connection keeps.
-use Rattle.std.specs.Prelude.{◌≡◌, Bool, Option, None, Some}
+use Rattle.std.specs.Prelude.{◌≡◌, ◌⊎◌, ℕ, Bool, false, Option, None, Some}
 use Rattle.sqlite_trees.specs.declared.store.Store.{Ghosts}
 use Rattle.sqlite.specs.Effect.{Database}
 use Rattle.sqlite.specs.State.{HasCleanDisk, Survives}
@@ -9,7 +9,8 @@ use Rattle.store_schema.specs.Tables.{no_schema}
 use Rattle.store_rows.specs.Rows.{Stored}
 use Rattle.store_rows.specs.Holding.{Keeps, KeepsBeside, KeepsEither, KeepsNothing, KeepsNothingOr}
 use Rattle.store_tables.specs.Reads.{KeepsAny}
-use Rattle.store_tables.specs.Refusals.{HasRefused}
+use Rattle.store_rows.specs.Rowids.{has_room}
+use Rattle.store_tables.specs.Refusals.{HasRefused, HasLackedTwice}
 use Rattle.store_tables.specs.declared.tables.Tables.{Tables}
 
 module _ {S : Type 0} {g : Ghosts S} where
@@ -60,6 +61,16 @@ module _ {S : Type 0} {g : Ghosts S} where
   -- the device refused a call, or the connection was shut, or its queries may take only so many steps
   abbrev pub IsRefusal : Tables S g → Tables S g → Type 0
   IsRefusal old new = HasRefused (state g old.conn) (state g new.conn)
+
+  -- the tables have no so many rowids left, since each new row has the rowid after the last
+  abbrev pub LacksRowids : ℕ → Tables S g → Type 0
+  LacksRowids n t = has_room n (state g t.conn).now.trees ≡ false
+
+  -- Why a change of so many rows is refused: the device refused a call, or the connection was shut, or its queries may
+  -- take only so many steps; or the database ran out of memory at the commit, and again in the call after it; or the
+  -- rowids are used up.
+  abbrev pub IsRefusalOf : ℕ → Tables S g → Tables S g → Type 0
+  IsRefusalOf n old new = IsRefusal old new ⊎ (HasLackedTwice g old.conn new.conn ⊎ LacksRowids n old)
 
   -- the device has given back what was written so far
   abbrev pub IsHonest : Tables S g → Type 0

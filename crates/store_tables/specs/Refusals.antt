@@ -1,15 +1,11 @@
--- Why a call that only reads is refused.
-use Rattle.std.specs.Prelude.{◌≡◌, ◌⊎◌, false, IsSome}
-use Rattle.sqlite_disk.specs.Disk.{MoreFaults}
-use Rattle.sqlite.specs.State.{State, Fails}
-use Rattle.sqlite.specs.declared.error.Error.TheVariants.{SqliteFailure}
-use Rattle.sqlite.specs.declared.error.ErrorCode.TheVariants.{OutOfMemory}
+-- Why a call is refused.
+use Rattle.std.specs.Prelude.{ℕ, ◌≤◌, IsTrue}
+use Rattle.sqlite_trees.specs.declared.store.Store.{Ghosts}
+use Rattle.sqlite.specs.Held.{Held, state}
+pub use Rattle.store_rows.specs.Refusals.{HasRefused, HasLackedMemory}
 
--- Between two moments the device has failed or refused a call; or the connection was shut at the first of them, or its
--- queries may take only so many steps.
-abbrev pub HasRefused : State → State → Type 0
-HasRefused old new = MoreFaults old.faults new.faults ⊎ ((old.is_open ≡ false) ⊎ IsSome old.step_limit)
-
--- Between two moments the database ran out of memory in a call, and rolled back.
-abbrev pub HasLackedMemory : State → State → Type 0
-HasLackedMemory old new = Fails old new ⊥ (SqliteFailure OutOfMemory)
+-- Between two moments the database ran out of memory at the commit of a transaction, and again in the call that was to
+-- tell whether the connection is open still.
+abbrev pub HasLackedTwice : {S : Type 0} (g : Ghosts S) → Held S → Held S → Type 0
+HasLackedTwice {S} g old new =
+    (a : Held S) × (b : Held S) × ((state g old).faults ≤ (state g a).faults) × IsTrue a.in_transaction × HasLackedMemory (state g a) (state g b) × HasLackedMemory (state g b) (state g new)

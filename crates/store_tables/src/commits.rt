@@ -1,15 +1,17 @@
 //! One change of a store, as one transaction.
-ghost use Rattle.std.specs.Prelude.{◌≡◌, ◌≢◌, ◌⊎◌, ◌↔◌, ◌<◌, ◌^◌, false, All, Err, IsTrue, OnOk};
+ghost use Rattle.std.specs.Prelude.{◌≡◌, ◌≢◌, ◌⊎◌, ◌↔◌, ◌+◌, ◌<◌, ◌^◌, true, false, length, All, Err, IsTrue, OnOk};
 ghost use Rattle.sqlite.specs.State.{HasCleanDisk, IsUnchanged, KeepsCommit, Survives};
 ghost use Rattle.sqlite.specs.Held.{state};
 ghost use Rattle.sqlite.specs.declared.error.Error.{Error as SqlError};
 ghost use Rattle.sqlite.specs.declared.error.Error.TheVariants.{MultipleStatement, SqliteFailure};
 ghost use Rattle.sqlite.specs.declared.error.ErrorCode.TheVariants.{OutOfMemory};
 ghost use Rattle.store_rows.specs.Changes.{changed};
-ghost use Rattle.store_rows.specs.Steps.{Goes, Brings, HasFreePlace, IsStorable, with_cells, with_notices, with_edit};
+ghost use Rattle.store_rows.specs.Holding.{IsStoreOf};
+ghost use Rattle.store_rows.specs.Rowids.{has_room};
+ghost use Rattle.store_rows.specs.Steps.{Goes, Brings, IsStopped, HasFreePlace, IsStorable, with_cells, with_notices, with_edit};
 ghost use Rattle.store_tables.specs.declared.error.TableError.TheVariants.{BadStore, Memory, StoreFault};
 ghost use Rattle.store_tables.specs.Transacts.{HasCommitted, MayCommit, Turns, Takes};
-ghost use Rattle.store_tables.specs.Refusals.{HasRefused, HasLackedMemory};
+ghost use Rattle.store_tables.specs.Refusals.{HasRefused, HasLackedMemory, HasLackedTwice};
 
 use crate::error::{TableError, is_memory};
 use sqlite::{Alter, Connection, Error, Transaction};
@@ -35,6 +37,9 @@ pub(crate) fn check_open<S: Alter>(tx: &mut Transaction<'_, S>) -> Result<(), Er
     ensures kept { HasCleanDisk (state S.Store tx.new.conn.now) → KeepsCommit (state S.Store tx.old.conn.now) (state S.Store tx.new.conn.now) }
     ensures refused { HasCleanDisk (state S.Store tx.new.conn.now) → (e : SqlError) → result ≡ Err e → e ≢ SqliteFailure OutOfMemory
         → HasRefused (state S.Store tx.old.conn.now) (state S.Store tx.new.conn.now) }
+    ensures either { HasCleanDisk (state S.Store tx.new.conn.now) → (e : SqlError) → result ≡ Err e
+        → HasRefused (state S.Store tx.old.conn.now) (state S.Store tx.new.conn.now)
+        ⊎ ((e ≡ SqliteFailure OutOfMemory) × HasLackedMemory (state S.Store tx.old.conn.now) (state S.Store tx.new.conn.now)) }
     ensures survives { Survives (state S.Store tx.old.conn.now) (state S.Store tx.new.conn.now) (λ _. ⊥) }
 {
     let Err(error) = tx.prepare(TWO_STATEMENTS) else {
@@ -102,6 +107,8 @@ fn change<S: Alter>(
         (Brings (λ p. HasFreePlace edit p.sessions) (λ p. with_edit edit (with_notices notices.now (with_cells cells.now p))))) }
     ensures kept { HasCleanDisk (state S.Store tx.new.conn.now) → IsTrue tx.old.conn.now.in_transaction
         → KeepsCommit (state S.Store tx.old.conn.now) (state S.Store tx.new.conn.now) }
+    ensures refused { HasCleanDisk (state S.Store tx.new.conn.now) → IsTrue tx.old.conn.now.in_transaction → (e : SqlError) → result ≡ Err e
+        → IsStopped (length cells.now + length notices.now + 1) (λ p. HasFreePlace edit p.sessions) (state S.Store tx.old.conn.now) (state S.Store tx.new.conn.now) e }
     ensures opened { HasCleanDisk (state S.Store tx.new.conn.now) → OnOk result (IsTrue (state S.Store tx.old.conn.now).is_open) }
     ensures survives { Survives (state S.Store tx.old.conn.now) (state S.Store tx.new.conn.now) (λ _. ⊥) }
 {
@@ -127,6 +134,9 @@ pub(crate) fn write<S: Alter>(
     ensures done { HasCleanDisk (state S.Store conn.new)
         → OnOk result (HasCommitted (state S.Store conn.old) (state S.Store conn.new) (Turns (Takes edit) (changed cells.now notices.now edit))) }
     ensures kind { result ≢ Err BadStore }
+    ensures fault { HasCleanDisk (state S.Store conn.new) → result ≡ Err StoreFault
+        → HasRefused (state S.Store conn.old) (state S.Store conn.new) ⊎ (HasLackedTwice S.Store conn.old conn.new
+        ⊎ ((it : _) → Takes edit it → IsStoreOf (state S.Store conn.old).now it → has_room (length cells.now + length notices.now + 1) (state S.Store conn.old).now.trees ≡ true → ⊥)) }
     ensures undone { result ≡ Err Memory → Survives (state S.Store conn.old) (state S.Store conn.new) (λ _. ⊥) }
     ensures survives { Survives (state S.Store conn.old) (state S.Store conn.new)
         (MayCommit (state S.Store conn.old) (Turns (Takes edit) (changed cells.now notices.now edit))) }

@@ -23,7 +23,7 @@ impl<S: Alter + Drop> Drop for Tables<S> {
 }
 
 impl<S: Alter> Tables<S> {
-    ghost use Rattle.std.specs.Prelude.{◌≡◌, ◌≢◌, ◌⊎◌, ◌<◌, ◌^◌, ⊤, [], None, Ok, Err, false, All, Some, IsTrue, IfOk, OnOk, if◌then◌else◌};
+    ghost use Rattle.std.specs.Prelude.{◌≡◌, ◌≢◌, ◌⊎◌, ◌+◌, ◌<◌, ◌^◌, ⊤, [], None, Ok, Err, false, length, All, Some, IsTrue, IfOk, OnOk, if◌then◌else◌};
     ghost use Rattle.store_rows.specs.Changes.{changed, renewed};
     ghost use Rattle.store_rows.specs.Steps.{IsStorable};
     ghost use Rattle.store_schema.specs.Tables.{IsSchemaOf};
@@ -31,7 +31,7 @@ impl<S: Alter> Tables<S> {
     ghost use Rattle.store_schema.specs.declared.Found.TheVariants.{Blank, Store, Other};
     ghost use Rattle.store_tables.specs.Transacts.{Takes, made};
     ghost use Rattle.store_tables.specs.Reads.{IsInRange};
-    ghost use Rattle.store_tables.specs.Kept.{has_failed, connection_of, schema_of, IsBlank, IsHonest, KeepsStore, KeepsOneOf, KeepsBlank, KeepsBlankOr, KeepsOthers, KeepsSome, CommitsNothing, IsRefusal, Settles, SettlesBlank};
+    ghost use Rattle.store_tables.specs.Kept.{has_failed, connection_of, schema_of, IsBlank, IsHonest, KeepsStore, KeepsOneOf, KeepsBlank, KeepsBlankOr, KeepsOthers, KeepsSome, CommitsNothing, IsRefusal, IsRefusalOf, Settles, SettlesBlank};
     ghost use Rattle.store_tables.specs.declared.error.TableError.TheVariants.{BadStore, Memory, StoreFault};
 
     /// The tables of a database, of which the caller shows that no transaction is open. Calls no store.
@@ -129,6 +129,8 @@ impl<S: Alter> Tables<S> {
         ensures sound { result ≢ Err StoreFault → has_failed self.new ≡ false }
         ensures kind { result ≢ Err BadStore }
         ensures stopped { IsTrue (has_failed self.old) → (result ≡ Err StoreFault) × (self.new ≡ self.old) }
+        ensures refused { has_failed self.old ≡ false → (it : _) → Takes edit it → KeepsStore self.old it → IsHonest self.new → result ≡ Err StoreFault
+            → IsRefusalOf (length cells.now + length notices.now + 1) self.old self.new }
         ensures nothing { cells.now ≡ [] → notices.now ≡ [] → edit ≡ None → self.new ≡ self.old }
     {
         if self.failed {

@@ -1,4 +1,4 @@
-use Rattle.std.proofs.Common.{inl, ap, sym, subst, ◌∙◌}
+use Rattle.std.proofs.Common.{inl, ap, sym, subst, ◌∙◌, arith}
 use Rattle.store_rows.specs.Holding.{HoldsBeside}
 use Rattle.admission_core.specs.Kept.{DurableState}
 use Rattle.store_tables.specs.Kept.{connection_of}
@@ -93,3 +93,13 @@ returns-clause-beside g c d others keeps beside =
     let k = c.args.self.now in
     if_honest g.S.Store (connection_of c.commit_rows.new.tables) (HoldsBeside others)
     (λ clean. let found = keeps (c.commit_rows.ensures.honest clean) in c.commit_rows.ensures.beside k.layout (row_of k) found.0 others found.1.0 beside)
+
+-- ---- why it is refused
+
+pub returns-clause-refused : goal.returns-clause-refused
+returns-clause-refused g c none it keeps clean fault =
+    let k = c.args.self.now in
+    c.commit_rows.ensures.refused k.layout (row_of k) it keeps clean fault
+
+pub returns-then-faults-gt0-clause-refused : goal.returns-then-faults-gt0-clause-refused
+returns-then-faults-gt0-clause-refused g c none it keeps clean fault = absurd (omega (arith, c.faults.ensures, c.if-faults-gt0.true, none))
