@@ -22,7 +22,7 @@ awk '
             "admission_model script_text admission_core multi_site_world audit_report text_input world_script durable_keeper " \
             "store_schema store_rows store_tables layout_line store_content site_store desk_log session_book site_script " \
             "test_streams layout_file command_arguments exit_status join_engine play_engine site_engine stored_site " \
-            "site_databases program_shell seat_cli book_tests site_tests serving_tests session_tests store_tests", names, " ")
+            "program_shell seat_cli book_tests site_tests serving_tests session_tests store_tests", names, " ")
         for (i = 1; i <= n; i++) first[names[i]] = 1
         n = split("exchange_threads exchange_tests ordered_link exchange_tests ruled_pair exchange_tests test_keepers exchange_tests " \
             "log_replay judge_tests log_judge judge_tests transcript_text transcript_tests transcript_reader transcript_tests judge_engine run_tests " \

@@ -21,8 +21,8 @@ pub ends_script : (layout : LayoutState) (first : Option ℕ) (tables : Bool) (s
     → EndsPlay layout first tables source source_after sink sink_after status
 ends_script layout first tables source source_after sink sink_after bytes Done may read answers = (may, (bytes, read, answers))
 ends_script layout first tables source source_after sink sink_after bytes Refused may read answers = (may, inl (bytes, read, answers))
-ends_script layout first tables source source_after sink sink_after bytes Memory may read answers = (loses_some source source_after bytes read.0, inl read.2, answers)
-ends_script layout first tables source source_after sink sink_after bytes Io may read answers = (loses_some source source_after bytes read.0, inr answers)
+ends_script layout first tables source source_after sink sink_after bytes Memory may read answers = (may, loses_some source source_after bytes read.0, inl read.2, answers)
+ends_script layout first tables source source_after sink sink_after bytes Io may read answers = (may, loses_some source source_after bytes read.0, inr answers)
 ends_script layout first tables source source_after sink sink_after bytes Usage may read answers = absurd answers
 ends_script layout first tables source source_after sink sink_after bytes (NoLayout fault) may read answers = absurd answers
 ends_script layout first tables source source_after sink sink_after bytes (NoStore refusal) may read answers = absurd answers

@@ -61,8 +61,9 @@ AnswersScript m records tables bytes old new Fault = ⊥
 
 -- The whole engine: the first sites have a layout, the bytes read are all that the source had, within the limit, and
 -- their answer was written; or there are more, and that refusal alone was written; or the first sites have none, and
--- nothing was read or written; or memory, a read or a write failed. Without memory nothing was written. In each case the
--- source lost at most one byte past the limit. An engine has no word for wrong arguments or a store.
+-- nothing was read or written; or the first sites have a layout, and memory, a read or a write failed. Without memory
+-- nothing was written. In each case the source lost at most one byte past the limit. An engine has no word for wrong
+-- arguments or a store.
 abbrev pub EndsPlay : LayoutState → Option ℕ → Bool → SourceState → SourceState → SinkState → SinkState → Status → Type 0
 EndsPlay layout first tables source source_after sink sink_after Done =
     MayBeFirst (first_sites first layout) layout × ((bytes : List ℕ) × ReadsInput source source_after (Ok bytes)
@@ -72,9 +73,9 @@ EndsPlay layout first tables source source_after sink sink_after Refused =
     × WritesStop (start_world (first_sites first layout) layout) layout.records (lines_of bytes) sink sink_after)
     ⊎ (ReadsInput source source_after (Err TooLong) × Writes sink sink_after too_long_text))
 EndsPlay layout first tables source source_after sink sink_after Memory =
-    LosesSome source source_after (input_limit + 1) × LacksMemory source.fault source_after.fault × (sink_after ≡ sink)
+    MayBeFirst (first_sites first layout) layout × LosesSome source source_after (input_limit + 1) × LacksMemory source.fault source_after.fault × (sink_after ≡ sink)
 EndsPlay layout first tables source source_after sink sink_after Io =
-    LosesSome source source_after (input_limit + 1) × (IsFailure source_after.fault ⊎ HasFault sink_after.fault)
+    MayBeFirst (first_sites first layout) layout × LosesSome source source_after (input_limit + 1) × (IsFailure source_after.fault ⊎ HasFault sink_after.fault)
 EndsPlay layout first tables source source_after sink sink_after Usage = ⊥
 EndsPlay layout first tables source source_after sink sink_after (NoStore refusal) = ⊥
 EndsPlay layout first tables source source_after sink sink_after Fault = ⊥

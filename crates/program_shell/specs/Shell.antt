@@ -23,7 +23,7 @@ use Rattle.judge_engine.specs.Cuts.{IsCutFault, cut_in}
 use Rattle.judge_engine.specs.Engine.{EndsJudge}
 use Rattle.layout_file.specs.LayoutFile.{ReadsLayoutFile, built_in_layout}
 use Rattle.play_engine.specs.Plays.{EndsPlay}
-use Rattle.site_databases.specs.Databases.{EndsStored}
+use Rattle.stored_site.specs.Databases.{EndsStored}
 use Rattle.line_conversation.specs.Stream.{StreamState}
 use Rattle.line_conversation.specs.declared.conversation.Conversation.{Ghosts}
 use Rattle.service_talk.specs.Notes.{NotedState}

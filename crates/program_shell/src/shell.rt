@@ -18,13 +18,13 @@ use live_databases::{LiveDatabases, Opening};
 use merge_core::Layout;
 use play_engine::play_engine;
 use service_talk::{Noted, OneLine};
-use site_databases::{Databases, serve_stored};
 use std::alloc::Global;
 use std::io::{ErrorKind, Read, Write};
 use std::rt::{Env, Files};
 use std::sync::Wait;
 use std::thread::Threads;
 use std::{env, fs, io};
+use stored_site::{Databases, serve_stored};
 use text_input::{Sink, Source};
 
 /// Runs the program on a runtime's arguments, files and standard streams, and gives the exit status. The command `run`

@@ -85,13 +85,14 @@ module _ {K C L : Type 0} where
     pub unlogged : log_after ≡ log
 
   -- The whole service of a site, in a group or in none: a site that was opened served its lines; or what is kept begins no
-  -- site, there is no such site, or memory ran out, and nothing else happened.
+  -- site, there is no such site, or there is and memory ran out, and nothing else happened.
   abbrev pub EndsServing : Ghosts K → TalkGhosts C → LogGhosts L → LayoutState → ℕ → Option (List ℕ) → K → K → C → C → L → L → Status → Type 0
   EndsServing g c h layout i group keeper keeper_after talk talk_after log log_after (NoStore refusal) =
       IsUnfit g layout i keeper keeper_after refusal × Untouched g keeper keeper_after talk talk_after log log_after
   EndsServing g c h layout i group keeper keeper_after talk talk_after log log_after (NoLayout fault) =
       (fault ≡ NoSite) × (¬ (i < layout.sites)) × (keeper_after ≡ keeper) × Untouched g keeper keeper_after talk talk_after log log_after
-  EndsServing g c h layout i group keeper keeper_after talk talk_after log log_after Memory = Untouched g keeper keeper_after talk talk_after log log_after
+  EndsServing g c h layout i group keeper keeper_after talk talk_after log log_after Memory =
+      (i < layout.sites) × Untouched g keeper keeper_after talk talk_after log log_after
   EndsServing g c h layout i group keeper keeper_after talk talk_after log log_after Usage = ⊥
   EndsServing g c h layout i group keeper keeper_after talk talk_after log log_after Refused = ⊥
   EndsServing g c h layout i group keeper keeper_after talk talk_after log log_after status = Serving g c h layout i group keeper keeper_after talk talk_after log log_after status

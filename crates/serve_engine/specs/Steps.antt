@@ -9,11 +9,7 @@ use Rattle.admission_core.specs.Core.{Stands}
 use Rattle.admission_core.specs.Kept.{DurableState, durable_of}
 use Rattle.durable_keeper.specs.declared.keeper.Keeper.{Ghosts}
 use Rattle.desk_log.specs.declared.entry.Entry.{Entry}
-use Rattle.desk_log.specs.declared.error.OpenError.{OpenError}
-use Rattle.desk_log.specs.declared.error.OpenError.TheVariants as opening
 use Rattle.desk_log.specs.Desk.{Leaves}
-use Rattle.layout_file.specs.declared.fault.LayoutFault.TheVariants.{NoSite}
-use Rattle.exit_status.specs.declared.store_refusal.StoreRefusal.TheVariants.{WrongCounters, WrongSessions, StoreFault as NoStoreFault}
 use Rattle.exit_status.specs.declared.status.Status.{Status}
 use Rattle.exit_status.specs.declared.status.Status.TheVariants as status
 use Rattle.line_conversation.specs.Turns.{Whole, Turn, Told as Tell}
@@ -28,16 +24,6 @@ use Rattle.serve_engine.specs.Answers.{bad_word_line, wrong_group_line, memory_l
 use Rattle.serve_engine.specs.Requests.{Terms}
 use Rattle.serve_engine.specs.Exchanges.{Exchange, turns_of, Answers, Stops, IsIdle, HasServed}
 use Rattle.serve_engine.specs.Ending.{EndsIn}
-
--- how the service ends where no site was opened; the numbers of passes and places are no matter here
-abbrev pub opening_status : OpenError → Status
-opening_status opening.BadSite = status.NoLayout NoSite
-opening_status opening.WrongCounters = status.NoStore WrongCounters
-opening_status opening.WrongSessions = status.NoStore WrongSessions
-opening_status opening.StoreFault = status.NoStore NoStoreFault
-opening_status opening.BadPasses = status.Memory
-opening_status opening.BadLimit = status.Memory
-opening_status opening.Memory = status.Memory
 
 -- how the service ends with the conversation
 abbrev pub ended : Bool → Status

@@ -4,7 +4,6 @@ ghost use Rattle.std.specs.Option.{option_copied};
 ghost use Rattle.merge_core.specs.Layout.{LayoutState};
 ghost use Rattle.admission_model.specs.Account.{Account};
 ghost use Rattle.admission_core.specs.Core.{Stands};
-ghost use Rattle.site_script.specs.Served.{no_delta_line};
 ghost use Rattle.serve_engine.specs.declared.request.Request.TheVariants.{Asked};
 ghost use Rattle.serve_engine.specs.declared.answering.Told.TheVariants.{LogFailed};
 ghost use Rattle.serve_engine.specs.Requests.{Asks, Terms, terms_of};
@@ -15,9 +14,9 @@ use crate::listing::push_sessions;
 use crate::request::{Request, request_in};
 use crate::showing::push_counts;
 use admission_core::Call;
-use delta_codec::DecodeError;
 use durable_keeper::Keeper;
 use live_site::{CallLog, LiveSite, Outcome};
+use site_script::push_no_delta_line;
 use std::alloc::{AllocError, Global};
 use text_parts::push_field;
 
@@ -77,7 +76,7 @@ pub(crate) fn serve_line<K: Keeper, L: CallLog>(
     };
     match request {
         Some(Request::Asked(call)) => serve_call(live, group, &call, text, log),
-        Some(Request::Unread(error)) => written(push_no_delta(text, error)),
+        Some(Request::Unread(error)) => written(push_no_delta_line(text, error)),
         Some(Request::Show(r)) => show(live, r, text),
         Some(Request::Sessions(r)) => list(live, r, text),
         Some(Request::WrongGroup) => Told::WrongGroup,
@@ -93,15 +92,6 @@ fn written(answer: Result<(), AllocError>) -> Told
         Ok(()) => Told::Text,
         Err(_) => Told::Memory,
     }
-}
-
-// Writes why a text is no delta's, and LF.
-fn push_no_delta(text: &mut String, error: DecodeError) -> Result<(), AllocError>
-    ensures { IfOk result (λ _. string_bytes text.new ≡ string_bytes text.old ++ no_delta_line error) }
-{
-    text.push_str("refused ")?;
-    text.push_str(error.name())?;
-    text.push_str("\n")
 }
 
 // Writes that a delta would give more rights to a record than it has seats, and LF.

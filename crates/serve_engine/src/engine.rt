@@ -7,16 +7,15 @@ ghost use Rattle.admission_core.specs.Kept.{durable_of};
 ghost use Rattle.desk_log.specs.Desk.{IsMadeFor};
 ghost use Rattle.serve_engine.specs.Requests.{line_limit, terms_of};
 ghost use Rattle.serve_engine.specs.Ending.{EndsServing, EndsSite};
-ghost use Rattle.serve_engine.specs.Steps.{ended, opening_status};
+ghost use Rattle.serve_engine.specs.Steps.{ended};
 
 use crate::turns::{Turned, take_turn};
-use desk_log::OpenError;
 use durable_keeper::Keeper;
-use exit_status::{Status, StoreRefusal};
-use layout_file::LayoutFault;
+use exit_status::Status;
 use line_conversation::Conversation;
 use live_site::{CallLog, LiveSite};
 use merge_core::Layout;
+use site_engine::opening_status;
 use std::alloc::Global;
 
 /// The most bytes of a line: those of a delta's text, and the word before it.
@@ -66,19 +65,6 @@ pub fn serve_engine<K: Keeper, C: Conversation, L: CallLog>(
     };
     let ended = serve_lines(alloc, &mut live, group, conversation, log);
     (ended, live.into_keeper())
-}
-
-// How the service ends where no site was opened.
-fn opening_status(error: OpenError) -> Status
-    ensures { result ≡ opening_status error }
-{
-    match error {
-        OpenError::BadSite => Status::NoLayout(LayoutFault::NoSite),
-        OpenError::WrongCounters => Status::NoStore(StoreRefusal::WrongCounters),
-        OpenError::WrongSessions => Status::NoStore(StoreRefusal::WrongSessions),
-        OpenError::StoreFault => Status::NoStore(StoreRefusal::StoreFault),
-        OpenError::BadPasses | OpenError::BadLimit | OpenError::Memory => Status::Memory,
-    }
 }
 
 // Serves the lines of a conversation.

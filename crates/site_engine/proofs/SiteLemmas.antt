@@ -1,5 +1,5 @@
 -- From the opening of a desk to the end of the engine.
-use Rattle.std.proofs.Common.{◌≡◌, ℕ, ◌⊎◌, Bool, true, false, List, inl, inr, refl, sym, ap, ◌∙◌, subst}
+use Rattle.std.proofs.Common.{◌<◌, ◌≡◌, ℕ, ◌⊎◌, Bool, true, false, List, inl, inr, refl, sym, ap, ◌∙◌, subst}
 use Rattle.std.proofs.lemmas.Bool.{cases_Bool}
 use Rattle.merge_core.specs.declared.layout.RecordSpec.{RecordSpec}
 use Rattle.merge_core.specs.Layout.{LayoutState}
@@ -132,21 +132,21 @@ some_kept g layout i keeper back opened desk source source_after w (inl same) = 
 some_kept g layout i keeper back opened desk source source_after w (inr (bytes, read, front)) = inr (bytes, read, front_kept g layout i keeper back opened desk _ w front)
 
 pub ends_site : {K : Type 0} (g : Ghosts K) (layout : LayoutState) (i : ℕ) (keeper back : K) (opened desk : DeskState K)
-    (source source_after : SourceState) (sink sink_after : SinkState) (status : Status) → Worked g layout i keeper back opened desk
+    (source source_after : SourceState) (sink sink_after : SinkState) (status : Status) → i < layout.sites → Worked g layout i keeper back opened desk
     → ServesInput opened desk source source_after sink sink_after status
     → EndsSite g layout i keeper back source source_after sink sink_after status
-ends_site g layout i keeper back opened desk source source_after sink sink_after Done w (bytes, read, a) =
+ends_site g layout i keeper back opened desk source source_after sink sink_after Done there w (bytes, read, a) =
     (bytes, read, served g layout i keeper back opened desk _ true sink sink_after w a)
-ends_site g layout i keeper back opened desk source source_after sink sink_after Refused w (inl (bytes, read, a)) =
+ends_site g layout i keeper back opened desk source source_after sink sink_after Refused there w (inl (bytes, read, a)) =
     inl (bytes, read, served g layout i keeper back opened desk _ false sink sink_after w a)
-ends_site g layout i keeper back opened desk source source_after sink sink_after Refused w (inr (read, written, same)) =
+ends_site g layout i keeper back opened desk source source_after sink sink_after Refused there w (inr (read, written, same)) =
     inr (read, written, unused g layout i keeper back opened desk w same)
-ends_site g layout i keeper back opened desk source source_after sink sink_after Fault w (bytes, read, a) =
+ends_site g layout i keeper back opened desk source source_after sink sink_after Fault there w (bytes, read, a) =
     (bytes, read, stopped g layout i keeper back opened desk _ sink sink_after w a)
-ends_site g layout i keeper back opened desk source source_after sink sink_after Memory w (loses, lacks, silent, lost) =
-    (loses, lacks, silent, some_kept g layout i keeper back opened desk source source_after w lost)
-ends_site g layout i keeper back opened desk source source_after sink sink_after Io w (loses, failed, lost) =
-    (loses, failed, some_kept g layout i keeper back opened desk source source_after w lost)
-ends_site g layout i keeper back opened desk source source_after sink sink_after Usage w ended = absurd ended
-ends_site g layout i keeper back opened desk source source_after sink sink_after (NoLayout fault) w ended = absurd ended
-ends_site g layout i keeper back opened desk source source_after sink sink_after (NoStore refusal) w ended = absurd ended
+ends_site g layout i keeper back opened desk source source_after sink sink_after Memory there w (loses, lacks, silent, lost) =
+    (there, loses, lacks, silent, some_kept g layout i keeper back opened desk source source_after w lost)
+ends_site g layout i keeper back opened desk source source_after sink sink_after Io there w (loses, failed, lost) =
+    (there, loses, failed, some_kept g layout i keeper back opened desk source source_after w lost)
+ends_site g layout i keeper back opened desk source source_after sink sink_after Usage there w ended = absurd ended
+ends_site g layout i keeper back opened desk source source_after sink sink_after (NoLayout fault) there w ended = absurd ended
+ends_site g layout i keeper back opened desk source source_after sink sink_after (NoStore refusal) there w ended = absurd ended

@@ -2,6 +2,6 @@
 //! written.
 #![tactic(auto)]
 
-pub use sites::site_engine;
+pub use sites::{opening_status, site_engine};
 
 mod sites;

@@ -44,8 +44,9 @@ pub fn site_engine<R: Read, W: Write, K: Keeper>(
     (ended, desk.into_keeper())
 }
 
-// How the engine ends where a desk was not opened.
-fn opening_status(error: OpenError) -> Status
+/// How an engine ends whose site was not opened. The numbers of passes and of places of the log are the engine's own, so
+/// they are never refused.
+pub fn opening_status(error: OpenError) -> Status
     ensures { result ≡ opening_status error }
 {
     match error {

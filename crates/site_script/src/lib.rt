@@ -2,7 +2,7 @@
 #![tactic(auto)]
 
 pub use lines::{Said, said_by_text, said_in};
-pub use serving::{Served, serve_script};
+pub use serving::{Served, push_no_delta_line, serve_script};
 
 pub mod laws;
 mod lines;

@@ -126,8 +126,8 @@ fn is_memory(reply: &Reply) -> bool
     matches!(reply, Reply::Refused(Refusal::Memory))
 }
 
-// Writes the line that tells of a text that is no delta's.
-fn push_no_delta_line(text: &mut String, error: DecodeError) -> Result<(), AllocError>
+/// Writes the answer to a text that is no delta's, as a line.
+pub fn push_no_delta_line(text: &mut String, error: DecodeError) -> Result<(), AllocError>
     ensures { IfOk result (λ _. string_bytes text.new ≡ string_bytes text.old ++ no_delta_line error) }
 {
     text.push_str("refused ")?;

@@ -4,7 +4,6 @@ use line_conversation::Conversation;
 use live_databases::{Absence, LiveDatabases, Opening, ServiceEnd, serve_live_over};
 use live_site::NoLog;
 use merge_core::Layout;
-use site_databases::Databases;
 use sqlite::Connection;
 use std::alloc::{Allocator, Global};
 use std::cell::RefCell;
@@ -14,7 +13,7 @@ use std::fs::{Metadata, OpenFile, OpenOptions};
 use std::io;
 use std::io::{BufRead, Error, ErrorKind, Lines, Read, Seek, SeekFrom, Write};
 use std::rt::{Env, Files};
-use stored_site::serve_over;
+use stored_site::{Databases, serve_over};
 use test_streams::{Giving, Keeping};
 use text_input::{Sink, Source};
 

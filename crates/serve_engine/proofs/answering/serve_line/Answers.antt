@@ -46,8 +46,8 @@ returns-in-Some-Unread-clause-served g c = λ a stands.
     asks_here group line (c.layout.ensures ∙ ap (λ (x : Core). x.layout) c.core.ensures.core)
     (c.in-Some-Unread.is ∙ ap Some c.in-Some-Unread.field-0-is) c.in-Ok.ensures in
     by_written (λ (told : Told) (t : List ℕ). ServesLine g.K.Keeper g.L.CallLog terms a live live c.args.log.now c.args.log.now line told t)
-    c.push_no_delta.result c.written.result (string_bytes c.push_no_delta.new.text) (no_delta_line e) c.written.ensures
-    (subst (λ (t : List ℕ). IfOk c.push_no_delta.result (λ _. string_bytes c.push_no_delta.new.text ≡ t ++ no_delta_line e)) c.requires c.push_no_delta.ensures)
+    c.push_no_delta_line.result c.written.result (string_bytes c.push_no_delta_line.new.text) (no_delta_line e) c.written.ensures
+    (subst (λ (t : List ℕ). IfOk c.push_no_delta_line.result (λ _. string_bytes c.push_no_delta_line.new.text ≡ t ++ no_delta_line e)) c.requires c.push_no_delta_line.ensures)
     (plain g.K.Keeper g.L.CallLog terms a live c.args.log.now (exchange_of line (no_delta_line e)) stands (told_no_delta terms a line e asks) (still_no_delta terms line e asks))
     (λ u. no_memory g.K.Keeper g.L.CallLog terms a live c.args.log.now line stands)
 

@@ -11,5 +11,5 @@ returns-clause-ended g c =
       kept = c.into_keeper.ensures.kept;
     } in
     ends_site g.K.Keeper c.args.layout c.args.site c.args.keeper c.into_keeper.result c.in-Ok.desk c.serve_input-ended.new.desk
-    c.args.source.now c.serve_input-ended.new.source c.args.sink.now c.serve_input-ended.new.sink c.serve_input-ended.result worked
+    c.args.source.now c.serve_input-ended.new.source c.args.sink.now c.serve_input-ended.new.sink c.serve_input-ended.result c.in-Ok.ensures.0.site_there worked
     c.serve_input-ended.ensures.served

@@ -1,4 +1,4 @@
-use Rattle.site_databases.proofs.StoredLemmas.{ends_stored}
+use Rattle.stored_site.proofs.StoredLemmas.{ends_stored}
 use Rattle.store_tests.proofs.shells.runtime.FakeDatabases.serve_database.Goals as goal
 
 pub returns : goal.returns

@@ -1,5 +1,5 @@
-use Rattle.site_databases.proofs.StoredLemmas.{ends_stored}
-use Rattle.site_databases.proofs.databases.HostRuntimeDatabases.serve_database.Goals as goal
+use Rattle.stored_site.proofs.StoredLemmas.{ends_stored}
+use Rattle.stored_site.proofs.databases.HostRuntimeDatabases.serve_database.Goals as goal
 
 pub returns : goal.returns
 returns g c =

@@ -1,12 +1,12 @@
 ghost use Rattle.std.specs.Prelude.{◌<◌};
-ghost use Rattle.site_databases.specs.Databases.{EndsStored};
+ghost use Rattle.stored_site.specs.Databases.{EndsStored};
 
+use crate::serving::serve_over;
 use exit_status::{Status, StoreRefusal};
 use layout_file::LayoutFault;
 use merge_core::Layout;
 use sqlite::{Connection, Error, ErrorCode};
 use std::io::{Read, Write};
-use stored_site::serve_over;
 use text_input::{Sink, Source};
 
 /// A runtime that has databases.

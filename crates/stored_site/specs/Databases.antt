@@ -54,7 +54,7 @@ EndsStored layout i source source_after sink sink_after (NoStore refusal) = (i <
 EndsStored layout i source source_after sink sink_after (NoLayout fault) =
     (fault ≡ NoSite) × (¬ (i < layout.sites)) × (source_after ≡ source) × (sink_after ≡ sink)
 EndsStored layout i source source_after sink sink_after Memory =
-    LosesSome source source_after (input_limit + 1) × LacksMemory source.fault source_after.fault × (sink_after ≡ sink)
+    (i < layout.sites) × LosesSome source source_after (input_limit + 1) × LacksMemory source.fault source_after.fault × (sink_after ≡ sink)
 EndsStored layout i source source_after sink sink_after Io =
-    LosesSome source source_after (input_limit + 1) × (IsFailure source_after.fault ⊎ HasFault sink_after.fault)
+    (i < layout.sites) × LosesSome source source_after (input_limit + 1) × (IsFailure source_after.fault ⊎ HasFault sink_after.fault)
 EndsStored layout i source source_after sink sink_after Usage = ⊥

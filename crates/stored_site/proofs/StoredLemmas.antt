@@ -15,7 +15,7 @@ use Rattle.exit_status.specs.declared.status.Status.{Status}
 use Rattle.exit_status.specs.declared.status.Status.TheVariants.{Done, Usage, NoLayout, NoStore, Fault, Refused, Memory, Io}
 use Rattle.site_engine.specs.Sites.{EndsSite, WritesServed, WritesStopped}
 use Rattle.stored_site.specs.StoredSites.{EndsOver, refusal_status}
-use Rattle.site_databases.specs.Databases.{EndsStored, StopsSome, WritesSome}
+use Rattle.stored_site.specs.Databases.{EndsStored, StopsSome, WritesSome}
 
 -- what was written, whatever the keeper
 some_served : {K : Type 0} (g : Ghosts K) (layout : LayoutState) (i : ℕ) (keeper back : K) (lines : List (List ℕ)) (whole : Bool)
@@ -57,8 +57,8 @@ ran g layout i keeper back source source_after sink sink_after Fault there (byte
     (there, (bytes, read, some_stopped g layout i keeper back _ sink sink_after w))
 ran g layout i keeper back source source_after sink sink_after (NoStore refusal) there (unfit, kept, unread, silent) = (there, unread, silent)
 ran g layout i keeper back source source_after sink sink_after (NoLayout fault) there (is, none, same, unread, silent) = absurd (none there)
-ran g layout i keeper back source source_after sink sink_after Memory there (loses, lacks, silent, kept) = (loses, lacks, silent)
-ran g layout i keeper back source source_after sink sink_after Io there (loses, failed, kept) = (loses, failed)
+ran g layout i keeper back source source_after sink sink_after Memory there (is_there, loses, lacks, silent, kept) = (there, loses, lacks, silent)
+ran g layout i keeper back source source_after sink sink_after Io there (is_there, loses, failed, kept) = (there, loses, failed)
 ran g layout i keeper back source source_after sink sink_after Usage there ended = absurd ended
 
 -- a source that was not read lost nothing
@@ -77,7 +77,7 @@ refused_end layout i source sink opening.WrongSite there = (there, refl, refl)
 refused_end layout i source sink opening.WrongGroup there = (there, refl, refl)
 refused_end layout i source sink opening.WrongLayout there = (there, refl, refl)
 refused_end layout i source sink opening.StoreFault there = (there, refl, refl)
-refused_end layout i source sink opening.Memory there = (loses_none source, inl refl, refl)
+refused_end layout i source sink opening.Memory there = (there, loses_none source, inl refl, refl)
 
 pub ends_stored : {S : Type 0} (g : Device S) (k : Ghosts (SqlKeeper S g)) (layout : LayoutState) (i : ℕ) (c after : Held S)
     (source source_after : SourceState) (sink sink_after : SinkState) (ended : Status) → i < layout.sites
