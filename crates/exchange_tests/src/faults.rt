@@ -118,3 +118,53 @@ fn freezes<R: Threads + Wait + Sync>(rt: &R, alloc: Global) -> Option<bool> {
 fn a_store_that_fails_ends_all_runs(rt: HostRuntime) {
     assert!(rt; freezes(&rt, rt.alloc()) == Some(true));
 }
+
+// So many turns that no runner is through before a thread that starts late.
+const MANY_TURNS: u64 = 20_000;
+
+// Two sites, of which site 1 announces a writer. Site 0 gives a seat away and hears of the writer; its store keeps one of
+// these changes, and fails at the other.
+fn jobs_stopped(alloc: Global) -> Option<Vec<Job>> {
+    let mut jobs = jobs_of(alloc, TWO, MANY_TURNS, 0)?;
+    for job in jobs.as_mut_slice() {
+        job.limit = 65_536;
+    }
+    jobs.get_mut(0)?.left = Some(1);
+    jobs.get_mut(0)?.after = Some(Ask::Read { r: 0, h: 1 });
+    jobs.get_mut(1)?.before = Some(Ask::Announce { r: 0, h: 5 });
+    Some(jobs)
+}
+
+// Whether each runner of a site ended before its last turn.
+fn ended_early(ended: &Outcome) -> bool {
+    for report in ended.reports.as_slice() {
+        let (_, turns, _, _) = numbers(report);
+        if turns >= MANY_TURNS {
+            return false;
+        }
+    }
+    ended.reports.len() == 2
+}
+
+// Whether the store of site 0 failed in the middle of the runs, both its runners ended as it was frozen, and those of site 1
+// as their links were closed.
+fn stops_in_the_middle<R: Threads + Wait + Sync>(rt: &R, alloc: Global) -> Option<bool> {
+    let all = run_sites(rt, alloc, jobs_stopped(alloc)?)?;
+    let stopped = all.get(0)?.as_ref()?;
+    let peer = all.get(1)?.as_ref()?;
+    let frozen = matches!(stopped.after, Some(Reply::Refused(Refusal::Frozen)));
+    let (entries, faults) = entries_of(stopped)?;
+    let early = ended_early(stopped) && ended_early(peer);
+    Some(
+        frozen
+            && early
+            && entries > 1
+            && faults == 1
+            && (stopped.marks, peer.marks) == ((2, 0), (0, 0)),
+    )
+}
+
+#[test]
+fn a_store_that_stops_in_the_middle_ends_all_runs(rt: HostRuntime) {
+    assert!(rt; stops_in_the_middle(&rt, rt.alloc()) == Some(true));
+}

@@ -38,6 +38,9 @@ fn next_seed(seed: u64) -> u64 {
 }
 
 impl Gate for TestGate {
+    // Of the numbers that gates share no contract can say anything.
+    ghost answers = { λ _ _ _ _. Unit {0} };
+
     fn open(&mut self, turn: u64) -> bool {
         match self {
             TestGate::Always => true,

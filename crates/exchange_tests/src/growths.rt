@@ -9,7 +9,8 @@ use std::sync::Wait;
 use std::thread;
 use std::thread::{JoinHandle, Threads};
 
-const TURNS: u64 = 8;
+/// The turns of each runner.
+pub const TURNS: u64 = 8;
 
 // The number of the port by which a site receives from another, where three are linked.
 fn port_from(from: u16, to: u16) -> u16 {
@@ -57,8 +58,8 @@ fn lacks_of(from: &Outcome, to: &Outcome, (sends, hears): (u16, u16)) -> Option<
     }
 }
 
-// The turns without memory of all runners, if all reports fit.
-fn all_lacks(all: &[Outcome]) -> Option<u64> {
+/// The turns without memory of all runners, if all reports fit.
+pub fn all_lacks(all: &[Outcome]) -> Option<u64> {
     let mut lacks = 0u64;
     for from in 0..3u16 {
         for to in 0..3u16 {

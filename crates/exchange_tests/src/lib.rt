@@ -13,6 +13,8 @@ mod growths;
 #[cfg(test)]
 mod knowledge;
 #[cfg(test)]
+mod lacks;
+#[cfg(test)]
 mod nets;
 #[cfg(test)]
 mod pairs;

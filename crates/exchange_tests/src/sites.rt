@@ -3,15 +3,15 @@
 ghost use Rattle.std.specs.Prelude.{◌≡◌, ◌+◌, All, IsSome, IfSome, length};
 ghost use Rattle.admission_core.specs.Kept.{DurableState};
 
-use crate::gates::TestGate;
+use crate::gates::{Shared, TestGate};
 use admission_core::{Ask, Call, Reply};
 use exchange_threads::{End, Port, Report, run_links};
 use merge_core::{Delta, Layout, RecordName, RecordSpec};
 use session_book::{CloseError, Opening, Pass, Site, Transcript};
 use std::alloc::Global;
 use std::marker::Brand;
-use std::sync::Wait;
 use std::sync::ledger::Blank;
+use std::sync::{Arc, Wait};
 use std::thread::Threads;
 use test_keepers::{Fake, Fault, store_with};
 
@@ -48,6 +48,8 @@ pub struct Job {
     pub limit: usize,
     /// Its store fails behind so many changes.
     pub left: Option<u64>,
+    /// In place of that, it has no memory for that one change, and counts this here.
+    pub lacks: Option<Shared>,
     pub before: Option<Ask>,
     pub ends: Vec<End<TestGate>>,
     pub turns: u64,
@@ -74,6 +76,7 @@ pub fn job_of(shape: Shape, site: u16, ends: Vec<End<TestGate>>, turns: u64) -> 
         site,
         limit: 1024,
         left: None,
+        lacks: None,
         before: None,
         ends,
         turns,
@@ -119,9 +122,10 @@ pub fn opened<L: Opening>(
     requires one_each { blank.parts ≡ passes }
 {
     let layout = layout_of(alloc, job.shape)?;
-    let store = match job.left {
-        Some(left) => store_with(left, Fault::Refused(false)),
-        None => store_with(0, Fault::Never),
+    let store = match (job.left, &job.lacks) {
+        (Some(left), Some(count)) => store_with(left, Fault::Lacks(Arc::try_clone(count).ok()?)),
+        (Some(left), None) => store_with(left, Fault::Refused(false)),
+        (None, _) => store_with(0, Fault::Never),
     };
     let keeper = Fake::new(alloc, &layout, job.site, store)?;
     Site::<Fake, L>::open(alloc, blank, keeper, layout, job.site, passes, job.limit).ok()

@@ -76,8 +76,10 @@ fn first_other(alloc: Global, stories: &[Story]) -> Option<usize> {
     None
 }
 
+const ONE_SEAT: &str = "sites = 1\n[[record]]\nname = \"a\"\nseats = 1\nhome = 0\nproblem = 1\n";
+
 // Calls, and looks at a record.
-static LINES: [Story; 8] = [
+static LINES: [Story; 11] = [
     (TWO_SITES, 0, NOTHING, NOTHING),
     (
         TWO_SITES,
@@ -168,6 +170,36 @@ static LINES: [Story; 8] = [
             Status::Done,
             "left reader\ngave 1 1\nrights 0 inside 0 unfinished 0\n",
         ),
+    ),
+    (
+        TWO_SITES,
+        0,
+        (b"read a 7\n", Status::Done, "admitted\n"),
+        (
+            b"read a 7\nread a 8\n",
+            Status::Done,
+            "refused AlreadyHere\nadmitted\n",
+        ),
+    ),
+    (
+        TWO_SITES,
+        0,
+        (
+            b"give a 1 3\ngive a 1 18446744073709551615\ngive a 0 1\ngive a 1 0\n",
+            Status::Done,
+            "refused TooFewRights 2\nrefused CounterFull\nrefused ToSelf\nrefused ZeroSeats\n",
+        ),
+        NOTHING,
+    ),
+    (
+        ONE_SEAT,
+        0,
+        (
+            b"read a 1\nannounce a 2\nwrite a 2\nleave a 2\nhelp a\n",
+            Status::Done,
+            "admitted\nannounced 1\nrefused MissingSeats 0 1\nwithdrawn\nrefused NoPlan\n",
+        ),
+        NOTHING,
     ),
 ];
 

@@ -1,7 +1,7 @@
 //! How the service ends where the reader, the writer, the store or the log fails.
 use crate::fakes::{Counting, Failing, Refusal};
 use durable_keeper::{Keeper, MemoryKeeper};
-use exit_status::Status;
+use exit_status::{Status, StoreRefusal};
 use layout_file::built_in;
 use line_conversation::StreamConversation;
 use live_site::{LogFault, NoLog};
@@ -146,6 +146,31 @@ fn a_store_that_keeps_no_change_is_told(rt: HostRuntime) {
     for (row, refused) in STORES.iter().enumerate() {
         assert!(rt; stores_so(rt.alloc(), refused) == Some(true), "row {row}");
     }
+}
+
+// How the service ends over a store that can't be read, and how many bytes it is told.
+fn unread(alloc: Global) -> Option<(Status, usize)> {
+    let layout = built_in(alloc).ok()?;
+    let mut keeper = Failing::new(alloc, &layout, 0, 9, Refusal::Fault).ok()?;
+    keeper.failed = true;
+    let mut reader = Giving::new(FIVE_LINES, NEVER);
+    let mut writer = Keeping::new(alloc, NEVER);
+    let mut talk = StreamConversation::new(
+        alloc,
+        Source::new(&mut reader),
+        Sink::new(&mut writer),
+        LINE_LIMIT,
+    )
+    .ok()?;
+    let (ended, _keeper) = serve_engine(alloc, keeper, layout, 0, None, &mut talk, &mut NoLog {});
+    drop(talk);
+    Some((ended, writer.bytes().len()))
+}
+
+#[test]
+fn a_store_that_can_not_be_read_is_refused(rt: HostRuntime) {
+    let wanted = (Status::NoStore(StoreRefusal::StoreFault), 0);
+    assert!(rt; unread(rt.alloc()) == Some(wanted));
 }
 
 // How many entries the log takes before it refuses one, why, how many changes the keeper keeps before it finds no memory

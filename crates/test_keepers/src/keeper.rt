@@ -16,6 +16,8 @@ pub enum Fault {
     Never,
     /// The device refuses it, and each call behind it. It is kept all the same where the flag says so.
     Refused(bool),
+    /// There is no memory for it, this once: it is not kept, and the number grows by one.
+    Lacks(Arc<AtomicU64, Global>),
     /// It waits until the mark is set, if that comes soon, and is kept.
     Waits(Arc<AtomicU64, Global>),
 }
@@ -77,6 +79,15 @@ fn is_set_soon(mark: &AtomicU64) -> bool {
     false
 }
 
+// Whether there is no memory for a commit, which is counted.
+fn is_counted(fault: &Fault) -> bool {
+    let Fault::Lacks(count) = fault else {
+        return false;
+    };
+    count.fetch_add(1, Ordering::SeqCst);
+    true
+}
+
 impl Keeper for Fake {
     ghost layout = { λ k. k.kept.layout };
 
@@ -102,9 +113,13 @@ impl Keeper for Fake {
             self.store.left -= 1;
             return self.kept.commit(change);
         }
+        if is_counted(&self.store.fault) {
+            self.store.fault = Fault::Never;
+            return Err(KeeperError::Memory);
+        }
         match &self.store.fault {
             Fault::Never | Fault::Refused(true) => self.kept.commit(change)?,
-            Fault::Refused(false) => {}
+            Fault::Refused(false) | Fault::Lacks(_) => {}
             Fault::Waits(mark) => {
                 self.store.saw = is_set_soon(mark);
                 return self.kept.commit(change);
