@@ -14,8 +14,6 @@ import sys
 TOP = pathlib.Path(__file__).resolve().parent.parent
 MARK = "<!-- made by checks/documents.py -->\n"
 CLAUSE = re.compile(r"^\s*ensures\s*(\w+)?\s*\{\s*(.*)$")
-# Words of clauses that are the standard library's, and tell nothing of a contract by themselves.
-PLAIN = {"IsTrue", "IsOk", "IsSome", "IfOk", "IfSome", "IfErr", "OnOk", "OnErr", "MatchResult", "MatchOption", "Ok", "Some", "None", "Err"}
 DEFINED = re.compile(r"^(?:abbrev pub|pub abbrev|pub record|pub data|def pub|pub def)\s+(\S+)")
 
 
@@ -95,7 +93,11 @@ def first_sentence(text):
 def functions(file, names, is_public):
     """Each public function of a file: its name, the first sentence of its documentation, and its clauses."""
     owner, shown, document, now = None, False, [], None
-    for line in file.read_text(encoding="utf-8").split("\n"):
+    text = file.read_text(encoding="utf-8")
+    defined = set()  # the project's own definitions that clauses here may name
+    for use in re.findall(r"ghost use Rattle\.(?!std\b)\w+\.specs\.(?!declared\b)[\w.]+\.\{([^}]*)\}", text):
+        defined |= {name.split(" as ")[-1].strip() for name in use.split(",")}
+    for line in text.split("\n"):
         block = re.match(r"^(?:pub )?(impl|trait)\b(?:<[^{]*?>)?\s*(?:\w+(?:<[^>]*>)? for )?(\w+)", line)
         if block:
             owner, shown = block[2], block[1] == "trait" and line.startswith("pub ")
@@ -114,7 +116,10 @@ def functions(file, names, is_public):
             now = (name, first_sentence(" ".join(document)), [])
         clause = CLAUSE.match(line)
         if now and clause:
-            by = [word for word in re.findall(r"\b([A-Z][a-z]\w+)", clause[2]) if word not in PLAIN]
+            # what is claimed stands behind the last arrow; what is before it is quantified or assumed
+            whole = re.sub(r"\([\w ]+ : [^()]*(?:\([^()]*\))?[^()]*\)", " ", clause[2])
+            claim = [re.findall(r"(?<![.\w])\w+", part) for part in (whole.split("→")[-1], whole)]
+            by = [word for words in claim for word in words if word in defined]
             now[2].append(clause[1] or (f"by `{by[0]}`" if by else "its value"))
         if line.strip() and not line.strip().startswith(("#[", "ghost use")):
             document = []

@@ -149,6 +149,10 @@ ends 5 "" "store refused NoStore" serve --site 0 --store "$work/mistyped.db" </d
 tell $? "5 for a service without its store, and none is made"
 ends 5 "" "store refused Exists" serve --site 0 --store "$work/site_0.db" --create </dev/null
 tell $? "5 for a new store where one is"
+touch "$work/empty.db"
+ends 5 "" "store refused NoStore" serve --site 0 --store "$work/empty.db" </dev/null && [ ! -s "$work/empty.db" ] \
+    && ends 0 "" "" serve --site 0 --store "$work/empty.db" --create </dev/null
+tell $? "an empty file is no store, and becomes one"
 ends 5 "" "store refused WrongGroup" ask --site 0 --store "$work/site_0.db" --group crew show a </dev/null
 tell $? "5 for the store of another group"
 ends 0 'crew {"from":0,"rows":[],"v":1}' "" ask --create --site 0 --store "$work/crew.db" --group crew send </dev/null

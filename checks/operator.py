@@ -4,8 +4,8 @@
 Usage: checks/operator.py [--program PATH] [--seed S]
 
 Tries a disk that is full, one that is or becomes read-only, a store that is moved, copied or removed while it is served, one
-that sqlite3 vacuums, two services of one store, a clock that goes back, and signals at random moments to `serve`, `ask`,
-`site` and `run`. After each, all that was answered has to be in the store. Prints a line for each thing tried, and ends
+that sqlite3 vacuums, two services of one store, a clock that goes back, and signals at random moments to `serve`, `ask`
+and `run`; checks/store.sh kills `site`. After each, all that was answered has to be in the store. Prints a line for each thing tried, and ends
 with 1 where one of them went wrong. The first two need root, for a small disk in memory, and are left out without; one needs
 `sqlite3`, one `cc`.
 """

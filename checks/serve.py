@@ -9,8 +9,8 @@ then opens the store again and compares the sessions with what was answered: eve
 and at most the one in flight beside it. Callers write down when they were inside; a writer's time must overlap nobody
 else's, at any site. At the end `judge` reads the three logs, one behind another, and must find them consistent.
 
-Then one conversation of N calls runs without a log, and its process may take no more memory behind all of them than behind
-the first hundredth, but for a few pages.
+Then two conversations of N calls run, one without a log and one with, and a process may take no more memory behind all of
+them than behind the first hundredth, but for a few pages.
 """
 
 import argparse
@@ -46,7 +46,7 @@ class Site(threading.Thread):
         self.random = random.Random(f"{options.seed} {number}")
         self.sessions = {record: {} for record in RECORDS}  # holder -> phase
         self.since = {}  # (record, holder) -> (when the answer came, phase)
-        self.calls = self.kills = 0
+        self.calls = self.kills = self.sigkills = 0
         self.holder = number * 1_000_000
         self.faults = []
         self.open(create=True)
@@ -132,7 +132,9 @@ class Site(threading.Thread):
             self.process.stdin.close()
             self.process.wait(60)
         else:
-            self.process.send_signal(self.random.choice(SIGNALS))
+            sent = self.random.choice(SIGNALS)
+            self.sigkills += sent == signal.SIGKILL
+            self.process.send_signal(sent)
             self.process.wait(60)
         for pipe in (self.process.stdin, self.process.stdout, self.process.stderr):
             try:
@@ -227,9 +229,9 @@ def peak(process):
     return int(status.split("VmHWM:")[1].split()[0])
 
 
-def long_conversation(options, folder):
+def long_conversation(options, folder, log):
     """So many calls at one site; gives the peaks of memory behind the first hundredth and behind all, in kB."""
-    words = [options.program, "serve", "--create", "--site", "0", "--store", "long.db", "--layout", "layout.toml"]
+    words = [options.program, "serve", "--create", "--site", "0", "--store", f"long_{len(log)}.db", "--layout", "layout.toml", *log]
     process = subprocess.Popen(words, cwd=folder, stdin=subprocess.PIPE, stdout=subprocess.PIPE, bufsize=0)
     lines = [("read a 7", "admitted"), ("sessions a", "1 7 reader"), ("send", "{"), ("leave a 7", "left reader"), ("reed", "refused BadWord")]
     peaks = []
@@ -247,7 +249,7 @@ def long_conversation(options, folder):
 
 def main():
     parser = argparse.ArgumentParser(description=__doc__.splitlines()[0])
-    parser.add_argument("--kills", type=int, default=67, help="how often each site is killed")
+    parser.add_argument("--kills", type=int, default=120, help="how often each site is stopped, more than half of the times by SIGKILL")
     parser.add_argument("--seed", default="1")
     parser.add_argument("--calls", type=int, default=200_000, help="how many calls the long conversation has")
     parser.add_argument("--program", default=str(TOP / "seat_cli"))
@@ -269,12 +271,14 @@ def main():
         if verdict != ["consistent"]:
             faults.append(f"judge: {verdict}")
         writers = sum(1 for it in shared.times if it[1] == "writer")
-        print(f"{sum(it.kills for it in sites)} kills, {sum(it.calls for it in sites)} calls, {len(shared.times)} sessions inside,")
+        print(f"{sum(it.kills for it in sites)} stops, {sum(it.sigkills for it in sites)} of them by SIGKILL,")
+        print(f"{sum(it.calls for it in sites)} calls, {len(shared.times)} sessions inside,")
         print(f"{writers} of them writers, in {time.monotonic() - started:.0f} s; the logs have {logs.count(10)} lines: {verdict[0]}")
-        first, last = long_conversation(options, folder)
-        print(f"{options.calls} calls at one site: a peak of {first} kB behind the first hundredth, {last} kB behind all")
-        if last > first + PAGES:
-            faults.append("the memory of a long conversation grows")
+        for log in ([], ["--log", "long.log"]):
+            first, last = long_conversation(options, folder, log)
+            print(f"{options.calls} calls at one site{' with a log' * bool(log)}: a peak of {first} kB behind the first hundredth, {last} kB behind all")
+            if last > first + PAGES:
+                faults.append(f"the memory of a long conversation grows: {log}")
         for fault in faults[:20]:
             print("FAILED", fault)
         if faults and os.environ.get("KEEP"):
