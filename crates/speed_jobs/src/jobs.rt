@@ -2,6 +2,7 @@
 use crate::digest::Digest;
 use crate::random::Random;
 use crate::scripts::Size;
+use crate::stored::add_content;
 use crate::{logs, scripts};
 use exit_status::Status;
 use judge_engine::{Cut, judge_engine};
@@ -28,7 +29,7 @@ pub(crate) fn size_in(words: &[String]) -> Option<Size> {
     })
 }
 
-/// The digest of all that the job writes, round by round.
+/// The digest of all that the job writes, round by round, and of what it leaves in its store.
 pub(crate) fn digest_of(alloc: Global, words: &[String], size: Size) -> Option<u64> {
     let job = words.get(1)?.as_str();
     let mut random = Random::new(size.seed);
@@ -71,10 +72,11 @@ fn play(alloc: Global, random: &mut Random, size: Size, all: &mut Digest) -> Opt
     Some(())
 }
 
-// Judges the logs of sites.
+// Judges the logs of sites. The replies and the text of the logs are part of what was written.
 fn judge(alloc: Global, random: &mut Random, size: Size, all: &mut Digest) -> Option<()> {
     for _ in 0..size.rounds {
-        let input = logs::logs(alloc, random, size)?;
+        let input = logs::logs(alloc, random, size, all)?;
+        all.add(input.as_bytes());
         let layout = scripts::layout(alloc, size)?;
         let mut written = Digest::new();
         let mut source = Source::new(input.as_bytes());
@@ -85,7 +87,7 @@ fn judge(alloc: Global, random: &mut Random, size: Size, all: &mut Digest) -> Op
     Some(())
 }
 
-// Serves scripts at site 0, one after the other over one store in memory.
+// Serves scripts at site 0, one after the other over one store in memory, whose content is read at the end.
 fn site(alloc: Global, random: &mut Random, size: Size, all: &mut Digest) -> Option<()> {
     let mut connection = Connection::open_in_memory(alloc).ok()?;
     for _ in 0..size.rounds {
@@ -101,5 +103,5 @@ fn site(alloc: Global, random: &mut Random, size: Size, all: &mut Digest) -> Opt
         connection = back;
         add(all, ended, written)?;
     }
-    Some(())
+    add_content(&mut connection, all)
 }

@@ -1,4 +1,5 @@
 //! Closed logs of sites that exchange deltas.
+use crate::digest::Digest;
 use crate::random::Random;
 use crate::scripts;
 use crate::scripts::Size;
@@ -6,6 +7,7 @@ use admission_core::{Ask, Call, Reply};
 use desk_log::{Desk, Run, Runs, Transcript};
 use durable_keeper::MemoryKeeper;
 use merge_core::{Delta, Layout};
+use script_text::push_reply;
 use std::alloc::Global;
 use transcript_text::{may_be_written, transcript_text};
 
@@ -56,9 +58,18 @@ fn call(alloc: Global, told: &[Option<Delta>], random: &mut Random, size: Size) 
     }
 }
 
-// Makes a call at some site.
+// Adds the text of a reply.
+fn add_reply(alloc: Global, all: &mut Digest, reply: &Reply) -> Option<()> {
+    let mut text = String::new(alloc);
+    push_reply(&mut text, reply).ok()?;
+    all.add(text.as_bytes());
+    Some(())
+}
+
+// Makes a call at some site, and adds its reply.
 fn turn(
     alloc: Global,
+    all: &mut Digest,
     desks: &mut [Desk<MemoryKeeper>],
     told: &mut [Option<Delta>],
     random: &mut Random,
@@ -67,6 +78,7 @@ fn turn(
     let call = call(alloc, told, random, size)?;
     let at = usize::try_from(random.below(u64::from(size.sites))).ok()?;
     let reply = desks.get_mut(at)?.serve(0, &call);
+    add_reply(alloc, all, &reply)?;
     if let Reply::Snapshot(delta) = reply {
         *told.get_mut(at)? = Some(delta);
     }
@@ -106,8 +118,13 @@ fn push_log(
         .ok()
 }
 
-/// The logs of all sites behind so many calls.
-pub(crate) fn logs(alloc: Global, random: &mut Random, size: Size) -> Option<String> {
+/// The logs of all sites behind so many calls, whose replies are added to the digest.
+pub(crate) fn logs(
+    alloc: Global,
+    random: &mut Random,
+    size: Size,
+    all: &mut Digest,
+) -> Option<String> {
     let mut desks = Vec::new(alloc);
     let mut told = Vec::new(alloc);
     for site in 0..size.sites {
@@ -117,6 +134,7 @@ pub(crate) fn logs(alloc: Global, random: &mut Random, size: Size) -> Option<Str
     for _ in 0..size.lines {
         turn(
             alloc,
+            all,
             desks.as_mut_slice(),
             told.as_mut_slice(),
             random,

@@ -1,5 +1,5 @@
 //! Jobs that a user waits for, on inputs that a seed makes: `bench/run` times them in two checkouts. Prints a digest of
-//! all that the jobs wrote.
+//! all that the jobs wrote: each reply and table, the text of each log, each verdict, and at the end the content of the store.
 //!
 //!     speed_jobs play SITES RECORDS HOLDERS EVENTS ROUNDS SEED
 //!     speed_jobs site SITES RECORDS HOLDERS CALLS ROUNDS SEED
@@ -11,6 +11,7 @@ mod jobs;
 mod logs;
 mod random;
 mod scripts;
+mod stored;
 
 use std::env;
 use std::process::ExitCode;
