@@ -1,5 +1,5 @@
 -- The rows that counters tell: what holds of each of them, and of the list of them all.
-use Rattle.std.proofs.Common.{◌≡◌, ℕ, zero, suc, ◌+◌, ◌<◌, ◌⊎◌, inl, inr, Bool, true, false, not, ◌||◌, eqb, ltb, List, [], ◌∷◌, ◌++◌, length, get_or, refl, sym, ap, ◌∙◌, subst, arith}
+use Rattle.std.proofs.Common.{◌≡◌, ℕ, zero, suc, ◌+◌, ◌<◌, ◌≤◌, ◌⊎◌, inl, inr, Bool, true, false, not, ◌||◌, eqb, ltb, List, [], ◌∷◌, ◌++◌, length, get_or, refl, sym, ap, ◌∙◌, subst, arith}
 use Rattle.std.specs.List.{AllByRecursion}
 use Rattle.std.proofs.lemmas.Bool.{cases_eq, false≢true, ltb-false, lt-ltb, eqb-true, not-false}
 use Rattle.std.proofs.lemmas.List.{length-append, get_or_append_left, get_or_push}
@@ -163,3 +163,55 @@ some_of_four (suc n) a b c = lt-ltb 0 (suc n + (one_if a + (one_if b + one_if c)
 pub some_in_total : (n k : ℕ) (test : ℕ → Bool) → k < n → test k ≡ true → true ≡ ltb 0 (total n (λ j. one_if (test j)))
 some_in_total n k test below here =
     sym (lt-ltb 0 (total n (λ j. one_if (test j))) (omega (arith, total_member n k (λ j. one_if (test j)) below, ap one_if here)))
+
+-- ---- how many rows have left their start
+
+length-if : (b : Bool) (p : Row) → length (row_if b p) ≡ one_if b
+length-if true p = refl
+length-if false p = refl
+
+-- one site more is one row more, where its row has left its start
+pub moved_rows-count : (shape : Shape) (counter : ℕ → ℕ → Cell → ℕ) (r n : ℕ) → length (moved_rows shape counter r (suc n)) ≡ length (moved_rows shape counter r n) + one_if (has_moved shape counter r n)
+moved_rows-count shape counter r n =
+    length-append (moved_rows shape counter r n) (row_if (has_moved shape counter r n) (told_row shape.sites counter r n))
+    ∙ ap (λ (k : ℕ). length (moved_rows shape counter r n) + k) (length-if (has_moved shape counter r n) (told_row shape.sites counter r n))
+
+-- one record more is as many rows more as have left their start there
+pub moved_below-count : (shape : Shape) (counter : ℕ → ℕ → Cell → ℕ) (n : ℕ) → length (moved_below shape counter (suc n)) ≡ length (moved_below shape counter n) + length (moved_rows shape counter n shape.sites)
+moved_below-count shape counter n = length-append (moved_below shape counter n) (moved_rows shape counter n shape.sites)
+
+one_if-few : (b : Bool) → one_if b ≤ 1
+one_if-few true = omega arith
+one_if-few false = omega arith
+
+-- a record has at most one row for each site
+pub moved_rows-few : (shape : Shape) (counter : ℕ → ℕ → Cell → ℕ) (r n : ℕ) → length (moved_rows shape counter r n) ≤ n
+moved_rows-few shape counter r zero = omega arith
+moved_rows-few shape counter r (suc n) =
+    omega (arith, moved_rows-count shape counter r n, one_if-few (has_moved shape counter r n), moved_rows-few shape counter r n)
+
+-- a row that has left its start is one more than those before it
+pub room_for_row : (shape : Shape) (counter : ℕ → ℕ → Cell → ℕ) (r s n : ℕ) → s < n → has_moved shape counter r s ≡ true → length (moved_rows shape counter r s) < length (moved_rows shape counter r n)
+room_for_row shape counter r s zero below moved = absurd (omega arith)
+room_for_row shape counter r s (suc n) below moved = at (cases_eq n s) (room_for_row shape counter r s n)
+  where
+    at : (n ≡ s) ⊎ (n ≡ s → ⊥) → (s < n → has_moved shape counter r s ≡ true → length (moved_rows shape counter r s) < length (moved_rows shape counter r n))
+        → length (moved_rows shape counter r s) < length (moved_rows shape counter r (suc n))
+    at (inl e) earlier =
+        let one : one_if (has_moved shape counter r n) ≡ 1 = ap (λ (k : ℕ). one_if (has_moved shape counter r k)) e ∙ ap one_if moved in
+        let same : length (moved_rows shape counter r s) ≡ length (moved_rows shape counter r n) = ap (λ (k : ℕ). length (moved_rows shape counter r k)) (sym e) in
+        omega (arith, moved_rows-count shape counter r n, one, same)
+    at (inr ne) earlier = omega (arith, moved_rows-count shape counter r n, earlier (omega arith) moved)
+
+-- the rows of a record come beside those of the records before it
+pub room_for_record : (shape : Shape) (counter : ℕ → ℕ → Cell → ℕ) (r n : ℕ) → r < n → length (moved_below shape counter r) + length (moved_rows shape counter r shape.sites) ≤ length (moved_below shape counter n)
+room_for_record shape counter r zero below = absurd (omega arith)
+room_for_record shape counter r (suc n) below = at (cases_eq n r) (room_for_record shape counter r n)
+  where
+    at : (n ≡ r) ⊎ (n ≡ r → ⊥) → (r < n → length (moved_below shape counter r) + length (moved_rows shape counter r shape.sites) ≤ length (moved_below shape counter n))
+        → length (moved_below shape counter r) + length (moved_rows shape counter r shape.sites) ≤ length (moved_below shape counter (suc n))
+    at (inl e) earlier =
+        let same : length (moved_below shape counter r) + length (moved_rows shape counter r shape.sites) ≡ length (moved_below shape counter n) + length (moved_rows shape counter n shape.sites) =
+        ap (λ (k : ℕ). length (moved_below shape counter k) + length (moved_rows shape counter k shape.sites)) (sym e) in
+        omega (arith, moved_below-count shape counter n, same)
+    at (inr ne) earlier = omega (arith, moved_below-count shape counter n, earlier (omega arith))

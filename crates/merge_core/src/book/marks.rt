@@ -21,13 +21,3 @@ pub fn is_marked(marks: &[u16], r: u16, s: u16) -> bool
 {
     marks[usize::from(r)] >> s & 1 == 1
 }
-
-/// How many rows are marked: so many places a snapshot makes at once, and gives back those that stay empty. Any number
-/// would do.
-pub fn marked_rows(marks: &[u16]) -> usize {
-    let mut count = 0usize;
-    for mask in marks {
-        count = count.saturating_add(mask.count_ones() as usize);
-    }
-    count
-}

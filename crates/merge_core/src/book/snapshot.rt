@@ -7,14 +7,14 @@ ghost use Rattle.merge_core.specs.Book.{IsRecord};
 ghost use Rattle.merge_core.specs.Kept.{start_in};
 
 use super::Book;
-use super::marks::{is_marked, marked_rows};
+use super::marks::is_marked;
 use crate::record::RecordState;
 use crate::{Delta, Row};
 use grow_counters::Counts;
 use std::alloc::{AllocError, Global};
 
 impl Book {
-    ghost use Rattle.std.specs.Prelude.{◌≡◌, ℕ, ◌↔◌, ◌<◌, ◌++◌, [], length, IfOk, OnOk, IsTrue};
+    ghost use Rattle.std.specs.Prelude.{◌≡◌, ℕ, ◌↔◌, ◌+◌, ◌<◌, ◌≤◌, ◌++◌, [], length, vec_len, vec_capacity, IfOk, OnOk, IsTrue};
     ghost use Rattle.merge_core.specs.Book.{IsBook, counter_of, book_shape, Names};
     ghost use Rattle.merge_core.specs.declared.cell.Cell.{Cell};
     ghost use Rattle.merge_core.specs.Check.{IsChecked};
@@ -22,7 +22,9 @@ impl Book {
     ghost use Rattle.merge_core.specs.Moved.{told_row, has_moved, row_if, moved_rows, all_moved};
 
     /// All that the book names, as a delta of site `from`: the rows that have left their start, rising by
-    /// record and then by site. Linear in the records, and in the counters of the rows that ever left their start.
+    /// record and then by site. It makes one list with a place for each of these rows and no more, and a list
+    /// of counters for each row; where no row has left its start it takes no memory. Linear in the records, and
+    /// in the counters of the rows that ever left their start.
     pub fn snapshot(&self, alloc: Global, from: u16) -> Result<Delta, AllocError>
         requires { from < self.now.sites }
         ensures label { IfOk result (λ d. d.from ≡ from) }
@@ -36,23 +38,54 @@ impl Book {
         Ok(Delta::of_rows(from, rows))
     }
 
-    // The rows of all records that have left their start.
+    // The rows of all records that have left their start, in a list with a place for each and no more. The rows
+    // are counted first, so that the list is made once.
     fn all_moved(&self, alloc: Global) -> Result<Vec<Row>, AllocError>
         ensures rows { IfOk result (λ rows. rows.items ≡ all_moved (book_shape self.now) (counter_of self.now)) }
+        ensures exact { IfOk result (λ rows. vec_capacity rows ≡ length (all_moved (book_shape self.now) (counter_of self.now))) }
         ensures book { IsBook self.now }
     {
-        let mut rows = Vec::with_capacity(alloc, marked_rows(self.marks.as_slice()))?;
+        let mut rows = Vec::with_capacity(alloc, self.count_moved())?;
         for r in 0..self.records.len() {
             self.push_moved(alloc, &mut rows, r as u16)?;
         }
-        rows.shrink_to_fit(); // a mark may stand where a row is at its start, as behind a restart
         Ok(rows)
     }
 
-    // Adds the rows of record `r` that have left their start.
-    fn push_moved(&self, alloc: Global, rows: &mut Vec<Row>, r: u16) -> Result<(), AllocError>
+    // How many rows of all records have left their start.
+    fn count_moved(&self) -> usize
+        ensures count { result ≡ length (all_moved (book_shape self.now) (counter_of self.now)) }
+        ensures book { IsBook self.now }
+    {
+        let mut count = 0usize;
+        for r in 0..self.records.len() {
+            count += self.count_moved_in(r as u16);
+        }
+        count
+    }
+
+    // How many rows of record `r` have left their start.
+    fn count_moved_in(&self, r: u16) -> usize
         requires { r < length self.now.records }
-        ensures { OnOk result (rows.new.items ≡ rows.old.items ++ moved_rows (book_shape self.now) (counter_of self.now) r self.now.sites) }
+        ensures count { result ≡ length (moved_rows (book_shape self.now) (counter_of self.now) r self.now.sites) }
+        ensures few { result ≤ 16 }
+    {
+        if self.is_unmoved(r) {
+            return 0;
+        }
+        let mut count = 0usize;
+        for s in 0..self.sites {
+            count += usize::from(self.has_moved(r, s));
+        }
+        count
+    }
+
+    // Adds the rows of record `r` that have left their start, for each of which the list has a place.
+    fn push_moved(&self, alloc: Global, rows: &mut Vec<Row>, r: u16) -> Result<(), AllocError>
+        requires record { r < length self.now.records }
+        requires room { vec_len rows.old + length (moved_rows (book_shape self.now) (counter_of self.now) r self.now.sites) ≤ vec_capacity rows.old }
+        ensures rows { OnOk result (rows.new.items ≡ rows.old.items ++ moved_rows (book_shape self.now) (counter_of self.now) r self.now.sites) }
+        ensures capacity { vec_capacity rows.new ≡ vec_capacity rows.old }
     {
         if self.is_unmoved(r) {
             return Ok(());
@@ -71,7 +104,7 @@ impl Book {
         self.marks[usize::from(r)] == 0
     }
 
-    // Adds the row of site `s` for record `r`, if it has left its start.
+    // Adds the row of site `s` for record `r`, if it has left its start, to a list that has a place for it.
     fn push_if_moved(
         &self,
         alloc: Global,
@@ -81,10 +114,12 @@ impl Book {
     ) -> Result<(), AllocError>
         requires record { r < length self.now.records }
         requires site { s < self.now.sites }
-        ensures { OnOk result (rows.new.items ≡ rows.old.items ++ row_if (has_moved (book_shape self.now) (counter_of self.now) r s) (told_row self.now.sites (counter_of self.now) r s)) }
+        requires room { IsTrue (has_moved (book_shape self.now) (counter_of self.now) r s) → vec_len rows.old < vec_capacity rows.old }
+        ensures rows { OnOk result (rows.new.items ≡ rows.old.items ++ row_if (has_moved (book_shape self.now) (counter_of self.now) r s) (told_row self.now.sites (counter_of self.now) r s)) }
+        ensures capacity { vec_capacity rows.new ≡ vec_capacity rows.old }
     {
         if self.has_moved(r, s) {
-            rows.push(self.told_row(alloc, r, s)?)?;
+            rows.push_reserved(self.told_row(alloc, r, s)?);
         }
         Ok(())
     }
