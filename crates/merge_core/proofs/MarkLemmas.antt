@@ -1,10 +1,10 @@
 -- Marks of rows, over each change of a book.
-use Rattle.std.proofs.Common.{◌≡◌, ◌≢◌, ℕ, ◌<◌, ◌≤◌, ◌⊎◌, inl, inr, zero, suc, Bool, true, false, not, eqb, List, [], length, get_or, set, bit_or, w16, ◌*◌, ◌^◌, ◌%◌, sym, ap, subst, ◌∙◌, refl, arith, if◌then◌else◌, eq-eqb}
-use Rattle.std.specs.Int.{bit_at}
+use Rattle.std.proofs.Common.{◌≡◌, ◌≢◌, ℕ, ◌<◌, ◌≤◌, ◌⊎◌, inl, inr, zero, suc, Bool, true, false, not, eqb, List, [], length, get_or, set, bit_or, bit_and, w16, ◌*◌, ◌^◌, ◌%◌, sym, ap, subst, ◌∙◌, refl, arith, if◌then◌else◌, eq-eqb}
+use Rattle.std.specs.Int.{bit_at, bit_not}
 use Rattle.std.specs.Prelude.{Result, Ok, Err, MatchResult}
 use Rattle.std.proofs.lemmas.Bool.{cases_Bool, cases_eq, ne_eqb, ltb-true, lt-ltb}
 use Rattle.std.proofs.lemmas.List.{length-set, get_or-set_same, get_or-set_other, get_or_default}
-use Rattle.std.proofs.lemmas.Nat.Bits.{bit_at-zero, bit_at_set_same, bit_at_set_other}
+use Rattle.std.proofs.lemmas.Nat.Bits.{bit_at-zero, bit_at_set_same, bit_at_set_other, bit_at_clear_same, bit_at_clear_other}
 use Rattle.merge_core.specs.declared.cell.Cell.{Cell}
 use Rattle.merge_core.specs.declared.cell.Cell.TheVariants.{Out, Taken, Ann, Fin}
 use Rattle.merge_core.specs.declared.record.RecordState.{RecordState}
@@ -14,7 +14,7 @@ use Rattle.merge_core.specs.Sums.{one_if, number_of_cells}
 use Rattle.merge_core.specs.Moved.{has_moved, moved_rows}
 use Rattle.merge_core.specs.Book.{BookState, record_at, row_in, counter_of, shape_in, book_shape}
 use Rattle.merge_core.specs.Changes.{keeps_counter, KeepsOwn}
-use Rattle.merge_core.specs.Marked.{IsMarked, MarksMoved, MarksRow}
+use Rattle.merge_core.specs.Marked.{IsMarked, MarksMoved, MarksRow, UnmarksRow}
 use Rattle.merge_core.proofs.SumLemmas.{total_le, total_zero}
 use Rattle.merge_core.proofs.BookLemmas.{RaisesIn, with_record, record_at-same, record_at-other, book_shape-same, read_record}
 
@@ -210,3 +210,54 @@ marks_set marks r s k m at_r below within read = record {
         bit_of u was (inl here) = bit_here u (inl here)
         bit_of u was (inr apart) = bit_here u (inr (apart, ap (λ x. bit_at x u) there ∙ was))
     at q t is (inr apart) = rw (get_or-set_other marks k q (bit_or m (1 * 2 ^ s % 65536)) 0 apart) is
+
+-- ---- a mark is cleared
+
+pub marks_unset : (marks : List ℕ) (r s k m : ℕ) → k ≡ r → k < length marks → s < 16 → m ≡ get_or marks k m
+    → UnmarksRow r s marks (set marks k (bit_and m (bit_not w16 (1 * 2 ^ s % 65536))))
+marks_unset marks r s k m at_r below within read = record {
+  as_many = length-set marks k (bit_and m (bit_not w16 (1 * 2 ^ s % 65536)));
+  here = rw (← at_r) gone;
+  others = λ q t low apart is. at q t low (apart_of q t apart) is (cases_eq q k);
+}
+  where
+    new : List ℕ
+    new = set marks k (bit_and m (bit_not w16 (1 * 2 ^ s % 65536)))
+
+    there : m ≡ get_or marks k 0
+    there = read ∙ get_or_default marks k m 0 below
+
+    mask_is : get_or new k 0 ≡ bit_and m (bit_not w16 (1 * 2 ^ s % 65536))
+    mask_is = get_or-set_same marks k (bit_and m (bit_not w16 (1 * 2 ^ s % 65536))) 0 below
+
+    gone : ¬ IsMarked new k s
+    gone is = let none : bit_at (get_or new k 0) s ≡ 0 = ap (λ x. bit_at x s) mask_is ∙ bit_at_clear_same w16 m s within in omega (arith, is, none)
+
+    apart_of : (q t : ℕ) → (q ≢ r) ⊎ (t ≢ s) → (q ≢ k) ⊎ (t ≢ s)
+    apart_of q t (inl apart) = inl (λ e. apart (e ∙ at_r))
+    apart_of q t (inr apart) = inr apart
+
+    at : (q t : ℕ) → t < 16 → (q ≢ k) ⊎ (t ≢ s) → IsMarked marks q t → (q ≡ k) ⊎ (q ≢ k) → IsMarked new q t
+    at q t low (inl apart) is (inl same) = absurd (apart same)
+    at q t low (inr apart) is (inl same) =
+        rw same
+        (ap (λ x. bit_at x t) mask_is
+        ∙ (bit_at_clear_other w16 m s within t low apart
+        ∙ (ap (λ x. bit_at x t) there ∙ subst (λ x. IsMarked marks x t) same is)))
+    at q t low either is (inr apart) = rw (get_or-set_other marks k q (bit_and m (bit_not w16 (1 * 2 ^ s % 65536))) 0 apart) is
+
+-- the marks of a book, without that of a row at its start
+pub marks_cleared : (b : BookState) (r s : ℕ) (marks new : List ℕ) → b.sites ≤ 16 → MarksMoved b marks → has_moved (book_shape b) (counter_of b) r s ≡ false
+    → UnmarksRow r s marks new → MarksMoved b new
+marks_cleared b r s marks new few old still row = record {
+  as_many = row.as_many ∙ old.as_many;
+  marked = λ q t inside site moved. at q t inside site moved (cases_eq q r) (cases_eq t s);
+}
+  where
+    at : (q t : ℕ) → q < length b.records → t < b.sites → has_moved (book_shape b) (counter_of b) q t ≡ true → (q ≡ r) ⊎ (q ≢ r) → (t ≡ s) ⊎ (t ≢ s) → IsMarked new q t
+    at q t inside site moved (inl here) (inl same_site) =
+        let here_too : has_moved (book_shape b) (counter_of b) r s ≡ true =
+        subst (λ x. has_moved (book_shape b) (counter_of b) r x ≡ true) same_site (subst (λ x. has_moved (book_shape b) (counter_of b) x t ≡ true) here moved) in
+        absurd (cc)
+    at q t inside site moved (inl here) (inr apart) = row.others q t (omega arith) (inr apart) (old.marked q t inside site moved)
+    at q t inside site moved (inr apart) at_site = row.others q t (omega arith) (inl apart) (old.marked q t inside site moved)

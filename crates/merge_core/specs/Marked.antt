@@ -1,5 +1,5 @@
 -- Which rows of a book may have left their start, as a book remembers it beside its counters.
-use Rattle.std.specs.Prelude.{◌≡◌, ℕ, ◌<◌, List, length, slice_index, IsTrue}
+use Rattle.std.specs.Prelude.{◌≡◌, ◌≢◌, ◌⊎◌, ℕ, ◌<◌, List, length, slice_index, IsTrue}
 use Rattle.std.specs.Int.{bit_at}
 use Rattle.merge_core.specs.Book.{BookState, book_shape, counter_of}
 use Rattle.merge_core.specs.Moved.{has_moved}
@@ -18,3 +18,9 @@ pub record MarksRow (r s : ℕ) (old new : List ℕ) : Type 0 where
   pub as_many : length new ≡ length old
   pub here : IsMarked new r s
   pub others : (q t : ℕ) → IsMarked old q t → IsMarked new q t
+
+-- one row is marked no more, and each of the others that was marked still is
+pub record UnmarksRow (r s : ℕ) (old new : List ℕ) : Type 0 where
+  pub as_many : length new ≡ length old
+  pub here : ¬ IsMarked new r s
+  pub others : (q t : ℕ) → t < 16 → (q ≢ r) ⊎ (t ≢ s) → IsMarked old q t → IsMarked new q t

@@ -3,10 +3,11 @@ ghost use Rattle.merge_core.specs.Book.{nothing_known, IsRecord};
 ghost use Rattle.merge_core.specs.Kept.{KeepsOwnIn};
 
 use super::Book;
+use super::marks::unmark;
 use crate::record::RecordState;
 
 impl Book {
-    ghost use Rattle.std.specs.Prelude.{◌<◌};
+    ghost use Rattle.std.specs.Prelude.{◌≡◌, ◌<◌, length};
     ghost use Rattle.merge_core.specs.Book.{IsBook};
     ghost use Rattle.merge_core.specs.Changes.{KeepsOwn};
 
@@ -18,6 +19,44 @@ impl Book {
         ensures book { IsBook self.new }
     {
         keep_records(self.sites, &mut self.records, site);
+        self.clear_marks();
+    }
+
+    // Clears the mark of each row that is at its start, so that no snapshot looks at it again.
+    fn clear_marks(&mut self)
+        ensures same { self.new ≡ self.old }
+        ensures book { IsBook self.new }
+    {
+        let _ = &self.sites; // tells the invariant, which the loop keeps
+        for r in 0..self.records.len() {
+            self.clear_marks_in(r as u16);
+        }
+    }
+
+    // Clears the mark of each row of record `r` that is at its start.
+    fn clear_marks_in(&mut self, r: u16)
+        requires { r < length self.old.records }
+        ensures same { self.new ≡ self.old }
+        ensures book { IsBook self.new }
+    {
+        if self.is_unmoved(r) {
+            return;
+        }
+        for s in 0..self.sites {
+            self.clear_mark(r, s);
+        }
+    }
+
+    // Clears the mark of the row of site `s` for record `r`, if the row is at its start.
+    fn clear_mark(&mut self, r: u16, s: u16)
+        requires record { r < length self.old.records }
+        requires site { s < self.old.sites }
+        ensures same { self.new ≡ self.old }
+        ensures book { IsBook self.new }
+    {
+        if !self.has_moved(r, s) {
+            unmark(&mut self.marks, r, s);
+        }
     }
 }
 

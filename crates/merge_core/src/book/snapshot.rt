@@ -97,7 +97,7 @@ impl Book {
     }
 
     // Whether no row of record `r` is marked, so that none has left its start.
-    fn is_unmoved(&self, r: u16) -> bool
+    pub(super) fn is_unmoved(&self, r: u16) -> bool
         requires { r < length self.now.records }
         ensures { IsTrue result → moved_rows (book_shape self.now) (counter_of self.now) r self.now.sites ≡ [] }
     {
@@ -125,7 +125,7 @@ impl Book {
     }
 
     // Whether a counter of the row of site `s` for record `r` has left its start.
-    fn has_moved(&self, r: u16, s: u16) -> bool
+    pub(super) fn has_moved(&self, r: u16, s: u16) -> bool
         requires record { r < length self.now.records }
         requires site { s < self.now.sites }
         ensures { result ≡ has_moved (book_shape self.now) (counter_of self.now) r s }

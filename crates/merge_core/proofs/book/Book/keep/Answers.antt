@@ -1,6 +1,6 @@
 use Rattle.merge_core.specs.Book.{BookState}
 use Rattle.merge_core.specs.Changes.{KeepsOwn}
-use Rattle.std.proofs.Common.{subst, refl, arith}
+use Rattle.std.proofs.Common.{subst, sym, refl, arith}
 use Rattle.merge_core.proofs.MarkLemmas.{marks_kept}
 use Rattle.merge_core.proofs.KeepLemmas.{KeepsOwn-records}
 use Rattle.merge_core.proofs.book.Book.keep.Goals as goal
@@ -18,5 +18,7 @@ invariant_of-self c =
 pub returns-clause-counters : goal.returns-clause-counters
 returns-clause-counters c =
     let new : BookState = record { sites = c.self.inside.sites; records = c.keep_records.new.records.items } in
+    let kept : KeepsOwn c.args.site c.args.self.now new =
     subst (λ (b : BookState). KeepsOwn c.args.site b new) c.self.view_is
-    (KeepsOwn-records c.args.site c.self.inside.sites c.self.inside.records.items c.keep_records.new.records.items c.keep_records.ensures.size c.keep_records.ensures.kept)
+    (KeepsOwn-records c.args.site c.self.inside.sites c.self.inside.records.items c.keep_records.new.records.items c.keep_records.ensures.size c.keep_records.ensures.kept) in
+    subst (λ (b : BookState). KeepsOwn c.args.site c.args.self.now b) (sym c.clear_marks.ensures.same) kept
