@@ -1,15 +1,15 @@
 -- Seats, site by site.
 use Rattle.std.proofs.Common.{◌≡◌, ◌≢◌, ℕ, ◌+◌, ◌-◌, ◌<◌, ◌≤◌, ◌⊎◌, inl, inr, Bool, true, false, cond, ltb, List, [], length, get_or, set, take, max, refl, sym, ap, ◌∙◌, arith}
-use Rattle.std.proofs.lemmas.List.{get_or-set_same, get_or-set_other, length-set, set-get_or}
+use Rattle.std.proofs.lemmas.List.{get_or-set_same, get_or-set_other, length-set, set-get_or, get_or-take, get_or_past, length-take-le}
 use Rattle.std.proofs.lemmas.Grind.{same_number_lists}
-use Rattle.std.proofs.lemmas.Bool.{cases_eq}
+use Rattle.std.proofs.lemmas.Bool.{cases_eq, cases_lt}
 use mir.Val.{bool_byte}
 use Rattle.grow_counters.specs.Counts.{counter_limit, maxima, rise_count, IsWithin}
 use Rattle.grow_counters.proofs.CountsLemmas.{length-maxima, get_or-maxima}
 use Rattle.rights_matrix.specs.Joined.{joined, joined_at}
 use Rattle.rights_matrix.specs.Matrix.{MatrixState, site_count, row_of, grant, entry, raised, IsMatrix, SameShape}
 use Rattle.rights_matrix.proofs.EntryLemmas.{entry-joined, entry-joined_at, entry-joined_at_other}
-use Rattle.rights_matrix.proofs.JoinLemmas.{IsMatrix-joined, IsMatrix-joined_at, length-joined_rows, joined_at-start, joined_at-more, rise_counts-more}
+use Rattle.rights_matrix.proofs.JoinLemmas.{IsMatrix-joined, IsMatrix-joined_at, length-joined_rows, joined_at-more, rise_counts-more}
 use Rattle.rights_matrix.proofs.RightsLemmas.{HasRights-joined_at}
 use Rattle.rights_matrix.proofs.StartLemmas.{zero_row, HasRights-start}
 use Rattle.seat_rows.specs.Seats.{SeatState, taken_at, returned_at, HasSeatRights, IsSeatState, IsValidSeatRow, start_seats, after_take, after_raise, joined_seats, joined_seats_at, seat_rises}
@@ -124,10 +124,6 @@ HasSeatRights-joined_at st s i taken row h inside fits other has =
 
 -- A row and a count joined so far, and one counter more.
 
-pub joined_seats_at-start : (st now : SeatState) (s taken : ℕ) → now ≡ record st { taken = set st.taken s (max (taken_at st s) taken) } → now ≡ joined_seats_at st s [] taken
-joined_seats_at-start st now s taken is_now =
-    is_now ∙ ap (λ (m : MatrixState). seats_of m (set st.taken s (max (taken_at st s) taken))) (joined_at-start st.matrix s)
-
 pub joined_seats_at-more : (st now : SeatState) (s j by taken : ℕ) (row : List ℕ) → IsMatrix st.matrix → s < site_count st.matrix → j < length row → length row ≤ site_count st.matrix → now ≡ joined_seats_at st s (take j row) taken → by ≡ get_or row j 0 - entry now.matrix s j → after_raise now s j by ≡ joined_seats_at st s (take (j + 1) row) taken
 joined_seats_at-more st now s j by taken row h inside in_row fits is_now is_by =
     let matrix : raised now.matrix s j by ≡ joined_at st.matrix s (take (j + 1) row) = joined_at-more st.matrix now.matrix s j by row h inside in_row fits (ap (λ (x : SeatState). x.matrix) is_now) is_by in
@@ -150,9 +146,24 @@ maxima-within : (xs ys : List ℕ) → length ys ≤ length xs → IsWithin ys x
 maxima-within xs ys fits within =
     same_number_lists (maxima xs ys) xs (length-maxima xs ys) (λ k below. omega (arith, get_or-maxima xs ys k fits, within k))
 
-pub joined_seats_at-within : (st now : SeatState) (s taken : ℕ) (row : List ℕ) → length row ≤ length (row_of st.matrix s) → IsWithin row (row_of st.matrix s)
+joined_seats_at-within : (st now : SeatState) (s taken : ℕ) (row : List ℕ) → length row ≤ length (row_of st.matrix s) → IsWithin row (row_of st.matrix s)
     → now ≡ record st { taken = set st.taken s (max (taken_at st s) taken) } → now ≡ joined_seats_at st s row taken
 joined_seats_at-within st now s taken row fits within is_now =
     is_now
     ∙ ap (λ (rows : List (List ℕ)). seats_of (record st.matrix { rows = rows }) (set st.taken s (max (taken_at st s) taken)))
     (sym (ap (set st.matrix.rows s) (maxima-within (row_of st.matrix s) row fits within) ∙ set-get_or st.matrix.rows s []))
+
+-- counters that are nowhere above are still nowhere above where those behind them are left out
+IsWithin-take : (xs ys : List ℕ) (first : ℕ) → first ≤ length xs → ((k : ℕ) → k < first → get_or xs k 0 ≤ get_or ys k 0) → IsWithin (take first xs) ys
+IsWithin-take xs ys first fits before k = by_place (cases_lt k first)
+  where
+    by_place : (k < first) ⊎ (first ≤ k) → get_or (take first xs) k 0 ≤ get_or ys k 0
+    by_place (inl below) = omega (arith, get_or-take first xs k 0 below, before k below)
+    by_place (inr past) = omega (arith, get_or_past (take first xs) k 0 (omega (arith, length-take-le first xs fits, past)))
+
+-- a row whose first counters are nowhere above the site's own is joined as far as these go
+pub joined_seats_at-first : (st now : SeatState) (s first taken : ℕ) (row : List ℕ) → first ≤ length row → length row ≤ length (row_of st.matrix s)
+    → ((k : ℕ) → k < first → get_or row k 0 ≤ get_or (row_of st.matrix s) k 0)
+    → now ≡ record st { taken = set st.taken s (max (taken_at st s) taken) } → now ≡ joined_seats_at st s (take first row) taken
+joined_seats_at-first st now s first taken row place fits before is_now =
+    joined_seats_at-within st now s taken (take first row) (omega (arith, length-take-le first row place, place, fits)) (IsWithin-take row (row_of st.matrix s) first place before) is_now

@@ -1,9 +1,9 @@
-ghost use Rattle.std.specs.Prelude.{◌≡◌, ℕ, ◌+◌, ◌-◌, ◌*◌, ◌<◌, ◌≤◌, max, if◌then◌else◌, length, slice_index, slice_set, None, Some, IfOk, OnOk, IsTrue, MatchResult};
+ghost use Rattle.std.specs.Prelude.{◌≡◌, ℕ, ◌+◌, ◌-◌, ◌*◌, ◌<◌, ◌≤◌, max, if◌then◌else◌, length, slice_index, slice_set, None, Some, IfOk, OnOk, MatchResult};
 ghost use Rattle.rights_matrix.specs.Changes.{MovesRights, SameRightsAt};
 ghost use Rattle.rights_matrix.specs.Kept.{kept_entry};
 ghost use Rattle.rights_matrix.specs.Matrix.{site_count, most_sites, grant, entry, start_entry, row_of, SameShape};
 ghost use Rattle.rights_matrix.specs.Transfer.{transfer_fault};
-ghost use Rattle.grow_counters.specs.Counts.{counter_limit, rise_count, IsWithin};
+ghost use Rattle.grow_counters.specs.Counts.{counter_limit, rise_count};
 ghost use Rattle.seat_rows.specs.Seats.{SeatState, taken_at, returned_at, inside_of, seat_rights, signed_rights, TellsRights, HasSeatRights, IsSeatState, IsValidSeatRow, start_seats, after_take, after_raise, joined_seats, joined_seats_at, seat_rises, kept_taken};
 ghost use Rattle.seat_rows.specs.Take.{take_fault};
 
@@ -223,8 +223,8 @@ impl SeatRow {
     }
 
     /// Raises the counters of site `s` to those of a valid row and a taken count, and answers how many rose.
-    /// Counters that the given row lacks stay. Linear in the length of the given row, which is only compared where it
-    /// tells nothing new.
+    /// Counters that the given row lacks stay. Linear in the length of the given row: compares counters up to the
+    /// first that is above the site's own, and raises from there on.
     pub fn join_row(&mut self, s: u16, given: &[u64], taken: u64) -> u64
         requires site { s < site_count self.old.matrix }
         requires size { length given.now ≤ site_count self.old.matrix }
@@ -235,10 +235,7 @@ impl SeatRow {
         ensures state { IsSeatState self.new }
     {
         let mut risen = u64::from(self.raise_taken(s, taken));
-        if is_within(given, self.rights.row(s)) {
-            return risen;
-        }
-        for j in 0..given.len() {
+        for j in first_above(given, self.rights.row(s))..given.len() {
             risen += u64::from(self.raise_entry(s, j as u16, given[j]) > 0);
         }
         risen
@@ -305,17 +302,19 @@ impl SeatRow {
     }
 }
 
-// Whether no counter is above the one at its place.
-fn is_within(given: &[u64], row: &[u64]) -> bool
+// The place of the first counter that is above the one at its place, or the length of `given` where none is.
+fn first_above(given: &[u64], row: &[u64]) -> usize
     requires { length given.now ≤ length row.now }
-    ensures { IsTrue result → IsWithin given.now row.now }
+    ensures place { result ≤ length given.now }
+    ensures before { (k : ℕ) → k < result → slice_index given.now k ≤ slice_index row.now k }
+    ensures above { result < length given.now → slice_index row.now result < slice_index given.now result }
 {
     for i in 0..given.len() {
         if given[i] > row[i] {
-            return false;
+            return i;
         }
     }
-    true
+    given.len()
 }
 
 // Adds up the number of each site anew. Linear in the number of counters.

@@ -1,43 +1,32 @@
-use Rattle.std.proofs.Common.{◌≡◌, ◌+◌, take, ltb, refl, sym, ap, subst, ◌∙◌, arith}
-use Rattle.grow_counters.specs.Counts.{IsWithin}
+use Rattle.std.proofs.Common.{◌≡◌, ℕ, ◌+◌, ◌<◌, ◌≤◌, List, slice_index, take, ltb, ap, subst, ◌∙◌, arith}
 use Rattle.rights_matrix.specs.Matrix.{MatrixState, row_of, IsMatrix}
 use Rattle.rights_matrix.proofs.JoinLemmas.{rise_counts-same}
 use Rattle.seat_rows.specs.Seats.{SeatState, joined_seats_at}
-use Rattle.seat_rows.proofs.SeatLemmas.{joined_seats_at-start, joined_seats_at-within, joined_seats_at-more, seat_rises-more, bool_byte_is}
+use Rattle.seat_rows.proofs.SeatLemmas.{joined_seats_at-first, joined_seats_at-more, seat_rises-more, bool_byte_is}
 use Rattle.seat_rows.proofs.seats.SeatRow.join_row.Goals as goal
 
-pub is_within-requires : goal.is_within-requires
-is_within-requires c =
+pub first_above-j-requires : goal.first_above-j-requires
+first_above-j-requires c =
     let same = ap (λ (x : SeatState). x.matrix) c.raise_taken.ensures.change in
     let matrix : IsMatrix c.args.self.now.matrix = subst (λ (m : MatrixState). IsMatrix m) same c.raise_taken.ensures.state.matrix in
     let here : c.self.inside.rights ≡ c.args.self.now.matrix = ap (λ (x : SeatState). x.matrix) c.self.view_is ∙ same in
     let row : c.row.result.now ≡ row_of c.args.self.now.matrix c.args.s = c.row.ensures ∙ ap (λ (m : MatrixState). row_of m c.args.s) here in
     rw row (omega (arith, matrix.square c.args.s c.requires.site, c.requires.size))
 
-pub returns-then-is_within : goal.returns-then-is_within
-returns-then-is_within c =
+pub loop-j-init : goal.loop-j-init
+loop-j-init c =
     let st = c.args.self.now in
     let same = ap (λ (x : SeatState). x.matrix) c.raise_taken.ensures.change in
     let matrix : IsMatrix st.matrix = subst (λ (m : MatrixState). IsMatrix m) same c.raise_taken.ensures.state.matrix in
     let here : c.self.inside.rights ≡ st.matrix = ap (λ (x : SeatState). x.matrix) c.self.view_is ∙ same in
     let row : c.row.result.now ≡ row_of st.matrix c.args.s = c.row.ensures ∙ ap (λ (m : MatrixState). row_of m c.args.s) here in
-    let within : IsWithin c.args.given.now (row_of st.matrix c.args.s) = subst (IsWithin c.args.given.now) row (c.if-is_within.ensures {u = tt} refl) in
+    let before : (k : ℕ) → k < c.first_above-j.result → slice_index c.args.given.now k ≤ slice_index (row_of st.matrix c.args.s) k
+    = subst (λ (xs : List ℕ). (k : ℕ) → k < c.first_above-j.result → slice_index c.args.given.now k ≤ slice_index xs k) row c.first_above-j.ensures.before in
     let one = bool_byte_is c.raise_taken.result in
     record {
-      change = joined_seats_at-within st c.raise_taken.new.self c.args.s c.args.taken c.args.given.now
-          (omega (arith, matrix.square c.args.s c.requires.site, c.requires.size)) within c.raise_taken.ensures.change;
-      risen = rw same (omega (arith, rise_counts-same st.matrix.rows, one, c.raise_taken.ensures.risen, c.from-risen.ensures));
-      few = omega (arith, one.1, c.from-risen.ensures);
-      state = c.raise_taken.ensures.state;
-    }
-
-pub loop-j-init : goal.loop-j-init
-loop-j-init c =
-    let same = ap (λ (x : SeatState). x.matrix) c.raise_taken.ensures.change in
-    let one = bool_byte_is c.raise_taken.result in
-    record {
-      state = joined_seats_at-start c.args.self.now c.raise_taken.new.self c.args.s c.args.taken c.raise_taken.ensures.change;
-      counted = rw same (omega (arith, rise_counts-same c.args.self.now.matrix.rows, one, c.raise_taken.ensures.risen, c.from-risen.ensures));
+      state = joined_seats_at-first st c.raise_taken.new.self c.args.s c.first_above-j.result c.args.taken c.args.given.now c.first_above-j.ensures.place
+          (omega (arith, matrix.square c.args.s c.requires.site, c.requires.size)) before c.raise_taken.ensures.change;
+      counted = rw same (omega (arith, rise_counts-same st.matrix.rows, one, c.raise_taken.ensures.risen, c.from-risen.ensures));
       few = omega (arith, one.1, c.from-risen.ensures);
       seats = c.raise_taken.ensures.state;
     }
