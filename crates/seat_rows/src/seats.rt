@@ -235,8 +235,9 @@ impl SeatRow {
         ensures state { IsSeatState self.new }
     {
         let mut risen = u64::from(self.raise_taken(s, taken));
-        for j in first_above(given, self.rights.row(s))..given.len() {
-            risen += u64::from(self.raise_entry(s, j as u16, given[j]) > 0);
+        let first = first_above(given, self.rights.row(s));
+        for j in first as u16..given.len() as u16 {
+            risen += u64::from(self.raise_entry(s, j, given[usize::from(j)]) > 0);
         }
         risen
     }
