@@ -1,6 +1,7 @@
 -- Where the first word of a line ends.
-use Rattle.std.proofs.Common.{◌≡◌, ℕ, zero, suc, ◌<◌, Bool, true, false, cond, ◌==◌, None, List, [], ◌∷◌, ◌++◌, length, take, drop, slice_index, refl, ap, arith}
+use Rattle.std.proofs.Common.{◌≡◌, ◌+◌, ◌-◌, ◌∙◌, ℕ, zero, suc, ◌<◌, Bool, true, false, cond, ◌==◌, None, List, [], ◌∷◌, ◌++◌, length, take, drop, slice_index, refl, sym, ap, arith, take_all}
 use Rattle.std.proofs.lemmas.Bool.{false_from_ne_true, eqb-true}
+use Rattle.std.proofs.lemmas.List.{length-drop}
 use Rattle.merge_core.specs.declared.layout.RecordSpec.{RecordSpec}
 use Rattle.script_text.specs.Words.{words_of, onto_word}
 use Rattle.script_text.specs.Asks.{record_in, holder_in, gift_in}
@@ -15,6 +16,15 @@ first_word (b ∷ bs) (suc k) within before here =
     let ordinary = false_from_ne_true (b == 32) (before 0 (omega arith)) in
     let rest = first_word bs k (omega arith) (λ j low. before (suc j) (omega arith)) here in
     rw ordinary (ap (onto_word b) rest)
+
+-- the same, with what stands behind the blank as a slice
+pub first_slice : (bs : List ℕ) (k : ℕ) → k < length bs
+    → ((j : ℕ) → j < k → (slice_index bs j == 32) ≡ true → ⊥) → (slice_index bs k == 32) ≡ true
+    → words_of bs ≡ take k bs ∷ words_of (take (length bs - (k + 1)) (drop (k + 1) bs))
+first_slice bs k within before here =
+    let whole : take (length bs - (k + 1)) (drop (k + 1) bs) ≡ drop (k + 1) bs = take_all _ _ (omega (arith, length-drop (k + 1) bs)) in
+    let next : k + 1 ≡ suc k = omega arith in
+    first_word bs k within before here ∙ ap (λ rest. take k bs ∷ words_of rest) (ap (λ n. drop n bs) (sym next) ∙ sym whole)
 
 -- there is no blank
 pub only_word : (bs : List ℕ)

@@ -2,4 +2,3 @@ pub mod Words
 pub mod Asks
 pub mod Replies
 pub mod Examples
-pub mod Blanks

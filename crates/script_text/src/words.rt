@@ -2,7 +2,6 @@
 ghost use Rattle.std.specs.Prelude.{◌≡◌, ◌++◌, ◌∷◌, [], if◌then◌else◌, Some, None, MatchOption};
 ghost use Rattle.std.specs.List.{list_all, position};
 ghost use Rattle.merge_core.specs.Layout.{is_name_byte, is_record_name};
-ghost use Rattle.script_text.specs.Blanks.{HasNoBlank, IsFirstBlank};
 ghost use Rattle.script_text.specs.Words.{words_of, number_word, short_word, has_this_name, no_record, record_word};
 
 use memchr::memchr;
@@ -12,24 +11,8 @@ use text_parts::{Unread, number_at, short_at};
 // Stands for every name that no record has: no layout has so many records.
 const NO_RECORD: u16 = u16::MAX;
 
-// So many bytes are looked at one by one before a search by larger steps begins: most words are shorter.
-const FEW: usize = 8;
-
-// The place of the first blank, if there is one. Linear in it.
-fn first_blank(line: &[u8]) -> Option<usize>
-    ensures { MatchOption result (HasNoBlank line.now) (IsFirstBlank line.now) }
-{
-    let few = line.len().min(FEW);
-    for i in 0..few {
-        if line[i] == b' ' {
-            return Some(i);
-        }
-    }
-    match memchr(b' ', &line[few..]) {
-        Some(i) => Some(few + i),
-        None => None,
-    }
-}
+// `memchr` searches a line of so many bytes by vectors, and a shorter one byte by byte.
+const WIDE: usize = 32;
 
 /// The first word of a line, and what stands behind its blank, if there is one. Linear in the word.
 pub fn cut_word(line: &[u8]) -> (&[u8], Option<&[u8]>)
@@ -40,10 +23,18 @@ pub fn cut_word(line: &[u8]) -> (&[u8], Option<&[u8]>)
         (line.now ≡ result.0.now)
         (λ rest. line.now ≡ result.0.now ++ 32 ∷ rest.now) }
 {
-    match first_blank(line) {
-        Some(end) => (&line[..end], Some(&line[end + 1..])),
-        None => (line, None),
+    if WIDE <= line.len() {
+        return match memchr(b' ', line) {
+            Some(end) => (&line[..end], Some(&line[end + 1..])),
+            None => (line, None),
+        };
     }
+    for end in 0..line.len() {
+        if line[end] == b' ' {
+            return (&line[..end], Some(&line[end + 1..]));
+        }
+    }
+    (line, None)
 }
 
 /// The number that the whole word is, in decimal digits without a sign or a leading zero. None from 2^64 on.

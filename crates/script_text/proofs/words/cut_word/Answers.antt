@@ -1,18 +1,18 @@
-use Rattle.std.proofs.Common.{◌≡◌, ◌+◌, ◌-◌, ◌∙◌, suc, ◌∷◌, length, take, drop, sym, ap, arith, take_all}
-use Rattle.std.proofs.lemmas.List.{length-drop}
-use Rattle.script_text.specs.Words.{words_of}
-use Rattle.script_text.proofs.WordLemmas.{first_word, only_word}
+use Rattle.std.proofs.Common.{◌==◌, ap, arith}
+use Rattle.script_text.proofs.WordLemmas.{first_slice, only_word}
 use Rattle.script_text.proofs.words.cut_word.Goals as goal
 
 pub returns-in-Some-clause-words : goal.returns-in-Some-clause-words
 returns-in-Some-clause-words c =
-    let bs = c.args.line.now in
-    let k = c.in-Some.end in
     let found = c.in-Some.ensures in
-    let whole : take (length bs - (k + 1)) (drop (k + 1) bs) ≡ drop (k + 1) bs = take_all _ _ (omega (arith, length-drop (k + 1) bs)) in
-    let next : k + 1 ≡ suc k = omega arith in
-    first_word bs k found.within (λ j low. found.before j low) found.here
-    ∙ ap (λ rest. take k bs ∷ words_of rest) (ap (λ n. drop n bs) (sym next) ∙ sym whole)
+    first_slice c.args.line.now c.in-Some.end found.0.high (λ j low. found.0.before j (omega arith) low) found.1
 
 pub returns-in-None-clause-words : goal.returns-in-None-clause-words
-returns-in-None-clause-words c = only_word c.args.line.now (λ j low. c.in-None.ensures j low)
+returns-in-None-clause-words c = only_word c.args.line.now (λ j low. c.in-None.ensures j (omega arith) low)
+
+pub returns-then-line-end-eq32-clause-words : goal.returns-then-line-end-eq32-clause-words
+returns-then-line-end-eq32-clause-words c =
+    first_slice c.args.line.now c.loop-end.end c.loop-end-test.true c.loop-end.invariant (ap (λ b. b == 32) c.if-line-end-eq32.true)
+
+pub returns-clause-words : goal.returns-clause-words
+returns-clause-words c = only_word c.args.line.now (λ j low. c.loop-end.invariant j (omega arith))
