@@ -1,5 +1,5 @@
 //! Counters in their order, and some put among others.
-ghost use Rattle.std.specs.Prelude.{◌≡◌, ◌+◌, ◌<◌, ◌≤◌, length, vec_len, vec_capacity, IfOk, OnOk, OnErr};
+ghost use Rattle.std.specs.Prelude.{◌≡◌, ◌+◌, ◌<◌, ◌≤◌, length, vec_len, vec_capacity, IfOk, MatchOption};
 ghost use Rattle.admission_model.specs.Durable.{AreRising, is_before, is_same_place, put_cell, put_cells};
 ghost use Rattle.durable_keeper.specs.Placing.{IsPlaceOf};
 
@@ -103,20 +103,59 @@ fn put_all_reserved(kept: &mut Vec<DurableCell>, put: &[DurableCell])
     }
 }
 
-/// Puts counters that rise at their places among others that rise, as [`put_cells`] does: a few in place, and more in one pass
-/// over all. Linear in both. Where memory runs out, the counters stay as they were.
-pub(crate) fn put_among(kept: &mut Vec<DurableCell>, put: &[DurableCell]) -> Result<(), AllocError>
-    requires put { AreRising put.now }
-    requires kept { AreRising kept.old.items }
-    ensures cells { OnOk result (kept.new.items ≡ put_cells put.now kept.old.items) }
-    ensures memory { OnErr result (kept.new.items ≡ kept.old.items) }
+// A new list of counters that rise, with a few more put at their places, and with room for about as many more. Linear.
+fn put_in_more_room(
+    alloc: Global,
+    put: &[DurableCell],
+    kept: &[DurableCell],
+) -> Result<Vec<DurableCell>, AllocError>
+    requires few { length put.now ≤ 4 }
+    requires kept { AreRising kept.now }
+    ensures { IfOk result (λ all. all.items ≡ put_cells put.now kept.now) }
 {
-    if put.len() <= FEW {
-        kept.reserve(put.len())?;
-        put_all_reserved(kept, put);
-        return Ok(());
+    let mut all = Vec::with_capacity(alloc, 2 * kept.len() + FEW)?;
+    all.extend_from_slice(kept)?;
+    put_all_reserved(&mut all, put);
+    Ok(all)
+}
+
+/// The list that takes the place of counters that rise, once others that rise are put among them, as [`put_cells`] makes it.
+/// `None` where only a few are put and there is room for them: [`put_among`] puts these in place. Linear in both.
+pub(crate) fn new_list(
+    kept: &Vec<DurableCell>,
+    put: &[DurableCell],
+) -> Result<Option<Vec<DurableCell>>, AllocError>
+    requires put { AreRising put.now }
+    requires kept { AreRising kept.now.items }
+    ensures { IfOk result (λ made. MatchOption made
+        (vec_len kept.now + length put.now ≤ vec_capacity kept.now)
+        (λ all. all.items ≡ put_cells put.now kept.now.items)) }
+{
+    let alloc = *kept.allocator();
+    if put.len() > FEW {
+        return Ok(Some(put_cells(alloc, put, kept.as_slice())?));
     }
-    let all = put_cells(*kept.allocator(), put, kept.as_slice())?;
-    *kept = all;
-    Ok(())
+    if kept.len() + put.len() <= kept.capacity() {
+        return Ok(None);
+    }
+    Ok(Some(put_in_more_room(alloc, put, kept.as_slice())?))
+}
+
+/// Puts counters among those that are kept. The list that [`new_list`] made takes the place of the old one. Where it made
+/// none, the counters are put in the room that is there. Takes no memory.
+pub(crate) fn put_among(
+    kept: &mut Vec<DurableCell>,
+    put: &[DurableCell],
+    made: Option<Vec<DurableCell>>,
+)
+    requires kept { AreRising kept.old.items }
+    requires made { MatchOption made
+        (vec_len kept.old + length put.now ≤ vec_capacity kept.old)
+        (λ all. all.items ≡ put_cells put.now kept.old.items) }
+    ensures { kept.new.items ≡ put_cells put.now kept.old.items }
+{
+    match made {
+        Some(all) => *kept = all,
+        None => put_all_reserved(kept, put),
+    }
 }

@@ -2,7 +2,7 @@
 ghost use Rattle.std.specs.Prelude.{◌≡◌, ◌<◌, Some};
 ghost use Rattle.durable_keeper.specs.Keeping.{changed_sessions};
 
-use crate::cells::put_among;
+use crate::cells::{new_list, put_among};
 use crate::error::KeeperError;
 use crate::keeper::Keeper;
 use admission_core::{Change, Durable, DurableCell, Session, SessionChange};
@@ -38,7 +38,8 @@ fn change_sessions(sessions: &mut Sessions, change: Option<SessionChange>)
 }
 
 /// It keeps a site's durable part in memory, and never fails. It is lost with the process. A commit is linear in what is
-/// kept; one of a few counters searches for each, and moves only those behind one that is new.
+/// kept; one of a few counters searches for each, and moves only those behind one that is new. Where there is no room for
+/// these, it copies all into a new list with room for about as many more.
 pub struct MemoryKeeper {
     layout: Layout,
     site: u16,
@@ -106,8 +107,10 @@ impl Keeper for MemoryKeeper {
         if change.is_empty() {
             return Ok(());
         }
+        let put = change.cells();
+        let made = new_list(&self.cells, put)?;
         self.sessions.reserve()?;
-        put_among(&mut self.cells, change.cells())?;
+        put_among(&mut self.cells, put, made);
         change_sessions(&mut self.sessions, change.session());
         Ok(())
     }

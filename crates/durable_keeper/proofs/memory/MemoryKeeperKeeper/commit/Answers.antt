@@ -6,4 +6,4 @@ use Rattle.durable_keeper.proofs.memory.MemoryKeeperKeeper.commit.Goals as goal
 
 pub invariant_of-self-2 : goal.invariant_of-self-2
 invariant_of-self-2 c =
-    subst AreRising (sym c.in_ok-put_among.ensures.cells) (puts_rise c.cells.result.now c.self.inside.cells.items c.self.invariant)
+    subst AreRising (sym c.put_among.ensures) (puts_rise c.cells-put.result.now c.self.inside.cells.items c.self.invariant)
