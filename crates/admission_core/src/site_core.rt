@@ -56,7 +56,7 @@ impl SiteCore {
     ghost use Rattle.admission_model.specs.declared.ask.Ask.TheVariants.{Read, Announce, Quill, Leave, Give, Help};
     ghost use Rattle.admission_model.specs.declared.ask.Call.TheVariants.{Ask as AskCall, Merge};
     ghost use Rattle.admission_model.specs.declared.reply.Refusal.TheVariants.{Memory, WriterAnnounced};
-    ghost use Rattle.admission_model.specs.declared.reply.Reply.TheVariants.{Admitted, Left, Refused};
+    ghost use Rattle.admission_model.specs.declared.reply.Reply.TheVariants.{Admitted, Left, Merged, Refused};
     ghost use Rattle.admission_model.specs.Account.{Account, begin, start_origin};
     ghost use Rattle.admission_model.specs.Knowledge.{restarted};
     ghost use Rattle.admission_model.specs.View.{view_of, plan_of, problem_in};
@@ -197,7 +197,8 @@ impl SiteCore {
     /// again: `Merged`, with how many counters rose. Linear in the delta.
     pub fn merge_accepted(&mut self, delta: &Delta) -> Reply
         requires { reason (core_view self.old) (Merge delta.now) ≡ None }
-        ensures { IsServed self.old self.new (Merge delta.now) result }
+        ensures served { IsServed self.old self.new (Merge delta.now) result }
+        ensures merged { result ≡ Merged (raised_by (shape_of self.old.layout) (counter_of self.old.book) delta.now.rows) }
     {
         Reply::Merged(self.join(delta))
     }
