@@ -93,6 +93,7 @@ const SIXTEEN: Shape = Shape {
     sites: 16,
     records: 1,
     seats: 3,
+    home: 0,
     problem: 1,
 };
 

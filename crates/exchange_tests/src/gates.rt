@@ -18,7 +18,18 @@ pub enum TestGate {
     /// At turns that a seed picks, about half of them.
     Random(u64),
     /// At every turn; at turn 0 it counts itself, waits until so many gates have, and notes whether that came.
-    Meets { met: Shared, all: u64, seen: Shared },
+    Meets {
+        met: Shared,
+        all: u64,
+        seen: Shared,
+    },
+    /// At every turn; it counts how often it is asked, and at one turn it waits until another gate was asked so often.
+    Follows {
+        asked: Shared,
+        at: u64,
+        other: Shared,
+        often: u64,
+    },
 }
 
 // Whether the number is reached within so many turns.
@@ -55,6 +66,18 @@ impl Gate for TestGate {
                     if is_reached_soon(met, *all) {
                         seen.fetch_add(1, Ordering::SeqCst);
                     }
+                }
+                true
+            }
+            TestGate::Follows {
+                asked,
+                at,
+                other,
+                often,
+            } => {
+                asked.fetch_add(1, Ordering::SeqCst);
+                if turn == *at {
+                    let _ = is_reached_soon(other, *often);
                 }
                 true
             }

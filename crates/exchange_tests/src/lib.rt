@@ -21,6 +21,8 @@ mod pairs;
 #[cfg(test)]
 mod sites;
 #[cfg(test)]
+mod stops;
+#[cfg(test)]
 mod texts;
 #[cfg(test)]
 mod verdicts;

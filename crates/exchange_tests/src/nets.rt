@@ -16,6 +16,7 @@ pub const THREE: Shape = Shape {
     sites: 3,
     records: 1,
     seats: 3,
+    home: 0,
     problem: 2,
 };
 

@@ -6,6 +6,7 @@ use crate::gates::{Shared, TestGate};
 use crate::sites::{
     Job, Outcome, Shape, WRITER_FIRST, answered, closed, job_of, marks_of, opened, told,
 };
+use crate::stops::{Stop, ends_by_the_stop, stopping_gates, stopping_jobs};
 use crate::verdicts::full_verdict;
 use admission_core::{Ask, Refusal, Reply};
 use exchange_threads::Fate;
@@ -310,54 +311,30 @@ fn a_site_hears_of_the_other_sites_writer(rt: HostRuntime) {
     assert!(rt; found == Some((true, Verdict::Consistent)), "{found:?}");
 }
 
-// What stops a site: its log is full behind 16 entries, or its store fails at the first change.
-#[derive(Clone, Copy)]
-enum Stop {
-    Full,
-    Fails,
-}
-
-// Whether the marks of a site's runners say so.
-fn is_stopped(stop: Stop, marks: (u64, u64)) -> bool {
-    match stop {
-        Stop::Full => marks == (0, 2),
-        Stop::Fails => marks.0 >= 1 && marks.1 == 0,
-    }
-}
-
-// So many turns take the better part of a second, so that every thread runs long before they are over, also where some
-// start late; and a log has room for them.
-const LONG: u64 = 20_000;
-
-// Whether all four runners end where one site stops, with reports that fit, before the turns are over.
+// Whether all four runners end by the stop of one site, with reports that fit, and the verdict on both logs.
 fn stops<R: Threads + Wait + Sync>(
     rt: &R,
     alloc: Global,
-    site: usize,
+    site: u16,
     stop: Stop,
 ) -> Option<(bool, Verdict)> {
-    let (mut first, mut second) = pair_jobs(alloc, WRITER_FIRST, LONG);
-    first.limit = 65_536;
-    second.limit = 65_536;
-    second.before = Some(Ask::Announce { r: 0, h: 5 });
-    let stopped = if site == 0 { &mut first } else { &mut second };
-    match stop {
-        Stop::Full => stopped.limit = 16,
-        Stop::Fails => stopped.left = Some(1),
-    }
-    let gates = (TestGate::Always, TestGate::Always);
-    let ended = run_pair(rt, alloc, (&first, &second), gates)?.ok()?;
+    let (first, second) = stopping_jobs(alloc, site, stop);
+    let shape = first.shape;
+    let gates = stopping_gates(alloc, site, stop)?;
     let PairOutcome {
         first,
         second,
         there,
         back,
-    } = ended;
-    let marks = if site == 0 { first.marks } else { second.marks };
-    let early = there.out.turns < LONG && back.out.turns < LONG;
-    let fits = is_prefix(&there) && is_prefix(&back) && is_stopped(stop, marks);
-    let verdict = verdict_of(alloc, WRITER_FIRST, first, second)?;
-    Some((early && fits, verdict))
+    } = run_pair(rt, alloc, (&first, &second), gates)?.ok()?;
+    let ended = if site == 0 {
+        ends_by_the_stop(stop, &first, &there, &back)?
+    } else {
+        ends_by_the_stop(stop, &second, &back, &there)?
+    };
+    let fits = is_prefix(&there) && is_prefix(&back);
+    let verdict = verdict_of(alloc, shape, first, second)?;
+    Some((ended && fits, verdict))
 }
 
 #[test]
@@ -365,13 +342,15 @@ fn a_site_that_stops_ends_all_four_runners(rt: HostRuntime) {
     for (site, stop) in [
         (0, Stop::Full),
         (1, Stop::Full),
-        (0, Stop::Fails),
-        (1, Stop::Fails),
+        (0, Stop::Hears),
+        (1, Stop::Hears),
+        (0, Stop::Gives),
+        (1, Stop::Gives),
     ] {
         let found = stops(&rt, rt.alloc(), site, stop);
         assert!(rt;
             found == Some((true, Verdict::Consistent)),
-            "{site} {found:?}"
+            "{site} {stop:?} {found:?}"
         );
     }
 }
@@ -380,6 +359,7 @@ const MANY: Shape = Shape {
     sites: 2,
     records: 64,
     seats: 2,
+    home: 0,
     problem: 1,
 };
 

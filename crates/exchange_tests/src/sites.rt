@@ -15,12 +15,13 @@ use std::sync::{Arc, Wait};
 use std::thread::Threads;
 use test_keepers::{Fake, Fault, store_with};
 
-/// The sites, and the records with as many seats each, all at site 0.
+/// The sites, and the records with as many seats each, all at one site.
 #[derive(Clone, Copy)]
 pub struct Shape {
     pub sites: u16,
     pub records: u16,
     pub seats: u32,
+    pub home: u16,
     pub problem: u16,
 }
 
@@ -29,6 +30,7 @@ pub const TWO: Shape = Shape {
     sites: 2,
     records: 1,
     seats: 2,
+    home: 0,
     problem: 1,
 };
 
@@ -37,6 +39,7 @@ pub const WRITER_FIRST: Shape = Shape {
     sites: 2,
     records: 1,
     seats: 2,
+    home: 0,
     problem: 2,
 };
 
@@ -90,7 +93,7 @@ fn spec_of(alloc: Global, name: &str, shape: Shape) -> Option<RecordSpec> {
     Some(RecordSpec {
         name,
         seats: shape.seats,
-        home: 0,
+        home: shape.home,
         problem: shape.problem,
     })
 }

@@ -56,6 +56,7 @@ const TWO_RECORDS: Shape = Shape {
     sites: 2,
     records: 2,
     seats: 2,
+    home: 0,
     problem: 1,
 };
 
