@@ -1,5 +1,5 @@
 //! The lines of entries.
-ghost use Rattle.std.specs.Prelude.{◌≡◌, ◌++◌, codes, string_bytes, IfOk};
+ghost use Rattle.std.specs.Prelude.{◌≡◌, ◌++◌, [], codes, string_bytes, IfOk};
 ghost use Rattle.transcript_text.specs.Texts.{entry_text, entries_text};
 
 use crate::asks::push_call;
@@ -10,7 +10,28 @@ use script_text::push_reply;
 use std::alloc::{AllocError, Global};
 use text_parts::push_field;
 
-/// Writes the line of an entry, without its LF. Linear in its text.
+// Room for the texts of an entry, used again for each further entry.
+#[derive(Debug, Drop)]
+struct Parts {
+    call: String,
+    reply: String,
+}
+
+impl Parts {
+    // No text yet. Takes no memory.
+    fn new(alloc: Global) -> Parts
+        ensures call { string_bytes result.call ≡ [] }
+        ensures reply { string_bytes result.reply ≡ [] }
+    {
+        Parts {
+            call: String::new(alloc),
+            reply: String::new(alloc),
+        }
+    }
+}
+
+/// Writes the line of an entry, without its LF. Linear in its text. Where memory for the text of its call or of its reply
+/// runs out, nothing is written.
 pub fn push_entry(
     alloc: Global,
     text: &mut String,
@@ -19,42 +40,42 @@ pub fn push_entry(
 ) -> Result<(), AllocError>
     ensures { IfOk result (λ _. string_bytes text.new ≡ string_bytes text.old ++ entry_text layout.now.records entry.now) }
 {
-    let mut part = String::new(alloc);
-    push_through(&mut part, text, layout, entry)
+    let mut parts = Parts::new(alloc);
+    push_through(&mut parts, text, layout, entry)
 }
 
-// The same: the call, and then the reply, is first written into `part`, whose room serves further entries.
+// The same: the call and the reply are first written into `parts`.
 fn push_through(
-    part: &mut String,
+    parts: &mut Parts,
     text: &mut String,
     layout: &Layout,
     entry: &Entry,
 ) -> Result<(), AllocError>
     ensures { IfOk result (λ _. string_bytes text.new ≡ string_bytes text.old ++ entry_text layout.now.records entry.now) }
 {
-    part.clear();
-    push_call(part, layout, &entry.call)?;
+    parts.call.clear();
+    push_call(&mut parts.call, layout, &entry.call)?;
+    parts.reply.clear();
+    push_reply(&mut parts.reply, &entry.reply)?;
     text.push_str("{\"call\":\"")?;
-    push_escaped(text, part.as_str())?;
+    push_escaped(text, parts.call.as_str())?;
     push_field(text, "\",\"pass\":", u64::from(entry.pass))?;
-    part.clear();
-    push_reply(part, &entry.reply)?;
     text.push_str(",\"reply\":\"")?;
-    push_escaped(text, part.as_str())?;
+    push_escaped(text, parts.reply.as_str())?;
     text.push_str("\"}")?;
     Ok(())
 }
 
 // Writes the line of an entry, with its LF.
 fn push_line(
-    part: &mut String,
+    parts: &mut Parts,
     text: &mut String,
     layout: &Layout,
     entry: &Entry,
 ) -> Result<(), AllocError>
     ensures { IfOk result (λ _. string_bytes text.new ≡ string_bytes text.old ++ (entry_text layout.now.records entry.now ++ codes "\n")) }
 {
-    push_through(part, text, layout, entry)?;
+    push_through(parts, text, layout, entry)?;
     text.push_str("\n")
 }
 
@@ -67,9 +88,9 @@ pub fn push_entries(
 ) -> Result<(), AllocError>
     ensures { IfOk result (λ _. string_bytes text.new ≡ string_bytes text.old ++ entries_text layout.now.records entries.now) }
 {
-    let mut part = String::new(alloc);
+    let mut parts = Parts::new(alloc);
     for entry in entries {
-        push_line(&mut part, text, layout, entry)?;
+        push_line(&mut parts, text, layout, entry)?;
     }
     Ok(())
 }
