@@ -22,7 +22,7 @@ use Rattle.transcript_reader.specs.declared.numbers.Numbers.{Numbers}
 use Rattle.transcript_reader.specs.declared.numbers.Numbers.TheVariants.{NoNumber, OneNumber, TwoNumbers}
 use Rattle.transcript_text.specs.Texts.{nameless, record_text, ask_text, call_text}
 use Rattle.transcript_reader.specs.Fits.{FitsAsk, FitsCall}
-use Rattle.transcript_reader.specs.Words.{numbers_in, below, logged_record, ask_with, ask_in}
+use Rattle.transcript_reader.specs.Words.{numbers_in, below, logged_record, ask_with, ask_in, IsReadAs}
 use Rattle.transcript_reader.proofs.WordLemmas.{IsWord, word_first, word_last, decimal_word, short_again_word, one_number, two_numbers, below_again}
 
 -- ---- names
@@ -154,16 +154,22 @@ takes_nothing r (TwoNumbers to seats) = refl
 pub take_asks_nothing : (records : List RecordSpec) (text : List ℕ) → ask_in records (words_of (codes "take " ++ text)) ≡ None
 take_asks_nothing records text = other_verb records (codes "take") (words_of text) takes_nothing
 
+-- a call is read from its own text
+pub read_as : (records : List RecordSpec) (text : List ℕ) (call : Call) → text ≡ call_text records call → IsReadAs records text call
+read_as records text (AskCall ask) same = tt
+read_as records text (Merge delta) same = same
+read_as records text Snapshot same = same
+
 -- ---- the three ways of a reader
 
-same_ask : (layout : LayoutState) → IsLayout layout → (text : List ℕ) (ask : Ask) (call : Call) → Some ask ≡ ask_in layout.records (words_of text)
+pub asked_so : (layout : LayoutState) → IsLayout layout → (text : List ℕ) (ask : Ask) (call : Call) → Some ask ≡ ask_in layout.records (words_of text)
     → FitsCall call → text ≡ call_text layout.records call → AskCall ask ≡ call
-same_ask layout is text ask (AskCall a) found fits same =
+asked_so layout is text ask (AskCall a) found fits same =
     let twice : Some ask ≡ Some a = found ∙ (ap (λ (t : List ℕ). ask_in layout.records (words_of t)) same ∙ ask_again layout is a fits) in
     ap AskCall (same_Some ask a twice)
-same_ask layout is text ask (Merge d) found fits same =
+asked_so layout is text ask (Merge d) found fits same =
     absurd (none-some ask (sym (found ∙ (ap (λ (t : List ℕ). ask_in layout.records (words_of t)) same ∙ take_asks_nothing layout.records (delta_text d)))))
-same_ask layout is text ask Snapshot found fits same =
+asked_so layout is text ask Snapshot found fits same =
     absurd (none-some ask (sym (found ∙ ap (λ (t : List ℕ). ask_in layout.records (words_of t)) same)))
 
 abbrev OrMemory : Result Call Unread → Call → Type 0
@@ -172,13 +178,6 @@ OrMemory result call = (result ≡ Ok call) ⊎ (result ≡ Err NoRoom)
 ask_unread : (layout : LayoutState) → IsLayout layout → (text : List ℕ) (a : Ask) → None ≡ ask_in layout.records (words_of text) → FitsAsk a → text ≡ ask_text layout.records a → ⊥
 ask_unread layout is text a none fits same =
     none-some a (none ∙ (ap (λ (t : List ℕ). ask_in layout.records (words_of t)) same ∙ ask_again layout is a fits))
-
-pub asked_so : (layout : LayoutState) → IsLayout layout → (text : List ℕ) (ask : Ask) (call : Call) (result : Result Call Unread)
-    → Some ask ≡ ask_in layout.records (words_of text) → (text ≡ call_text layout.records (AskCall ask) → OrMemory result (AskCall ask))
-    → FitsCall call → text ≡ call_text layout.records call → OrMemory result call
-asked_so layout is text ask call result found asks fits same =
-    let it : AskCall ask ≡ call = same_ask layout is text ask call found fits same in
-    subst (OrMemory result) it (asks (same ∙ ap (call_text layout.records) (sym it)))
 
 pub merged_so : (layout : LayoutState) → IsLayout layout → (text delta : List ℕ) (call : Call) (result : Result Call Unread) → text ≡ codes "take " ++ delta
     → ((d : DeltaState) → IsDelta d → delta ≡ delta_text d → OrMemory result (Merge d)) → FitsCall call → text ≡ call_text layout.records call → OrMemory result call

@@ -1,17 +1,20 @@
 -- What the words of a call and of a reply say. For private clauses: that each text is read as what it was written for is
 -- proved in proofs/.
-use Rattle.std.specs.Prelude.{ℕ, ◌^◌, ◌==◌, nat_lt, List, [], ◌∷◌, codes, if◌then◌else◌, Option, Some, None}
+use Rattle.std.specs.Prelude.{◌≡◌, ℕ, ◌^◌, ◌==◌, nat_lt, List, [], ◌∷◌, codes, if◌then◌else◌, Option, Some, None}
 use Rattle.std.specs.Str.{bytes_eq}
 use Rattle.merge_core.specs.declared.layout.RecordSpec.{RecordSpec}
 use Rattle.session_list.specs.declared.session.Phase.TheVariants.{Reader, Writer, Waiting}
 use Rattle.admission_model.specs.declared.ask.Ask.{Ask}
 use Rattle.admission_model.specs.declared.ask.Ask.TheVariants.{Read, Announce, Quill, Leave, Give, Help}
+use Rattle.admission_model.specs.declared.ask.Call.{Call}
+use Rattle.admission_model.specs.declared.ask.Call.TheVariants.{Ask as AskCall, Merge, Snapshot}
 use Rattle.admission_model.specs.declared.reply.Refusal.{Refusal}
 use Rattle.admission_model.specs.declared.reply.Refusal.TheVariants.{NoRecord, BadHolder, AlreadyHere, CounterFull, WriterAnnounced, NoSeat, TooManyWriters, NotAnnounced, AlreadyInside, MissingSeats, NotHere, NoSite, ToSelf, ZeroSeats, TooFewRights, NoPlan, OtherLayout, BadRow, OwnRowAhead, Memory, Frozen, LogFull, StoreFault}
 use Rattle.admission_model.specs.declared.reply.Reply.{Reply}
 use Rattle.admission_model.specs.declared.reply.Reply.TheVariants.{Admitted, Announced, Left, Given, Gave, Merged, Refused}
 use Rattle.text_parts.specs.Readers.{◌>>=◌}
 use Rattle.script_text.specs.Words.{number_word, short_word, record_word}
+use Rattle.transcript_text.specs.Texts.{call_text}
 use Rattle.transcript_reader.specs.declared.numbers.Numbers.{Numbers}
 use Rattle.transcript_reader.specs.declared.numbers.Numbers.TheVariants.{NoNumber, OneNumber, TwoNumbers}
 
@@ -54,6 +57,12 @@ ask_in records (verb ∷ record_name ∷ words) = do
   numbers ← numbers_in words
   ask_with verb r numbers
 ask_in records words = None
+
+-- any text may be read as an ask, and any other call is read from its own text alone
+abbrev pub IsReadAs : List RecordSpec → List ℕ → Call → Type 0
+IsReadAs records text (AskCall ask) = Unit {0}
+IsReadAs records text (Merge delta) = text ≡ call_text records (Merge delta)
+IsReadAs records text Snapshot = text ≡ call_text records Snapshot
 
 -- a refusal without numbers
 abbrev pub plain_refusal : List ℕ → Option Refusal

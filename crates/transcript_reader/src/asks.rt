@@ -4,11 +4,11 @@ ghost use Rattle.merge_core.specs.declared.layout.RecordSpec.{RecordSpec};
 ghost use Rattle.merge_core.specs.Delta.{DeltaState, IsDelta};
 ghost use Rattle.delta_codec.specs.DeltaText.{delta_text};
 ghost use Rattle.admission_model.specs.declared.ask.Call.{Call as CallThere};
-ghost use Rattle.admission_model.specs.declared.ask.Call.TheVariants.{Ask as AskCall, Merge, Snapshot};
+ghost use Rattle.admission_model.specs.declared.ask.Call.TheVariants.{Merge, Snapshot};
 ghost use Rattle.script_text.specs.Words.{words_of};
 ghost use Rattle.transcript_text.specs.Texts.{call_text};
 ghost use Rattle.transcript_reader.specs.Fits.{FitsCall};
-ghost use Rattle.transcript_reader.specs.Words.{logged_record, held_ask, ask_with, ask_in};
+ghost use Rattle.transcript_reader.specs.Words.{logged_record, held_ask, ask_with, ask_in, IsReadAs};
 
 use crate::numbers::{Numbers, numbers_in, short_of};
 use admission_core::{Ask, Call};
@@ -83,32 +83,6 @@ fn ask_in(layout: &Layout, line: &[u8]) -> Option<Ask>
     ask_with(verb, r, numbers)
 }
 
-// Whether the text is that of the call, which is written to see it.
-fn is_text_of(
-    written: &mut String,
-    layout: &Layout,
-    call: &Call,
-    text: &[u8],
-) -> Result<bool, AllocError>
-    ensures { IfOk result (λ b. IsTrue b ↔ (text.now ≡ call_text layout.now.records call.now)) }
-{
-    written.clear();
-    push_call(written, layout, call)?;
-    Ok(written.as_bytes() == text)
-}
-
-// The call that asks this, if the text is its text.
-fn asked_call(written: &mut String, layout: &Layout, ask: Ask, text: &[u8]) -> Result<Call, Unread>
-    ensures sound { IfOk result (λ call. text.now ≡ call_text layout.now.records call) }
-    ensures only { text.now ≡ call_text layout.now.records (AskCall ask) → (result ≡ Ok (AskCall ask)) ⊎ (result ≡ Err Unread.Memory) }
-{
-    let call = Call::Ask(ask);
-    if is_text_of(written, layout, &call, text)? {
-        return Ok(call);
-    }
-    Err(Unread::Refused)
-}
-
 // The call that takes the delta of a text, which need not be written again: just one text is read as a delta.
 fn merge_in(alloc: Global, bytes: &[u8]) -> Result<Call, Unread>
     ensures sound { IfOk result (λ call. (records : List RecordSpec) → codes "take " ++ bytes.now ≡ call_text records call) }
@@ -141,14 +115,10 @@ fn snapshot_in(text: &[u8]) -> Result<Call, Unread>
     Err(Unread::Refused)
 }
 
-/// The call whose text this is. What an ask is compared with is written into `written`. Linear in the text.
-pub(crate) fn call_in(
-    alloc: Global,
-    written: &mut String,
-    layout: &Layout,
-    text: &[u8],
-) -> Result<Call, Unread>
-    ensures sound { IfOk result (λ call. text.now ≡ call_text layout.now.records call) }
+/// The call that a text is read as. Linear in the text. A text that is that of no call may be read as an ask, which
+/// [`is_call_text`] tells.
+pub(crate) fn call_in(alloc: Global, layout: &Layout, text: &[u8]) -> Result<Call, Unread>
+    ensures sound { IfOk result (IsReadAs layout.now.records text.now) }
     ensures only { (call : CallThere) → FitsCall call → text.now ≡ call_text layout.now.records call → (result ≡ Ok call) ⊎ (result ≡ Err Unread.Memory) }
 {
     let _ = layout.sites(); // tells the invariant: no two records have one name
@@ -156,7 +126,27 @@ pub(crate) fn call_in(
         return merge_in(alloc, delta);
     }
     if let Some(ask) = ask_in(layout, text) {
-        return asked_call(written, layout, ask, text);
+        return Ok(Call::Ask(ask));
     }
     snapshot_in(text)
+}
+
+/// Whether the text is that of the call that it was read as. An ask is written into `written` to see it. Linear in the text.
+pub(crate) fn is_call_text(
+    written: &mut String,
+    layout: &Layout,
+    call: &Call,
+    text: &[u8],
+) -> Result<bool, AllocError>
+    requires { IsReadAs layout.now.records text.now call.now }
+    ensures { IfOk result (λ b. IsTrue b ↔ (text.now ≡ call_text layout.now.records call.now)) }
+{
+    match call {
+        Call::Ask(_) => {
+            written.clear();
+            push_call(written, layout, call)?;
+            Ok(written.as_bytes() == text)
+        }
+        Call::Merge(_) | Call::Snapshot => Ok(true),
+    }
 }

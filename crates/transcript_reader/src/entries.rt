@@ -8,7 +8,7 @@ ghost use Rattle.transcript_reader.specs.Fits.{FitsEntry};
 ghost use Rattle.transcript_reader.specs.Readers.{entry_parts};
 ghost use Rattle.transcript_reader.specs.Lines.{StopsAt};
 
-use crate::asks::call_in;
+use crate::asks::{call_in, is_call_text};
 use crate::quoted::quoted_behind;
 use crate::replies::reply_in;
 use desk_log::Entry;
@@ -41,15 +41,18 @@ fn entry_parts(texts: &mut Texts, line: &[u8]) -> Result<u16, Unread>
     Ok(pass)
 }
 
-// The entry of a line. Linear in it.
+// The entry of a line. Linear in it. A line is refused for its reply before its ask is written.
 fn entry_in(alloc: Global, layout: &Layout, texts: &mut Texts, line: &[u8]) -> Result<Entry, Unread>
     ensures sound { IfOk result (λ e. line.now ≡ entry_text layout.now.records e) }
     ensures only { (e : EntryThere) → FitsEntry e → line.now ≡ entry_text layout.now.records e → (result ≡ Ok e) ⊎ (result ≡ Err Unread.Memory) }
 {
     let pass = entry_parts(texts, line)?;
-    let call = call_in(alloc, &mut texts.written, layout, texts.call.as_slice())?;
+    let call = call_in(alloc, layout, texts.call.as_slice())?;
     let reply = reply_in(alloc, &mut texts.written, texts.reply.as_slice())?;
-    Ok(Entry { pass, call, reply })
+    if is_call_text(&mut texts.written, layout, &call, texts.call.as_slice())? {
+        return Ok(Entry { pass, call, reply });
+    }
+    Err(Unread::Refused)
 }
 
 /// The entries of the first lines, up to one that is no entry, and the bytes from there on. Linear in their lines.
