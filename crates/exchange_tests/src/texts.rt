@@ -8,7 +8,6 @@ use std::alloc::Global;
 use std::sync::Wait;
 use std::thread::Threads;
 
-// Two sites, one record with two seats.
 // A text with a blank, one that is cut, and one of a layout of three sites.
 static UNFIT: [&str; 3] = [
     "{\"from\":0, \"rows\":[{\"ann\":0,\"fin\":0,\"out\":[2,1],\"r\":0,\"s\":0,\"taken\":0}],\"v\":1}",
