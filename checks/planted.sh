@@ -12,19 +12,11 @@
 # The exit status is 1 where a body was not refused, could not be applied, or was not tried.
 set -eu
 cd "$(dirname "$0")/.."
+. checks/copied_tree.sh
 work=$(mktemp -d)
 trap 'rm -rf "$work"' EXIT
 
-mkdir "$work/crates" "$work/.git"
-cp crates.txt HANDLES "$work/"
-for crate in crates/*/; do
-    name=$(basename "$crate")
-    mkdir "$work/crates/$name"
-    for part in src specs proofs must-fail planted; do
-        [ -d "$crate$part" ] && cp -R "$crate$part" "$work/crates/$name/"
-    done
-    if [ -f "${crate}out/rlib/stamp" ]; then mkdir "$work/crates/$name/out" && cp -R "${crate}out/rlib" "$work/crates/$name/out/"; fi
-done
+copy_tree "$work"
 
 [ $# -gt 0 ] || set -- $(cd crates && ls -d */must-fail */planted 2>/dev/null | sed 's|/.*||' | sort -u)
 for name in "$@"; do
