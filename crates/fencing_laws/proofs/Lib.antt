@@ -1,0 +1,15 @@
+pub mod SeatLemmas
+pub mod FollowLemmas
+pub mod FenceLemmas
+pub mod LeaveLemmas
+pub mod EarlierLemmas
+pub mod StayLemmas
+pub mod FairLemmas
+pub mod HearLemmas
+pub mod EnterLemmas
+pub mod NumberLemmas
+pub mod WellToldLemmas
+pub mod RememberLemmas
+pub mod ResourceLemmas
+pub mod InstanceLemmas
+pub mod FullLemmas

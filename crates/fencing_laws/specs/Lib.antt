@@ -1,0 +1,4 @@
+pub mod Fences
+pub mod Entering
+pub mod Examples
+pub mod Resource
