@@ -39,7 +39,7 @@ IsFair r w u (Thin i k l) = ⊥
 IsFair r w u (Restart i) = ⊥
 IsFair r w u (Grow i) = Unit {0}
 
--- the same of each event of a list, in the world that the earlier ones lead to
+-- each event of a list is fair, in the world that the earlier ones lead to
 abbrev pub AreFair : ℕ → ℕ → List Event → World → Type 0
 AreFair r w [] u = Unit {0}
 AreFair r w (event ∷ events) u = IsFair r w u event × AreFair r w events (happens u event)

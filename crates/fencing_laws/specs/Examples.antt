@@ -42,15 +42,15 @@ second_message_sent = first_writer ++ (first_leaves ++ seats_go_on)
 abbrev pub second_writer : List Event
 second_writer = Call 2 (Announce 0 6) ∷ (Call 2 (Quill 0 6) ∷ [])
 
--- .. which took the second message whole
+-- the first writer leaves; site 2 takes the second message whole, and a writer enters there
 abbrev pub taken_whole : List Event
 taken_whole = first_leaves ++ (seats_go_on ++ (Take 2 1 ∷ second_writer))
 
--- .. or thin, without the rows of the first one, which it never took
+-- the same, but it takes the second message thin, without the rows of the first one, which it never took
 abbrev pub taken_thin : List Event
 taken_thin = first_leaves ++ (seats_go_on ++ (Thin 2 1 0 ∷ second_writer))
 
--- .. or thin, after it took the first one
+-- the same, after it took the first one
 abbrev pub both_taken : List Event
 both_taken = first_leaves ++ (seats_go_on ++ (Take 2 0 ∷ (Thin 2 1 0 ∷ second_writer)))
 
@@ -63,10 +63,11 @@ two_readers =
 abbrev pub writers_wait : List Event
 writers_wait = Call 0 (Read 0 1) ∷ (Call 1 (Announce 0 2) ∷ (Call 2 (Announce 0 6) ∷ []))
 
--- the token of a reader, and of a writer
+-- the token of a reader with this number
 abbrev pub reader_with : ℕ → Token
 reader_with n = record { writes = false; number = n }
 
+-- the token of a writer with this number
 abbrev pub writer_with : ℕ → Token
 writer_with n = record { writes = true; number = n }
 

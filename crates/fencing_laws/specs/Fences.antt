@@ -19,7 +19,7 @@ use Rattle.multi_site_world.specs.World.{World, account_at, happens}
 abbrev pub fence : World → ℕ → ℕ → ℕ
 fence w i r = total w.layout.sites (λ s. known (account_at w i) r s Fin)
 
--- the same as the site itself counts it, over the sites that it knows
+-- the number that the site itself counts, over the sites that it knows
 abbrev pub number_of : Account → ℕ → ℕ
 number_of a r = total a.sites (λ s. known a r s Fin)
 
@@ -37,7 +37,7 @@ IsWellTold w (Thin i k l) = (earlier : DeltaState) → slice_get w.sent l ≡ So
 IsWellTold w (Restart i) = Unit {0}
 IsWellTold w (Grow i) = Unit {0}
 
--- the same of each event of a list, in the world that the earlier ones lead to
+-- each event of a list is well told, in the world that the earlier ones lead to
 abbrev pub AreWellTold : List Event → World → Type 0
 AreWellTold [] w = Unit {0}
 AreWellTold (event ∷ events) w = IsWellTold w event × AreWellTold events (happens w event)

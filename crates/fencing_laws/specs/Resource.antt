@@ -34,14 +34,14 @@ abbrev pub greater_of : Option ℕ → ℕ → ℕ
 greater_of None n = n
 greater_of (Some m) n = max m n
 
--- what it remembers once it let in one more
+-- what a resource remembers once it let in one more
 abbrev pub with_token : Seen → Token → Seen
 with_token seen it = record {
   greatest = max seen.greatest it.number;
   of_writers = if it.writes then Some (greater_of seen.of_writers it.number) else seen.of_writers;
 }
 
--- what it remembers of all that it let in, of which the last stands first
+-- what a resource remembers of all that it let in, of which the last stands first
 abbrev pub seen_of : List Token → Seen
 seen_of [] = record { greatest = 0; of_writers = None }
 seen_of (it ∷ rest) = with_token (seen_of rest) it
@@ -51,7 +51,7 @@ abbrev pub is_above : Option ℕ → ℕ → Bool
 is_above None n = true
 is_above (Some m) n = nat_lt m n
 
--- whether it lets in one more, by what it remembers
+-- whether a resource lets in one more, by what it remembers
 abbrev pub lets_in : Seen → Token → Bool
 lets_in seen it = if it.writes then nat_le seen.greatest it.number else is_above seen.of_writers it.number
 
