@@ -56,11 +56,9 @@ tell $? "every example prints what stands beside it, without a build"
 checks/guide.py >"$work/output" 2>&1 && [ "$(builds)" = 0 ]
 tell $? "the guide's commands print what it shows: $(tail -1 "$work/output")"
 ./seat_cli ask --create --site 0 --store "$work/site_0.db" show a >"$work/output" 2>&1 && [ "$(cat "$work/output")" = "rights 2 inside 0 unfinished 0" ]
-tell $? "the README's third command makes a store and shows its seats"
-./seat_cli run --out "$work/sites.log" --layout examples/three_sites.toml <examples/at_once.script 2>"$work/errors" | cmp -s - examples/at_once.txt
-tell $? "the README's fourth command runs three sites at once"
-./seat_cli judge --layout examples/three_sites.toml <"$work/sites.log" 2>"$work/errors" | tail -1 | grep -q '^consistent$' && [ "$(builds)" = 0 ]
-tell $? "the README's fifth command judges their logs"
+tell $? "a store is made, and its seats are shown"
+checks/readme.py >"$work/output" 2>&1 && [ "$(builds)" = 0 ]
+tell $? "the README's table, its other commands and its program in Python do what it says: $(tail -1 "$work/output")"
 cat examples/site_1.deltas examples/site_0.deltas | joins && [ ! -s "$work/errors" ] && [ "$(builds)" = 0 ]
 tell $? "the deltas of the examples join to examples/joined.txt, without a build"
 cat examples/site_0.deltas examples/site_1.deltas examples/site_0.deltas | joins && [ ! -s "$work/errors" ] && [ "$(builds)" = 0 ]
@@ -145,23 +143,34 @@ ends 5 "" "store refused StoreFault" site --site 0 --store examples </dev/null
 tell $? "5 for a folder in place of a store"
 ends 1 "refused NotHere" "" ask --site 0 --store "$work/site_0.db" leave a 9 </dev/null
 tell $? "1 for a call that is refused"
+ends 1 "refused BadWord 3" "" ask --site 0 --store "$work/site_0.db" read a x </dev/null
+tell $? "1 and the first wrong word of a call that can't be read"
 ends 5 "" "store refused NoStore" serve --site 0 --store "$work/mistyped.db" </dev/null && [ ! -e "$work/mistyped.db" ]
 tell $? "5 for a service without its store, and none is made"
 ends 5 "" "store refused Exists" serve --site 0 --store "$work/site_0.db" --create </dev/null
 tell $? "5 for a new store where one is"
 touch "$work/empty.db"
-ends 5 "" "store refused NoStore" serve --site 0 --store "$work/empty.db" </dev/null && [ ! -s "$work/empty.db" ] \
+ends 5 "" "store refused NoStore" serve --site 0 --store "$work/empty.db" </dev/null \
+    && ends 5 "" "store refused NoStore" ask --site 0 --store "$work/empty.db" show a </dev/null \
     && ends 0 "" "" serve --site 0 --store "$work/empty.db" --create </dev/null
 tell $? "an empty file is no store, and becomes one"
 ends 5 "" "store refused WrongGroup" ask --site 0 --store "$work/site_0.db" --group crew show a </dev/null
 tell $? "5 for the store of another group"
-ends 0 'crew {"from":0,"rows":[],"v":1}' "" ask --create --site 0 --store "$work/crew.db" --group crew send </dev/null
-tell $? "0 for a store of a group, whose deltas begin with its name"
+ends 0 'crew d6a41a2b6edb4b8d 49d0174c {"from":0,"rows":[],"v":1}' "" ask --create --site 0 --store "$work/crew.db" --group crew send </dev/null
+tell $? "0 for a store of a group, whose deltas have a mark that begins with its name"
 ends 5 "" "store refused WrongGroup" ask --site 0 --store "$work/crew.db" show a </dev/null \
     && ends 5 "" "store refused WrongSite" site --site 0 --store "$work/crew.db" </dev/null
 tell $? "5 for a group's store where none is named"
-ends 2 "" "group refused BadWord" ask --site 0 --store "$work/crew.db" --group Crew show a </dev/null
-tell $? "2 for a name that no group can have"
+ends 2 "" "group refused BadWord" ask --site 0 --store "$work/crew.db" --group Crew show a </dev/null \
+    && ends 2 "" "group refused BadWord" ask --site 0 --store "$work/crew.db" --group refused show a </dev/null \
+    && ends 2 "" "group refused Plain" ask --site 0 --store "$work/crew.db" --group crew --plain show a </dev/null
+tell $? "2 for a name that no group can have, and for a group beside --plain"
+ends 5 "" "store refused NoFolder" ask --create --site 0 --store "$work/nowhere/site_0.db" show a </dev/null && [ ! -e "$work/nowhere" ]
+tell $? "5 for a store in a folder that is not there"
+printf 'sites = 3\n[[record]]\nname = "a"\nseats = 2\nhome = 0\nproblem = 1\n' >"$work/wider.toml"
+ends 5 "" "store refused WrongLayout" ask --site 0 --store "$work/site_0.db" --layout "$work/wider.toml" show a </dev/null \
+    && ends 0 "rights 2 inside 0 unfinished 0" "" ask --site 0 --store "$work/site_0.db" show a </dev/null
+tell $? "5 for a layout with more sites, without --grow"
 ends 8 "" "log refused IsStore" serve --site 0 --store "$work/new.db" --create --log "$work/new.db" </dev/null && [ ! -e "$work/new.db" ]
 tell $? "8 for a log that is the store itself"
 echo "no log" >"$work/no.log"
@@ -172,6 +181,11 @@ tell $? "8 for a file that is no log, which stays; the new store is removed, and
 ends 8 "" "log refused NotTranscript" serve --site 0 --store "$work/new.db" --log "$work/no.log" </dev/null \
     && ends 0 "0" "" ask --site 0 --store "$work/new.db" sessions a </dev/null
 tell $? "8 for the same at a store that was there before, which stays"
+printf "no log" >"$work/no.log"
+ends 8 "" "log refused NotALog" serve --site 0 --store "$work/new.db" --log "$work/no.log" </dev/null && [ "$(cat "$work/no.log")" = "no log" ]
+tell $? "8 for a file without the end of a line, which stays"
+printf "leave a 1" | ends 0 "refused BadWord" "" serve --site 0 --store "$work/new.db"
+tell $? "0 for a last line that may be cut, which is not carried out"
 echo "0 send" | ends 4 "line 1 refused BadWord" "" run --out "$work/run.log" && [ -z "$(ls "$work"/run.log* 2>/dev/null)" ]
 tell $? "4 for a script that is refused, and no file for its logs"
 echo "0 leave a 1" | ends 0 "0: refused NotHere

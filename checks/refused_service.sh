@@ -11,8 +11,14 @@ set -eu
 program=$PWD/crates/seat_cli/out/seat_cli
 cd "$work"
 
-delta='{"from":0,"rows":[{"ann":0,"fin":0,"out":[2,0],"r":0,"s":0,"taken":2}],"v":1}'
-one='{"from":0,"rows":[{"ann":0,"fin":0,"out":[2,0],"r":0,"s":0,"taken":1}],"v":1}'
+digits() { # so many first digits of the SHA-256 of a text
+    printf %s "$1" | sha256sum | cut -c "1-$2"
+}
+marked() { # a delta behind its mark, in the built-in layout and no group
+    echo "- $(digits ";a,2,0,1" 16) $(digits "$1" 8) $1"
+}
+delta=$(marked '{"from":0,"rows":[{"ann":0,"fin":0,"out":[2,0],"r":0,"s":0,"taken":2}],"v":1}')
+one=$(marked '{"from":0,"rows":[{"ann":0,"fin":0,"out":[2,0],"r":0,"s":0,"taken":1}],"v":1}')
 
 # refused_in_turn WORD..: the words behind `serve` or `ask`, whose input is the file `lines`.
 refused_in_turn() {
@@ -23,9 +29,8 @@ refused_in_turn() {
         status=0
         REFUSE_NTH=$n REFUSE_MARK=mark LD_PRELOAD=./refuse.so "$program" "$@" <lines >out 2>errors || status=$?
         [ -e mark ] || break
-        create=
-        [ -s store ] || create=--create
-        kept=$("$program" ask $create --site 0 --store store sessions a 2>&1) || true
+        kept=$("$program" ask --site 0 --store store sessions a 2>&1) || true
+        [ "$kept" != "store refused NoStore" ] || kept=$("$program" ask --create --site 0 --store store sessions a 2>&1) || true
         verdict=consistent
         if [ -s log ]; then verdict=$("$program" judge <log 2>&1 | tail -n 1); fi
         case "$1 $status $(tr '\n' ';' <out) $(tr '\n' ';' <errors)|$kept|$verdict" in

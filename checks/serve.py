@@ -180,9 +180,10 @@ class Site(threading.Thread):
                 if reply is None:
                     self.faults.append(f"site {self.number} gave no answer to {line[:60]}: {self.process.stderr.read().decode().strip()}")
                     return
-                if reply.startswith(GROUP + " {"):
+                if reply.startswith(GROUP + " "):
                     self.shared.put(self.number, reply)
-                if reply.startswith(("refused StoreFault", "refused Frozen", "refused OwnRowAhead", "refused TooMany", "refused BadWord", "refused Memory")):
+                if reply.startswith(("refused StoreFault", "refused Frozen", "refused OwnRowAhead", "refused TooMany", "refused BadWord", "refused Memory",
+                                     "refused NoMark", "refused WrongGroup", "refused OtherRecords", "refused Damaged")):
                     self.faults.append(f"site {self.number}: {line[:60]} -> {reply}")
                     return
             self.stop()
@@ -233,7 +234,7 @@ def long_conversation(options, folder, log):
     """So many calls at one site; gives the peaks of memory behind the first hundredth and behind all, in kB."""
     words = [options.program, "serve", "--create", "--site", "0", "--store", f"long_{len(log)}.db", "--layout", "layout.toml", *log]
     process = subprocess.Popen(words, cwd=folder, stdin=subprocess.PIPE, stdout=subprocess.PIPE, bufsize=0)
-    lines = [("read a 7", "admitted"), ("sessions a", "1 7 reader"), ("send", "{"), ("leave a 7", "left reader"), ("reed", "refused BadWord")]
+    lines = [("read a 7", "admitted"), ("sessions a", "1 7 reader"), ("send", "- "), ("leave a 7", "left reader"), ("reed", "refused BadWord 1")]
     peaks = []
     for number in range(options.calls):
         line, start = lines[number % len(lines)]

@@ -17,6 +17,7 @@ its seats; after some events, the seats that sites show as free or taken are at 
 all have heard of all, exactly these. Stops at the first difference and leaves its files; else tells how often each reply
 came.
 """
+import hashlib
 import json
 import random
 import shutil
@@ -38,28 +39,40 @@ ENDS = (signal.SIGKILL, signal.SIGKILL, signal.SIGTERM, signal.SIGINT, signal.SI
 GROUP = "crew-1"
 
 
+def digest(text, digits):
+    return hashlib.sha256(text.encode()).hexdigest()[:digits]
+
+
 class Process:
-    """A site as a process of `serve` over a store."""
+    """A site as a process of `serve` over a store. Deltas go in and out without their marks, which are checked here."""
 
     def __init__(self, world, site, store, layout, more=()):
-        self.what, self.group = f"{store} of site {site}", world.group
+        self.what = f"{store} of site {site}"
+        records = "".join(";" + ",".join(str(it[key]) for key in ("name", "seats", "home", "problem")) for it in layout["record"])
+        self.mark = "" if world.group == "--plain" else f"{world.group or '-'} {digest(records, 16)} "
         Path(f"{store}.toml").write_text(scripts.toml(layout), "ascii")
         words = [world.program, "serve", "--site", str(site), "--store", store, "--layout", f"{store}.toml", *more]
-        words += ["--group", GROUP] * world.group
+        words += {"": [], "--plain": ["--plain"]}.get(world.group, ["--group", world.group])
         pipe = subprocess.PIPE
         self.process = subprocess.Popen(words, stdin=pipe, stdout=pipe, stderr=pipe)
 
+    def marked(self, text):
+        return f"{self.mark}{digest(text, 8)} {text}" if self.mark else text
+
     def call(self, line):
-        group = f"{GROUP} " * self.group
         try:
-            self.process.stdin.write((f"take {group}{line[5:]}" if line.startswith("take ") else line).encode() + b"\n")
+            self.process.stdin.write((f"take {self.marked(line[5:])}" if line.startswith("take ") else line).encode() + b"\n")
             self.process.stdin.flush()
         except BrokenPipeError:
             pass
         reply = self.process.stdout.readline().decode()
         if not reply.endswith("\n"):
             sys.exit(f"{self.what}: no reply to {line:.200}\n{self.process.stderr.read().decode()}")
-        return reply[:-1].removeprefix(group if reply.startswith(group + "{") else "")
+        reply, text = reply[:-1], reply[:-1].split(" ", 3)[-1]
+        if line == "send" and text.startswith("{"):
+            compare.compare(f"{self.what}: the mark", reply, self.marked(text))
+            return text
+        return reply
 
     def end(self, how=None):
         """Ends the process; gives its status and errors, where it came to the end of its input."""
@@ -73,7 +86,7 @@ class World(scripts.Script):
     """A script of `play` whose events are carried out by `serve` as they are made."""
 
     def __init__(self, program, rng, length, folder, counts):
-        self.program, self.folder, self.counts, self.group = program, folder, counts, rng.random() < 0.5
+        self.program, self.folder, self.counts, self.group = program, folder, counts, rng.choice(["", "--plain", GROUP])
         self.processes, self.runs, self.texts, self.copies, self.inside = {}, {}, [], [], {}
         super().__init__(rng, length)
         self.hear_all()
@@ -81,9 +94,9 @@ class World(scripts.Script):
             compare.compare(f"the end of {process.what}", str(process.end()), str((0, "")))
 
     def open(self, s):
-        first = s not in self.runs
         store, layout = f"{self.folder}/{s}.db", self.world.sites[s].layout
-        self.processes[s] = Process(self, s, store, layout, ["--log", f"{self.folder}/{s}.log", *["--create"] * first])
+        first, grows = s not in self.runs, s in self.runs and self.runs[s][-1][0] != layout
+        self.processes[s] = Process(self, s, store, layout, ["--log", f"{self.folder}/{s}.log", *["--create"] * first, *["--grow"] * grows])
         self.processes[s].call("sessions no-such-record")  # so the store is there before the process may be killed
         self.runs.setdefault(s, []).append((layout, []))
 

@@ -8,8 +8,8 @@ _seat_cli() {
         join) COMPREPLY=($(compgen -W "--help --layout" -- "$word")) ;;
         play) COMPREPLY=($(compgen -W "--from --help --layout --tables" -- "$word")) ;;
         site) COMPREPLY=($(compgen -W "--help --layout --site --store" -- "$word")) ;;
-        serve) COMPREPLY=($(compgen -W "--create --group --help --layout --log --site --store --wait" -- "$word")) ;;
-        ask) COMPREPLY=($(compgen -W "--create --group --help --layout --log --site --store --wait" -- "$word")) ;;
+        serve) COMPREPLY=($(compgen -W "--create --group --grow --help --layout --log --plain --site --store --wait" -- "$word")) ;;
+        ask) COMPREPLY=($(compgen -W "--create --group --grow --help --layout --log --plain --site --store --wait" -- "$word")) ;;
         judge) COMPREPLY=($(compgen -W "--cut --help --layout" -- "$word")) ;;
         run) COMPREPLY=($(compgen -W "--help --layout --out --turns" -- "$word")) ;;
         *) COMPREPLY=($(compgen -W "join play site serve ask judge run --help --version" -- "$word")) ;;

@@ -1,5 +1,6 @@
-"""What the tests share: the program, folders and layouts. Every test runs over the real program: the one that the variable
-ZINDUROI_PROGRAM names, or `seat_cli`."""
+"""What the tests share: the program, folders and layouts. Every test but those of `Fence` runs over the real program: the one
+that the variable ZINDUROI_PROGRAM names, or `seat_cli`."""
+import hashlib
 import os
 import pathlib
 import shutil
@@ -24,6 +25,20 @@ def layout_text(sites, *records):
     for name, seats, home, problem in records:
         parts.append(f'[[record]]\nname = "{name}"\nseats = {seats}\nhome = {home}\nproblem = {problem}\n')
     return "\n".join(parts)
+
+
+def digest(text, digits):
+    """The first digits of a text's SHA-256."""
+    return hashlib.sha256(text.encode("utf-8")).hexdigest()[:digits]
+
+
+# The records of the layout that each test has: their names, seats, homes and problems, as a store has them.
+RECORDS = ";a,3,0,2;b,4,1,1"
+
+
+def marked(text, group="-", records=RECORDS):
+    """A delta's text behind the mark that a site of this group and these records puts in front of it."""
+    return f"{group} {digest(records, 16)} {digest(text, 8)} {text}"
 
 
 def wait_for(condition, seconds=60):

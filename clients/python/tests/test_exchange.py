@@ -3,7 +3,6 @@ import contextlib
 import io
 import json
 import os
-import pathlib
 import shutil
 import subprocess
 import sys
@@ -13,9 +12,10 @@ import unittest
 
 import zinduroi
 from zinduroi import Command, Counts, Exchange, Folder, Mqtt, TransportFailed
+from zinduroi.exchange import status_of
 from zinduroi.watch import main
 
-from .common import PACKAGE, PROGRAM, Broker, Case, wait_for
+from .common import PACKAGE, PROGRAM, Broker, Case, marked, wait_for
 
 
 class Listed:
@@ -71,11 +71,22 @@ class Rounds(Case):
 
     def test_counts_what_is_refused(self):
         row = '{"from":1,"rows":[{"ann":0,"fin":0,"out":%s,"r":%d,"s":1,"taken":0}],"v":1}'
-        self.listed.arriving = ["", "{\n}\n", "x\ny", "{}", row % ("[0,0,0]", 5), row % ("[0,9,0]", 0), row % ("[3,0,0]", 0), self.site.send() + "\n"]
+        rows = [row % ("[0,0,0]", 5), row % ("[0,9,0]", 0), row % ("[3,0,0]", 0)]
+        self.listed.arriving = ["", "{}", marked("{\n}\n") + "\n", marked("{}"), marked("x y"), *map(marked, rows), marked(rows[0], "crew"),
+                                marked(rows[0], records=";a,3,0,2"), self.site.send() + "\n"]
         self.exchange.round()
         tally = self.exchange.tally()
-        self.assertEqual(tally.refused, {"NotJson": 2, "NotCanonical": 2, "OtherLayout": 1, "BadRow": 1, "TooManySeats": 1})
+        self.assertEqual(tally.refused, {"NoMark": 2, "Damaged": 1, "NotCanonical": 1, "NotJson": 1, "OtherLayout": 1, "BadRow": 1,
+                                         "TooManySeats": 1, "WrongGroup": 1, "OtherRecords": 1})
         self.assertEqual((tally.took, tally.rose), (1, 0))
+
+    def test_counts_what_a_plain_site_refuses(self):
+        plain = self.open(1, plain=True)
+        self.listed.arriving = [self.site.send(), "{\n}\n", "x\ny", self.open(2, plain=True).send()]
+        exchange = Exchange(plain, self.listed, records=["a"])
+        exchange.round()
+        self.assertEqual(exchange.tally().refused, {"NotJson": 2, "NotCanonical": 1})
+        self.assertEqual(exchange.tally().took, 1)
 
     def test_need_not_help(self):
         self.exchange.helps = False
@@ -95,6 +106,64 @@ class Rounds(Case):
         old = self.open(store=self.folder / "old.db")
         with self.assertRaises(zinduroi.OwnRowAhead):
             Exchange(old, self.listed, records=["a"]).start()
+
+
+class Starts(Case):
+    """How an exchange starts, and what wakes it."""
+
+    def test_a_folder_that_is_not_there(self):
+        site, folder = self.open(), self.folder / "none"
+        exchange = Exchange(site, Folder(folder), 0.05, records=["a"])
+        self.assertRaises(FileNotFoundError, exchange.start)
+        with self.assertRaises(FileNotFoundError):
+            with exchange:
+                self.fail("there is no folder")
+        with self.assertRaises(NotADirectoryError):
+            Exchange(site, Folder(self.layout), records=["a"]).start()
+        folder.mkdir()
+        with exchange:
+            self.assertTrue(wait_for(lambda: exchange.tally().sent > 0))
+            folder.rename(self.folder / "gone")
+            self.assertTrue(wait_for(lambda: exchange.tally().failed["FileNotFoundError"] > 2))
+            (self.folder / "gone").rename(folder)
+            sent = exchange.tally().sent
+            self.assertTrue(wait_for(lambda: exchange.tally().sent > sent))
+
+    def test_what_wakes_it(self):
+        """Rounds are ten minutes apart, so each other one comes because a caller changed something."""
+        site, listed = self.open(), Listed()
+        calls = [lambda: site.give("a", 1, 1), lambda: site.help("a"), lambda: site.announce("a", 9), lambda: site.leave("a", 9)]
+        with Exchange(site, listed, 600, records=[]) as exchange:
+            self.assertTrue(wait_for(lambda: exchange.tally().sent == 1))
+            for sent, call in enumerate(calls, 2):
+                call()
+                self.assertTrue(wait_for(lambda: exchange.tally().sent == sent), sent)
+
+    def test_its_own_help_does_not_wake_it(self):
+        site = self.open()
+        with Exchange(site, Listed(), 600) as exchange:
+            self.assertTrue(wait_for(lambda: exchange.tally().sent == 1))
+            time.sleep(0.5)
+            tally = exchange.tally()
+        self.assertEqual((tally.rounds, tally.gave), (1, 1))
+
+    def test_seats_and_sessions_of_a_state_agree(self):
+        site, stop, wrong = self.open(), threading.Event(), []
+
+        def visit():
+            while not stop.is_set():
+                with site.read("a", 7):
+                    pass
+
+        visitor = threading.Thread(target=visit)
+        visitor.start()
+        for _ in range(300):
+            counts = status_of(site, ["a"])["records"]["a"]
+            if counts["rights"] + counts["inside"] != 3 or counts["inside"] != len(counts["sessions"]):
+                wrong.append(counts)
+        stop.set()
+        visitor.join()
+        self.assertEqual(wrong, [])
 
 
 class Threads(Case):
@@ -232,16 +301,13 @@ class Threads(Case):
         self.assertLessEqual(gave, 256)
 
 
-def running(word):
-    """The processes that have this word on their command line."""
-    found = []
-    for path in pathlib.Path("/proc").glob("[0-9]*/cmdline"):
-        try:
-            if word in path.read_text(encoding="utf-8", errors="replace"):
-                found.append(path)
-        except OSError:
-            pass
-    return found
+def runs(pid):
+    """Whether there is a process of this number."""
+    try:
+        os.kill(pid, 0)
+    except ProcessLookupError:
+        return False
+    return True
 
 
 class Transports(Case):
@@ -305,14 +371,22 @@ class Transports(Case):
             self.skipTest("mosquitto and mosquitto-clients are not installed")
         self.assertTrue(broker.start())
         self.addCleanup(broker.stop)
+        # A command of this name that writes down its number, and becomes the real one.
+        noted, pid = self.folder / "bin/mosquitto_sub", self.folder / "pid"
+        noted.parent.mkdir()
+        noted.write_text(f'#!/bin/sh\necho $$ > {pid}.new && mv {pid}.new {pid}\nexec {shutil.which("mosquitto_sub")} "$@"\n', encoding="utf-8")
+        noted.chmod(0o755)
         script = ("import sys, time; from zinduroi import Mqtt; mqtt = Mqtt('left', '127.0.0.1', int(sys.argv[1])); mqtt.messages()\n"
                   "print('started', flush=True); time.sleep(600)")
-        process = subprocess.Popen([sys.executable, "-c", script, str(broker.port)], cwd=PACKAGE, stdout=subprocess.PIPE, text=True)
+        process = subprocess.Popen([sys.executable, "-c", script, str(broker.port)], cwd=PACKAGE, stdout=subprocess.PIPE, text=True,
+                                   env={**os.environ, "PATH": f"{noted.parent}:{os.environ['PATH']}"})
         self.assertEqual(process.stdout.readline(), "started\n")
-        self.assertTrue(wait_for(lambda: len(running("zinduroi/left/+")) >= 2))
+        self.assertTrue(wait_for(pid.exists))
+        number = int(pid.read_text(encoding="utf-8"))
+        self.assertTrue(runs(number))
         process.kill()
         process.communicate()
-        self.assertTrue(wait_for(lambda: not running("zinduroi/left/+")))
+        self.assertTrue(wait_for(lambda: not runs(number)))
 
     def test_mqtt_without_a_broker(self):
         broker = Broker(self.folder)
@@ -370,6 +444,11 @@ class Watch(Case):
         status, output, _ = self.watch(*words)
         self.assertEqual(status, 0)
         self.assertEqual([line.split()[:5] for line in output.splitlines()[1:]], [["a", "0", "2", "1", "0"], ["b", "0", "0", "0", "0"]])
+        wide = self.write_layout("wide.toml", 4, ("a", 3, 0, 2), ("b", 4, 1, 1))
+        self.assertEqual(self.watch(*words, "--layout", wide), (1, "", "zinduroi: store refused WrongLayout\n"))
+        self.assertEqual(self.watch(*words)[0], 0)
+        self.assertEqual(self.watch(*words, "--store", self.folder / "none.db"), (1, "", "zinduroi: store refused NoStore\n"))
+        self.assertFalse((self.folder / "none.db").exists())
         self.assertEqual(self.watch("--site", 0)[0], 2)
         self.assertEqual(self.watch()[0], 2)
 

@@ -12,8 +12,9 @@ import unittest
 
 import zinduroi
 from zinduroi import Counts, Gave, Record, ServiceEnded, Session, StoreRefused, TimedOut
+from zinduroi.errors import refusal
 
-from .common import PACKAGE, PROGRAM, Case, wait_for
+from .common import PACKAGE, PROGRAM, Case, marked, wait_for
 
 
 class Calls(Case):
@@ -43,20 +44,60 @@ class Calls(Case):
         site = self.open(group="payroll")
         site.announce("a", 9)
         text = site.send()
-        self.assertTrue(text.startswith('payroll {"from":0,'), text)
+        bare = text.split(" ", 3)[3]
+        self.assertEqual(text, marked(bare, "payroll"))
         self.assertEqual(self.open(1, group="payroll").take(text), 1)
-        bare = text.split(" ", 1)[1]
-        for other in (bare, f"stock {bare}", f"payroll2 {bare}"):
+        for other in (marked(bare), marked(bare, "stock"), marked(bare, "payroll2"), marked(bare, "payrol")):
             self.refused(zinduroi.WrongGroup, site.take, other)
-        self.refused(zinduroi.NotJson, self.open(2).take, text)
+        self.refused(zinduroi.WrongGroup, self.open(2).take, text)
         site.close()
         for group in (None, "stock"):
             with self.assertRaises(StoreRefused) as caught:
                 self.open(group=group)
             self.assertEqual(caught.exception.name, "WrongGroup")
         self.assertEqual(self.open(group="payroll").sessions("a"), [Session(9, "waiting")])
+        for group in ("Pay roll", "refused", "merged"):
+            with self.assertRaises(ServiceEnded) as ended:
+                self.open(store=self.folder / "other.db", group=group)
+            self.assertEqual((ended.exception.status, ended.exception.message), (2, "group refused BadWord"))
+
+    def test_marks(self):
+        site, other = self.open(), self.open(1)
+        site.announce("a", 9)
+        text = site.send()
+        bare = text.split(" ", 3)[3]
+        self.assertTrue(bare.startswith('{"from":0,"rows":[{"ann":1,'), bare)
+        self.assertEqual(text, marked(bare))
+        words = text.split(" ")
+        odd = ["A" + words[1][1:], words[1][1:], words[1] + "0"]
+        for without in ("", bare, "-", " ".join(words[:3]), " ".join(words[1:]), *(" ".join(["-", records, *words[2:]]) for records in odd)):
+            self.refused(zinduroi.NoMark, other.take, without)
+        self.refused(zinduroi.WrongGroup, other.take, marked(bare, "x", ";a,3,0,2")[:-1])
+        for records in (";b,4,1,1;a,3,0,2", ";a,3,0,2", ";a,4,0,2;b,4,1,1", ";a,3,1,2;b,4,1,1", ";a,3,0,1;b,4,1,1", ";c,3,0,2;b,4,1,1"):
+            self.refused(zinduroi.OtherRecords, other.take, marked(bare, records=records)[:-1])
+        other_sum = marked(bare + " ").split(" ")[2]
+        for damaged in (text[:-1], text + " ", text.replace('"ann":1', '"ann":2'), text.replace(words[2], other_sum)):
+            self.refused(zinduroi.Damaged, other.take, damaged)
+        self.assertEqual(other.sessions("a"), [])
+        self.assertEqual(other.take(text), 1)
+
+    def test_plain(self):
+        plain, other = self.open(plain=True), self.open(1)
+        plain.announce("a", 9)
+        text = plain.send()
+        self.assertTrue(text.startswith('{"from":0,"rows":[{"ann":1,'), text)
+        self.refused(zinduroi.NoMark, other.take, text)
+        self.refused(zinduroi.NotJson, plain.take, other.send())
+        self.assertEqual(self.open(2, plain=True).take(text), 1)
+        self.assertEqual(other.take(marked(text)), 1)
+        os.kill(plain.pid, signal.SIGKILL)
         with self.assertRaises(ServiceEnded):
-            self.open(store=self.folder / "other.db", group="Pay roll")
+            plain.send()
+        self.assertTrue(plain.reopen(wait=10))
+        self.assertEqual(plain.send(), text)
+        with self.assertRaises(ServiceEnded):
+            self.open(store=self.folder / "both.db", plain=True, group="payroll")
+        self.assertFalse((self.folder / "both.db").exists())
 
     def test_refusals(self):
         site = self.open()
@@ -73,9 +114,14 @@ class Calls(Case):
         refused(zinduroi.ZeroSeats, site.give, "a", 1, 0)
         refused(zinduroi.TooFewRights, site.give, "a", 1, 65536, rights=3)
         refused(zinduroi.NoPlan, site.help, "b")
-        refused(zinduroi.BadWord, site.call, "reed a 7")
-        refused(zinduroi.BadWord, site.call, "")
-        refused(zinduroi.BadWord, site.announce, "a", -1)
+        error = refused(zinduroi.BadWord, site.call, "reed a 7", word=1)
+        self.assertEqual((error.name, error.numbers, str(error)), ("BadWord", (1,), "refused BadWord 1"))
+        refused(zinduroi.BadWord, site.call, "", word=1)
+        refused(zinduroi.BadWord, site.show, "A", word=2)
+        refused(zinduroi.BadWord, site.announce, "a", -1, word=3)
+        refused(zinduroi.BadWord, site.call, "read a 7 8", word=4)
+        refused(zinduroi.BadWord, site.give, "a", 65536, 1, word=3)
+        self.assertIsNone(refusal("refused BadWord").word)
         site.call("read a 7")
         refused(zinduroi.AlreadyHere, site.call, "read a 7")
         site.announce("a", 8)
@@ -91,15 +137,15 @@ class Calls(Case):
         refused = self.refused
         row = '{"ann":0,"fin":0,"out":%s,"r":%d,"s":%d,"taken":0}'
         text = '{"from":1,"rows":[%s],"v":1}'
-        refused(zinduroi.NotJson, site.take, "")
-        refused(zinduroi.NotJson, site.take, "{")
-        refused(zinduroi.NotCanonical, site.take, '{"from": 1}')
-        refused(zinduroi.OtherLayout, site.take, text % (row % ("[0,0,0]", 2, 1)), row=0)
-        refused(zinduroi.OtherLayout, site.take, text % (row % ("[0,0,0,0]", 0, 1)), row=0)
-        refused(zinduroi.BadRow, site.take, text % (row % ("[0,9,0]", 0, 1)), row=0)
-        refused(zinduroi.TooManySeats, site.take, text % (row % ("[1,0,0]", 0, 1)), record=0)
-        refused(zinduroi.TooLong, site.take, "x" * 2_097_153)
-        refused(zinduroi.NotJson, site.take, "x" * 2_097_152)
+        refused(zinduroi.NotJson, site.take, marked(""))
+        refused(zinduroi.NotJson, site.take, marked("{"))
+        refused(zinduroi.NotCanonical, site.take, marked('{"from": 1}'))
+        refused(zinduroi.OtherLayout, site.take, marked(text % (row % ("[0,0,0]", 2, 1))), row=0)
+        refused(zinduroi.OtherLayout, site.take, marked(text % (row % ("[0,0,0,0]", 0, 1))), row=0)
+        refused(zinduroi.BadRow, site.take, marked(text % (row % ("[0,9,0]", 0, 1))), row=0)
+        refused(zinduroi.TooManySeats, site.take, marked(text % (row % ("[1,0,0]", 0, 1))), record=0)
+        refused(zinduroi.TooLong, site.take, marked("x" * 2_097_153))
+        refused(zinduroi.NotJson, site.take, marked("x" * 2_097_152))
         self.assertEqual(site.show("a"), Counts(3, 0, 0))
 
     def test_a_line_feed_never_gets_into_a_line(self):
@@ -133,6 +179,10 @@ class Calls(Case):
         self.refused(zinduroi.Frozen, old.call, "read a 7")
         self.refused(zinduroi.Frozen, old.show, "a")
         self.assertEqual(old.close(), 5)
+        with self.assertRaises(StoreRefused) as caught:
+            self.open(store=self.folder / "copy.db")
+        self.assertEqual(caught.exception.name, "Outdated")
+        self.assertEqual(site.send(), text)
 
     def test_a_store_that_fails(self):
         # No file may grow beyond 40 blocks of 512 bytes; a new store has more than that in its log soon.
@@ -303,22 +353,55 @@ class Ends(Case):
     def test_stores_and_layouts_that_are_refused(self):
         site = self.open()
         self.started(StoreRefused, "InUse")
-        self.started(StoreRefused, "Exists", create=True)
+        self.started(StoreRefused, "InUse", create=True)
         self.started(StoreRefused, "NoStore", store=self.folder / "none.db", create=False)
         self.assertFalse((self.folder / "none.db").exists())
         self.assertEqual(site.close(), 0)
+        self.started(StoreRefused, "Exists", create=True)
         self.started(StoreRefused, "WrongSite", site=1, store=self.folder / "0.db")
         self.started(StoreRefused, "WrongLayout", layout=None)
         self.started(zinduroi.LayoutRefused, "NotRead", layout=self.folder / "none.toml")
         self.started(zinduroi.LayoutRefused, "NoSite", site=3)
         (self.folder / "text.db").write_text("this is no database, " * 100, encoding="utf-8")
-        self.started(StoreRefused, "StoreFault", store=self.folder / "text.db", create=False)
-        with sqlite3.connect(self.folder / "0.db") as store:
-            store.execute("DROP TABLE cells")
-        store.close()
-        self.started(StoreRefused, "BadStore")
+        self.started(StoreRefused, "NotAStore", store=self.folder / "text.db", create=False)
+        for change, name in (("UPDATE meta SET value = '3' WHERE name = 'version'", "BadStore"), ("DROP TABLE cells", "NotAStore")):
+            with sqlite3.connect(self.folder / "0.db") as store:
+                store.execute(change)
+            store.close()
+            self.started(StoreRefused, name)
         with self.assertRaises(FileNotFoundError):
             self.open(program=str(self.folder / "none"))
+
+    def test_databases_that_are_no_store(self):
+        foreign = self.folder / "foreign.db"
+        with sqlite3.connect(foreign) as database:
+            database.execute("CREATE TABLE meta (name TEXT, value TEXT)")
+        database.close()
+        before = foreign.read_bytes()
+        for create in (True, False):
+            self.started(StoreRefused, "NotAStore", store=foreign, create=create)
+            self.started(StoreRefused, "NoFolder", store=self.folder / "none/0.db", create=create)
+        self.assertEqual(foreign.read_bytes(), before)
+
+    def test_a_layout_with_more_sites(self):
+        site = self.open()
+        site.announce("a", 9)
+        site.close()
+        wide = self.write_layout("wide.toml", 4, ("a", 3, 0, 2), ("b", 4, 1, 1))
+        before = (self.folder / "0.db").read_bytes()
+        self.started(StoreRefused, "WrongLayout", layout=wide)
+        self.assertEqual((self.folder / "0.db").read_bytes(), before)
+        site = self.open(layout=wide, grow=True)
+        self.assertEqual(site.sessions("a"), [Session(9, "waiting")])
+        site.give("a", 3, 1)
+        os.kill(site.pid, signal.SIGKILL)
+        with self.assertRaises(ServiceEnded):
+            site.send()
+        self.assertTrue(site.reopen(wait=10))
+        self.assertEqual(site.show("a"), Counts(2, 0, 1))
+        site.close()
+        self.started(StoreRefused, "WrongLayout", grow=True)
+        self.assertEqual(self.open(layout=wide).show("a"), Counts(2, 0, 1))
 
     def test_waiting_for_a_store_in_use(self):
         site = self.open()
@@ -413,6 +496,20 @@ class Ends(Case):
         without.close()
         self.started(zinduroi.LogRefused, "WrongStore", log=logs[0])
         self.started(zinduroi.LogRefused, "WrongSite", site=1, log=logs[0])
+
+    def test_files_that_are_no_log(self):
+        text, link, new = self.folder / "text.log", self.folder / "link.log", self.folder / "new.db"
+        text.write_text("a text without an end of a line", encoding="utf-8")
+        self.started(zinduroi.LogRefused, "NotALog", store=new, log=text)
+        self.assertEqual(text.read_text(encoding="utf-8"), "a text without an end of a line")
+        self.assertFalse(new.exists())
+        site = self.open(log=self.folder / "0.log")
+        self.started(zinduroi.LogRefused, "InUse", site=1, log=self.folder / "0.log")
+        site.close()
+        before = (self.folder / "0.db").read_bytes()
+        link.symlink_to(self.folder / "0.db")
+        self.started(zinduroi.LogRefused, "IsStore", log=link)
+        self.assertEqual((self.folder / "0.db").read_bytes(), before)
 
     def test_layout(self):
         read = zinduroi.read_layout(self.layout, PROGRAM)

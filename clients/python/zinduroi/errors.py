@@ -60,7 +60,7 @@ class AlreadyHere(Refused):
 
 
 class NotHere(Refused):
-    """The holder has no session at this record and site."""
+    """The holder has no session at this record and site; to `fence`, it is not inside."""
 
 
 class NotAnnounced(Refused):
@@ -136,8 +136,22 @@ class NotUtf8(Refused):
     """The text to take is not UTF-8. The service answers `BadWord` in its place."""
 
 
+class NoMark(Refused):
+    """The text to take has no mark in front: a site that is opened with `plain`, the command `site` or an older
+    program sent it, or no site did."""
+
+
 class WrongGroup(Refused):
-    """The text to take is of another group of sites, or of none."""
+    """The text to take has the mark of another group of sites, or of none."""
+
+
+class OtherRecords(Refused):
+    """The text to take is of a site whose layout has other records: other names, seats, homes or problems, or the same in
+    another order."""
+
+
+class Damaged(Refused):
+    """The text to take is not the one that was sent: some byte behind its mark, or of the mark's last word, has changed."""
 
 
 class OtherLayout(Refused):
@@ -184,7 +198,12 @@ class LogFull(Refused):
 
 
 class BadWord(Refused):
-    """The line can't be read."""
+    """The line can't be read. `word` is the place of the first word that is not right, counted from 1 by single blanks: one
+    that can't stand there, one that is missing, or one too many. It is `None` where the reply has no number, as for a last
+    line without its end."""
+
+    fields = ("word",)
+    word: Optional[int] = None
 
 
 class TooLong(Refused):
@@ -209,9 +228,11 @@ class _Named(ZinduroiError):
 
 
 class StoreRefused(_Named):
-    """The store can't be used. `name` says why: `NoStore` (there is none, and `create` is not set), `Exists` (there is one, and
-    `create` is set), `InUse` (another process has it open), `WrongGroup` (it is of another group of sites, or of
-    none), `BadStore`, `WrongSite`, `WrongLayout`, `WrongCounters`, `WrongSessions` or `StoreFault`."""
+    """The store can't be used. `name` says why: `NoFolder` (its folder is not there), `NoStore` (there is none, and `create` is not
+    set), `Exists` (there is one, and `create` is set), `NotAStore` (the file is no database, or another program made its
+    tables), `InUse` (another process has it open), `WrongSite`, `WrongGroup` (it is of another group of sites, or of none),
+    `WrongLayout` (the layout has other records, fewer sites, or more sites and `grow` is not set), `BadStore`, `WrongCounters`,
+    `WrongSessions`, `Outdated` (it is older than what its site once sent) or `StoreFault`."""
 
     what = "store"
 
@@ -223,7 +244,9 @@ class LayoutRefused(_Named):
 
 
 class LogRefused(_Named):
-    """The file for the log can't be used, for the reason `name`."""
+    """The file for the log can't be used. `name` says why: `IsStore` (it is the store), `NotRead`, `InUse` (another process writes
+    it), `NotALog` or `NotTranscript` (it is no log), `WrongSite` (it is the log of another site), or `WrongStore` (the store has
+    more or fewer calls than the log)."""
 
     what = "log"
 

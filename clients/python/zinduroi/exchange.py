@@ -42,7 +42,8 @@ class Exchange:
     publishes anyway, in case a text was lost. Rounds are `interval` seconds apart; the next one comes at once after a
     change that others should hear of: a writer was announced, or left, or seats were given. When the transport says that a
     text has arrived, it is taken at once; if it brought something new, `help` is called, and if that gave seats, the delta
-    is published at once too. Callers of the site come between any two lines of a round.
+    is published at once too. Callers of the site come between any two lines of a round, but not between the two that ask for
+    the state of a record.
 
     The site's own last text is taken too, when the exchange starts: a store that is older than what the site once
     published is found by that (`OwnRowAhead`).
@@ -78,9 +79,9 @@ class Exchange:
 
     def start(self) -> Exchange:
         """Takes the texts that have arrived, and starts the thread. Raises `OwnRowAhead` if they show that the store is older
-        than what the site once published."""
+        than what the site once published, and `OSError` if the folder for texts is not there."""
         if self._thread is None:
-            self._take_all()
+            self._take_all(starts=True)
             self.site.listen(self.wake)
             listen: Optional[Callable[[Callable[[], None]], None]] = getattr(self.transport, "listen", None)
             if listen is not None:
@@ -119,8 +120,8 @@ class Exchange:
     def _work(self) -> None:
         closed, due = False, time.monotonic()
         while not closed:
-            closed = self._closed.is_set()
             self._wake.clear()
+            closed = self._closed.is_set()
             whole = closed or self._urgent.is_set() or time.monotonic() >= due
             if whole:
                 self._urgent.clear()
@@ -136,8 +137,9 @@ class Exchange:
             except ZinduroiError as failure:
                 self.failure = failure
                 self._count_failure(failure)
-            self._closed.wait(min(SHORTEST, self.interval))
-            self._wake.wait(max(0.0, due - time.monotonic()))
+            if not closed:
+                self._closed.wait(min(SHORTEST, self.interval))
+                self._wake.wait(max(0.0, due - time.monotonic()))
 
     def round(self) -> None:
         """One round, on the caller's thread."""
@@ -157,16 +159,19 @@ class Exchange:
             self._known = self.site.send()
             self._send(self._known)
 
-    def _take_all(self) -> int:
+    def _take_all(self, starts: bool = False) -> int:
         """Takes the texts that have arrived, and gives the number of counters that rose."""
         try:
             texts = list(self.transport.messages())
         except (OSError, TransportFailed) as failed:
+            # A folder that is not there at the start was mistyped, and will never be there.
+            if starts and isinstance(failed, (FileNotFoundError, NotADirectoryError)):
+                raise
             self._count_failure(failed)
             return 0
         rose = 0
         for text in texts:
-            # A text with a line feed in it is no delta, and with a blank in its place neither; so the program says why.
+            # A line feed would end the call. With a blank in its place the program says what is wrong with the text.
             text = text.rstrip("\n").replace("\n", " ")
             if text != self._published:
                 rose += self._take(text)
@@ -193,7 +198,7 @@ class Exchange:
 
     def _help(self, record: str) -> bool:
         try:
-            seats = self.site.help(record).seats
+            seats = self.site._help(record).seats
         except NoPlan:
             return False
         except (Frozen, StoreFault):
@@ -243,8 +248,8 @@ def status_of(site: Site, records: Sequence[str]) -> "dict[str, object]":
     """A site's state: for each record its free seats, the seats that are taken, its unfinished writers, and its sessions."""
     found = {}
     for record in records:
-        counts = site.show(record)
-        found[record] = {**counts._asdict(), "sessions": [list(session) for session in site.sessions(record)]}
+        counts, sessions = site.look(record)
+        found[record] = {**counts._asdict(), "sessions": [list(session) for session in sessions]}
     return {"site": site.site, "time": time.time(), "records": found}
 
 

@@ -13,22 +13,27 @@ _NAMED = {"store refused ": StoreRefused, "layout refused ": LayoutRefused, "log
 
 
 class Call:
-    """A line on its way to the service, and its reply on the way back."""
+    """Lines on their way to the service, and their replies on the way back. No other call comes between them."""
 
-    __slots__ = ("line", "reply", "failure", "claim", "done")
+    __slots__ = ("lines", "replies", "failure", "claim", "done")
 
-    def __init__(self, line: bytes) -> None:
-        self.line = line
-        self.reply: Optional[str] = None
+    def __init__(self, *lines: bytes) -> None:
+        self.lines = lines
+        self.replies: List[str] = []
         self.failure: Optional[ZinduroiError] = None
         self.claim = threading.Lock()
         self.done = threading.Event()
+
+    @property
+    def reply(self) -> Optional[str]:
+        """The reply to the last line, once it is there."""
+        return self.replies[-1] if len(self.replies) == len(self.lines) else None
 
 
 class Service:
     """One process of `serve`.
 
-    A thread writes a line and reads its reply, one call after the other, in the order in which callers came. Exceptions that
+    A thread writes a line and reads its reply, one after the other, in the order in which callers came. Exceptions that
     interrupt a caller, such as `KeyboardInterrupt`, never reach that thread; so no reply is taken for that of another call."""
 
     def __init__(self, command: Sequence[str]) -> None:
@@ -57,8 +62,8 @@ class Service:
         """Whether the process has ended, as far as a call has noticed."""
         return self._ended is not None
 
-    def run(self, call: Call) -> str:
-        """Waits for the reply. An exception that comes meanwhile drops the call if it has not begun; else the reply is
+    def run(self, call: Call) -> List[str]:
+        """Waits for the replies. An exception that comes meanwhile drops the call if it has not begun; else the replies are
         waited for, so that `call.reply` says what happened, and then the exception goes on."""
         try:
             with self._door:
@@ -72,8 +77,7 @@ class Service:
             raise
         if call.failure is not None:
             raise call.failure
-        assert call.reply is not None
-        return call.reply
+        return call.replies
 
     def close(self) -> int:
         """Serves the calls that wait, ends the service and gives its exit status."""
@@ -101,7 +105,8 @@ class Service:
     def _carry_out(self, call: Call) -> None:
         if self._ended is None:
             try:
-                call.reply = self._exchange(call.line)
+                for line in call.lines:
+                    call.replies.append(self._exchange(line))
                 return
             except OSError:
                 pass

@@ -81,30 +81,35 @@ class Site:
     """A site, served by a process of its own as long as this object is open. Any number of threads may use it.
 
     `store` is the site's file. It has to be there, unless `create` is set; then it must not be there. `group` is the name of
-    the group of sites that this one belongs to: its deltas begin with it, and those of other groups are refused
-    (`WrongGroup`). `wait` is how many seconds to wait while another process has the store open. `log` is a file that the
-    site's log is appended to, for `judge`. `program` is the program's path, or the words of a command that ends with it.
+    the group of sites that this one belongs to: deltas of other groups are refused (`WrongGroup`). `wait` is how many seconds to
+    wait while another process has the store open. `log` is a file that the site's log is appended to, for `judge`. `program` is
+    the program's path, or the words of a command that ends with it. With `plain` deltas travel without a mark, so nothing finds
+    out that one was damaged or is of another layout; open all sites alike. With `grow` a store that was made for fewer sites
+    gets all sites of the layout, for good.
 
     Raises `StoreRefused`, `LayoutRefused` or `LogRefused` if the service doesn't start. Each call raises the subclass of
     `Refused` that has the name of the refusal, and `ServiceEnded` if the process ends before it replies."""
 
     def __init__(self, store: Path, site: int, layout: Optional[Path] = None, group: Optional[str] = None, create: bool = False,
-                 wait: float = 0, log: Optional[Path] = None, program: Union[str, Sequence[str]] = "seat_cli") -> None:
+                 wait: float = 0, log: Optional[Path] = None, program: Union[str, Sequence[str]] = "seat_cli", plain: bool = False,
+                 grow: bool = False) -> None:
         self.site = site
         self.store = os.fspath(store)
         self.layout = None if layout is None else os.fspath(layout)
         self.group = group
         self.program = program
+        self._plain = plain
         self._log = log
         self._wait = wait
         self._listeners: List[Callable[[], None]] = []
         self._opening = threading.Lock()
         self._closed = False
-        self._service = self._start(create, wait)
+        self._service = self._start(create, grow, wait)
 
-    def _start(self, create: bool, wait: float) -> Service:
+    def _start(self, create: bool, grow: bool, wait: float) -> Service:
         words = command(self.program, "serve", f"--site={self.site}", "--store", self.store,
-                        *_option("--layout", self.layout), *_option("--group", self.group), "--create" if create else None,
+                        *_option("--layout", self.layout), *_option("--group", self.group), "--plain" if self._plain else None,
+                        "--create" if create else None, "--grow" if grow else None,
                         *_option("--wait", str(int(-(-wait // 1))) if wait > 0 else None), *_option("--log", self._log))
         service = Service(words)
         try:
@@ -124,7 +129,7 @@ class Site:
             if self._closed or not self._service.has_ended:
                 return False
             self._service.close()
-            self._service = self._start(False, self._wait if wait is None else wait)
+            self._service = self._start(False, False, self._wait if wait is None else wait)
             return True
 
     def close(self) -> int:
@@ -150,14 +155,15 @@ class Site:
 
     def call(self, line: str) -> str:
         """The reply to a line, as docs/FORMATS.md has it. Raises the refusal if it is one."""
-        return self._answer(_call_of(line))
+        return self._answers(_call_of(line))[0]
 
-    def _answer(self, call: Call) -> str:
-        reply = self._service.run(call)
-        refused = refusal(reply)
-        if refused is not None:
-            raise refused
-        return reply
+    def _answers(self, call: Call) -> List[str]:
+        replies = self._service.run(call)
+        for reply in replies:
+            refused = refusal(reply)
+            if refused is not None:
+                raise refused
+        return replies
 
     def announce(self, record: str, holder: int) -> int:
         """Announces a writer: it is the K-th that this site announced for the record."""
@@ -179,11 +185,17 @@ class Site:
 
     def help(self, record: str) -> Gave:
         """Gives free seats where they help: to the site of a waiting writer; or those above an even share to the next site."""
+        gave = self._help(record)
+        self.tell_listeners()
+        return gave
+
+    def _help(self, record: str) -> Gave:
+        """The same for an exchange, which needs not be told."""
         words = self.call(f"help {record}").split(" ")
         return Gave(int(words[1]), int(words[2]))
 
     def send(self) -> str:
-        """A delta: all that the site knows, as a line of JSON, behind the group's name and a blank if the site has a group."""
+        """A delta: all that the site knows, as a line of JSON behind its mark."""
         return self.call("send")
 
     def take(self, text: str) -> int:
@@ -192,19 +204,28 @@ class Site:
 
     def show(self, record: str) -> Counts:
         """The site's free seats of a record, the seats that its sessions take, and its unfinished writers."""
-        words = self.call(f"show {record}").split(" ")
-        return Counts(int(words[1]), int(words[3]), int(words[5]))
+        return _counts_in(self.call(f"show {record}"))
 
     def sessions(self, record: str) -> List[Session]:
         """The sessions at the site, in order of arrival."""
-        _, _, rest = self.call(f"sessions {record}").partition(" ")
-        parts = (part.split(" ") for part in rest.split(", ")) if rest else ()
-        return [Session(int(holder), phase) for holder, phase in parts]
+        return _sessions_in(self.call(f"sessions {record}"))
+
+    def fence(self, record: str, holder: int) -> int:
+        """The fencing number of a reader or writer that is inside: greater than that of each writer that left the record
+        before, at any site. Raises `NotHere` if the holder is not inside, as while a writer waits. A session has to show one
+        number in all of its stay, and this one grows: so ask once. `inside.fence` does."""
+        return int(self.call(f"fence {record} {holder}").split(" ")[1])
+
+    def look(self, record: str) -> Tuple[Counts, List[Session]]:
+        """What `show` and `sessions` give, of the same moment: no call of another thread comes between them."""
+        shown, listed = self._answers(_call_of(f"show {record}", f"sessions {record}"))
+        return _counts_in(shown), _sessions_in(listed)
 
     # Sessions
 
     def read(self, record: str, holder: int, timeout: Optional[float] = 0) -> Reading:
-        """A reader, for a `with` statement: enters, and leaves at the end, whatever happens.
+        """A reader, for a `with` statement: enters, and leaves at the end, whatever happens. `with .. as inside` gives its
+        fencing number as `inside.fence`.
 
         If there is no seat, or a writer announced itself, it asks again until `timeout` seconds have passed; 0 asks once
         and raises the refusal, and `None` asks for ever. Raises `TimedOut` in the end."""
@@ -212,6 +233,7 @@ class Site:
 
     def write(self, record: str, holder: int, timeout: Optional[float] = None) -> Writing:
         """A writer, for a `with` statement: announces itself, asks until its site has all seats, and leaves at the end.
+        `with .. as inside` gives its fencing number as `inside.fence`.
 
         After `timeout` seconds, and after any exception, it withdraws. `None` asks for ever, 0 once. Raises `TimedOut` if it
         was not admitted in time, and has withdrawn. After `ServiceEnded` it may still be announced. Seats arrive only if deltas do: an `Exchange` at each site carries them."""
@@ -238,6 +260,18 @@ class _Visit:
         self.record = record
         self.holder = holder
         self.timeout = timeout
+        self._number: Optional[int] = None
+        self._asking = threading.Lock()
+
+    @property
+    def fence(self) -> int:
+        """The session's fencing number, to show to what the session uses; a `Fence` there compares it. It is asked for when
+        this is first read, and stays the same until the next `with`. Raises `NotHere` if the session is no longer inside when
+        it is asked for, as where somebody has called `leave` for it."""
+        with self._asking:
+            if self._number is None:
+                self._number = self.site.fence(self.record, self.holder)
+            return self._number
 
     def __exit__(self, kind: Optional[Type[BaseException]], value: Optional[BaseException],
                  trace: Optional[TracebackType]) -> None:
@@ -248,11 +282,12 @@ class _Visit:
         begun nevertheless is ended."""
         call = _call_of(f"{verb} {self.record} {self.holder}")
         try:
-            self.site._answer(call)
+            self.site._answers(call)
         except BaseException:
             if call.reply is not None and refusal(call.reply) is None:
                 self._leave_quietly()
             raise
+        self._number = None
 
     def _leave_quietly(self) -> None:
         """Ends the session beside an exception that is more important."""
@@ -307,10 +342,21 @@ class Writing(_Visit):
         return self
 
 
-def _call_of(line: str) -> Call:
-    if "\n" in line:
+def _call_of(*lines: str) -> Call:
+    if any("\n" in line for line in lines):
         raise ValueError("a line has no line feed in it")
-    return Call(line.encode("utf-8") + b"\n")
+    return Call(*(line.encode("utf-8") + b"\n" for line in lines))
+
+
+def _counts_in(reply: str) -> Counts:
+    words = reply.split(" ")
+    return Counts(int(words[1]), int(words[3]), int(words[5]))
+
+
+def _sessions_in(reply: str) -> List[Session]:
+    _, _, rest = reply.partition(" ")
+    parts = (part.split(" ") for part in rest.split(", ")) if rest else ()
+    return [Session(int(holder), phase) for holder, phase in parts]
 
 
 def _option(name: str, value: Optional[Path]) -> Tuple[str, ...]:

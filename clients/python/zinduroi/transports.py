@@ -68,8 +68,9 @@ class Folder:
         return text
 
 
-# Runs a command until it ends, or the standard input does: so it doesn't outlive a process that was killed.
-_WHILE_READ = '"$@" </dev/null & exec >/dev/null; cat; kill $! 2>/dev/null; wait'
+# Runs a command until it ends, or the standard input does: so it doesn't outlive a process that was killed. By SIGKILL, since
+# `mosquitto_sub` may wait for ever after a SIGTERM that comes while it sends or receives.
+_WHILE_READ = '"$@" </dev/null & exec >/dev/null; cat; kill -9 $! 2>/dev/null; wait'
 
 
 class Mqtt:

@@ -11,6 +11,7 @@ use Rattle.clap.specs.declared.builder.command.Command.{Command as Parser}
 use Rattle.clap.specs.declared.builder.command.Command.TheViews.{out-Command as fields_of}
 use Rattle.clap.specs.declared.builder.value_parser.ValueParser.TheVariants.{Signed}
 use Rattle.command_arguments.specs.declared.arguments.Command.{Command}
+use Rattle.command_arguments.specs.declared.arguments.Serving.{Serving}
 use Rattle.command_arguments.specs.declared.arguments.Words.{Words}
 use Rattle.command_arguments.specs.declared.arguments.Command.TheVariants.{Join, Play, Site, Serve, Ask, Judge, Run}
 
@@ -30,10 +31,10 @@ layout_option = text_option (codes "layout")
 abbrev pub cut_option : Rule
 cut_option = text_option (codes "cut")
 
--- the flag `--tables` (the project's own)
-abbrev pub tables_flag : Rule
-tables_flag = record (new_rule (codes "tables")) {
-  long = Some (codes "tables");
+-- a flag (the project's own)
+abbrev pub flag : Text → Rule
+flag name = record (new_rule name) {
+  long = Some name;
   action = Some SetTrue;
 }
 
@@ -60,13 +61,6 @@ turns_option = record (text_option (codes "turns")) { parser = Some (Signed (pos
 -- the option `--out FILE` (the project's own)
 abbrev pub out_option : Rule
 out_option = text_option (codes "out")
-
--- the flag `--create` (the project's own)
-abbrev pub create_flag : Rule
-create_flag = record (new_rule (codes "create")) {
-  long = Some (codes "create");
-  action = Some SetTrue;
-}
 
 -- the option `--wait SECONDS` (the project's own)
 abbrev pub wait_option : Rule
@@ -97,16 +91,17 @@ join_command = with_rule (new_app (codes "join")) layout_option
 
 -- the command `play` (the project's own), with a flag and two options
 abbrev pub play_command : App
-play_command = with_rule (with_rule (with_rule (new_app (codes "play")) tables_flag) first_option) layout_option
+play_command = with_rule (with_rule (with_rule (new_app (codes "play")) (flag (codes "tables"))) first_option) layout_option
 
 -- the command `site` (the project's own), with two options that are needed and one that is not
 abbrev pub site_command : App
 site_command = with_rule (with_rule (with_rule (new_app (codes "site")) site_option) store_option) layout_option
 
--- a command that serves a site (the project's own), with two options that are needed, four that are not, and a flag
+-- a command that serves a site (the project's own), with two options that are needed, four that are not, and three flags
 abbrev pub serving_command : Text → App
 serving_command name =
-    with_rule (with_rule (with_rule (with_rule (with_rule (with_rule (with_rule (new_app name) site_option) store_option) layout_option) group_option) create_flag) wait_option) log_option
+    with_rule (with_rule (with_rule (with_rule (with_rule (with_rule (with_rule (with_rule (with_rule (new_app name)
+    site_option) store_option) layout_option) group_option) (flag (codes "plain"))) (flag (codes "create"))) (flag (codes "grow"))) wait_option) log_option
 
 -- the command `serve` (the project's own)
 abbrev pub serve_command : App
@@ -156,9 +151,9 @@ program =
 abbrev pub is_true : Text → Bool
 is_true text = bytes_eq text (codes "true")
 
--- whether the values ask for tables
-abbrev pub tables_in : List Row → Bool
-tables_in rows = option_map_or is_true (one_of (codes "tables") rows) false
+-- whether the values have a flag
+abbrev pub flag_in : Text → List Row → Bool
+flag_in name rows = option_map_or is_true (one_of name rows) false
 
 -- the number that the decimal digits of a text write, behind a plus or none, if it fits 16 bits
 abbrev pub short_number : Text → Option ℕ
@@ -178,21 +173,26 @@ site_in rows = unwrap_or (option_and_then short_number (one_of (codes "site") ro
 abbrev pub turns_in : List Row → ℕ
 turns_in rows = unwrap_or (option_and_then short_number (one_of (codes "turns") rows)) 100
 
--- whether the values ask for a new store
-abbrev pub create_in : List Row → Bool
-create_in rows = option_map_or is_true (one_of (codes "create") rows) false
-
 -- how many seconds the values allow to wait; 0 where they name no number
 abbrev pub wait_in : List Row → ℕ
 wait_in rows = unwrap_or (option_and_then short_number (one_of (codes "wait") rows)) 0
 
+-- how a site is served at once: its number; whether its store is made, whether it grows, and whether deltas travel without
+-- a mark; and how many seconds to wait
+abbrev pub serving : ℕ → Bool → Bool → Bool → ℕ → Serving
+serving site create grow plain wait = record { site = site; create = create; grow = grow; plain = plain; wait = wait }
+
+-- the same by the values
+abbrev pub serving_in : List Row → Serving
+serving_in rows = serving (site_in rows) (flag_in (codes "create") rows) (flag_in (codes "grow") rows) (flag_in (codes "plain") rows) (wait_in rows)
+
 -- the command of a name, with its values
 abbrev pub command_of : Text → List Row → Command
 command_of name rows =
-    if bytes_eq name (codes "play") then Play (tables_in rows) (first_in rows)
+    if bytes_eq name (codes "play") then Play (flag_in (codes "tables") rows) (first_in rows)
     else if bytes_eq name (codes "site") then Site (site_in rows)
-    else if bytes_eq name (codes "serve") then Serve (site_in rows) (create_in rows) (wait_in rows)
-    else if bytes_eq name (codes "ask") then Ask (site_in rows) (create_in rows) (wait_in rows)
+    else if bytes_eq name (codes "serve") then Serve (serving_in rows)
+    else if bytes_eq name (codes "ask") then Ask (serving_in rows)
     else if bytes_eq name (codes "judge") then Judge
     else if bytes_eq name (codes "run") then Run (turns_in rows) else Join
 

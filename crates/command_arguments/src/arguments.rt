@@ -1,6 +1,6 @@
 ghost use Rattle.std.specs.Prelude.{◌≡◌, ◌≤◌, codes, false, length, map, IfOk, IsOk, option_map, string_bytes};
 ghost use Rattle.clap.specs.Words.{App, FailsBy, Rule, app_of, found_of, new_app, rows_of, rule_of, subcommand_rows_of, with_rule, with_subcommand};
-ghost use Rattle.command_arguments.specs.Arguments.{IsOption, Offers, ask_command, asked_command, asked_cut, asked_group, asked_layout, asked_log, asked_out, asked_store, asked_words, bare_program, command_in, command_of, create_flag, create_in, first_word, join_command, judge_command, none_said, number_option, play_command, program, run_command, serve_command, serving_command, site_command, site_in, site_option, store_option, tables_flag, text_option, turns_in, turns_option, usage_errors, value_in, wait_in, word, words_at, words_in, words_of};
+ghost use Rattle.command_arguments.specs.Arguments.{IsOption, Offers, ask_command, asked_command, asked_cut, asked_group, asked_layout, asked_log, asked_out, asked_store, asked_words, bare_program, command_in, command_of, flag, flag_in, first_word, join_command, judge_command, none_said, number_option, play_command, program, run_command, serve_command, serving_command, serving_in, site_command, site_in, site_option, store_option, text_option, turns_in, turns_option, usage_errors, value_in, wait_in, word, words_at, words_in, words_of};
 
 use crate::help;
 use clap::builder::ValueParser;
@@ -25,23 +25,9 @@ pub enum Command {
         site: u16,
     },
     /// The lines of the input are calls at one site, each of which is answered before the next one is read.
-    Serve {
-        /// The site's number.
-        site: u16,
-        /// Whether the site's store is made, and must not be there before.
-        create: bool,
-        /// How many seconds to wait for a store in use.
-        wait: u16,
-    },
+    Serve(Serving),
     /// One call at one site, which the words name.
-    Ask {
-        /// The site's number.
-        site: u16,
-        /// Whether the site's store is made, and must not be there before.
-        create: bool,
-        /// How many seconds to wait for a store in use.
-        wait: u16,
-    },
+    Ask(Serving),
     /// The lines of the input are those of closed logs, which are judged.
     Judge,
     /// The lines of the input are calls at several sites, which work at the same time.
@@ -49,6 +35,21 @@ pub enum Command {
         /// How many turns each link between two sites has.
         turns: u16,
     },
+}
+
+/// How a site is served at once.
+#[derive(Clone, Copy)]
+pub struct Serving {
+    /// The site's number.
+    pub site: u16,
+    /// Whether the site's store is made, and must not be there before.
+    pub create: bool,
+    /// Whether a store that knows fewer sites than the layout gets the others.
+    pub grow: bool,
+    /// Whether deltas travel without a mark.
+    pub plain: bool,
+    /// How many seconds to wait for a store in use.
+    pub wait: u16,
 }
 
 /// The words of a call: `ask` has at least one, and no other command has any.
@@ -176,7 +177,7 @@ fn command_of(name: &str, found: &ArgMatches) -> Command
 {
     if name == "play" {
         return Command::Play {
-            tables: found.get_one::<bool>("tables").unwrap_or(false),
+            tables: flag_in(found, "tables"),
             first: found.get_one::<u16>("from"),
         };
     }
@@ -186,18 +187,10 @@ fn command_of(name: &str, found: &ArgMatches) -> Command
         };
     }
     if name == "serve" {
-        return Command::Serve {
-            site: site_in(found),
-            create: create_in(found),
-            wait: wait_in(found),
-        };
+        return Command::Serve(serving_in(found));
     }
     if name == "ask" {
-        return Command::Ask {
-            site: site_in(found),
-            create: create_in(found),
-            wait: wait_in(found),
-        };
+        return Command::Ask(serving_in(found));
     }
     if name == "judge" {
         return Command::Judge;
@@ -217,11 +210,24 @@ fn site_in(found: &ArgMatches) -> u16
     found.get_one::<u16>("site").unwrap_or(0)
 }
 
-// Whether a new store is asked for.
-fn create_in(found: &ArgMatches) -> bool
-    ensures { result ≡ create_in (rows_of (found_of found.now)) }
+// How a site is served at once.
+fn serving_in(found: &ArgMatches) -> Serving
+    ensures { result ≡ serving_in (rows_of (found_of found.now)) }
 {
-    found.get_one::<bool>("create").unwrap_or(false)
+    Serving {
+        site: site_in(found),
+        create: flag_in(found, "create"),
+        grow: flag_in(found, "grow"),
+        plain: flag_in(found, "plain"),
+        wait: wait_in(found),
+    }
+}
+
+// Whether a flag is there.
+fn flag_in(found: &ArgMatches, name: &str) -> bool
+    ensures { result ≡ flag_in name.now (rows_of (found_of found.now)) }
+{
+    found.get_one::<bool>(name).unwrap_or(false)
 }
 
 // How many seconds to wait for a store in use: 0 where no number is named.
@@ -319,7 +325,7 @@ fn play_parser<'a>(alloc: Global) -> Result<Parser<'a>, AllocError>
 {
     let usage = "seat_cli play [--tables] [--from M] [--layout FILE]";
     let command = Ok(bare_command(alloc, "play", usage, help::PLAY, help::PLAY_NOTES));
-    let command = with_option(command, tables_flag(alloc));
+    let command = with_option(command, flag(alloc, "tables", help::TABLES));
     let command = with_option(command, number_option(alloc, "from", "M", help::FIRST));
     with_option(command, layout_option(alloc))
 }
@@ -350,7 +356,9 @@ fn serving_parser<'a>(
     let command = with_option(command, store_option(alloc));
     let command = with_option(command, layout_option(alloc));
     let command = with_option(command, text_option(alloc, "group", "NAME", help::GROUP));
-    let command = with_option(command, create_flag(alloc));
+    let command = with_option(command, flag(alloc, "plain", help::PLAIN));
+    let command = with_option(command, flag(alloc, "create", help::CREATE));
+    let command = with_option(command, flag(alloc, "grow", help::GROW));
     let command = with_option(command, number_option(alloc, "wait", "SECONDS", help::WAIT));
     with_option(command, text_option(alloc, "log", "FILE", help::LOG))
 }
@@ -360,7 +368,7 @@ fn serve_parser<'a>(alloc: Global) -> Result<Parser<'a>, AllocError>
     ensures { IfOk result (Offers serve_command) }
 {
     let usage =
-        "seat_cli serve --site I --store FILE [--layout FILE] [--group NAME] [--create] [--wait SECONDS] [--log FILE]";
+        "seat_cli serve --site I --store FILE [--layout FILE] [--group NAME | --plain] [--create] [--grow] [--wait SECONDS] [--log FILE]";
     serving_parser(alloc, "serve", usage, help::SERVE, help::SERVE_NOTES)
 }
 
@@ -369,7 +377,7 @@ fn ask_parser<'a>(alloc: Global) -> Result<Parser<'a>, AllocError>
     ensures { IfOk result (Offers ask_command) }
 {
     let usage =
-        "seat_cli ask --site I --store FILE [--layout FILE] [--group NAME] [--create] [--wait SECONDS] [--log FILE] WORD..";
+        "seat_cli ask --site I --store FILE [--layout FILE] [--group NAME | --plain] [--create] [--grow] [--wait SECONDS] [--log FILE] WORD..";
     let command = serving_parser(alloc, "ask", usage, help::ASK, help::ASK_NOTES);
     let command = with_option(command, first_word(alloc));
     let command = with_option(command, word(alloc, "word2", help::WORD2));
@@ -406,25 +414,14 @@ fn layout_option<'a>(alloc: Global) -> Arg<'a>
     text_option(alloc, "layout", "FILE", help::LAYOUT)
 }
 
-// The flag `--tables`.
-fn tables_flag<'a>(alloc: Global) -> Arg<'a>
-    ensures rule { rule_of result ≡ tables_flag }
+// A flag.
+fn flag<'a>(alloc: Global, name: &'a str, about: &'a str) -> Arg<'a>
+    ensures rule { rule_of result ≡ flag name.now }
     ensures local { result.global ≡ false }
 {
-    Arg::new(alloc, "tables")
-        .long("tables")
-        .help(help::TABLES)
-        .action(ArgAction::SetTrue)
-}
-
-// The flag `--create`.
-fn create_flag<'a>(alloc: Global) -> Arg<'a>
-    ensures rule { rule_of result ≡ create_flag }
-    ensures local { result.global ≡ false }
-{
-    Arg::new(alloc, "create")
-        .long("create")
-        .help(help::CREATE)
+    Arg::new(alloc, name)
+        .long(name)
+        .help(about)
         .action(ArgAction::SetTrue)
 }
 

@@ -103,16 +103,26 @@ pub const SERVE_NOTES: &str = "\
 Each line of the input is a call as `site` has them, or one of these:
   show NAME        the reply is `rights R inside I unfinished U`, from this site's own book
   sessions NAME    the reply is the number of sessions at record NAME, then `H PHASE` of each, in order of arrival
+  fence NAME H     the reply is `fence N` while H is inside record NAME: a number that grows behind each writer
 Each line gets one reply, which is printed before the next line is read. A change is committed before its reply is
 printed. There is no limit on the number of lines: a program starts `serve` and keeps two pipes to it.
 
-Unlike `site`, the service goes on behind a line that can't be read, whose reply is `refused BadWord`, one above
-2,097,157 bytes, `refused TooLong`, and one for which memory ran out, `refused Memory`. A delta that would give the site
-more rights to a record than it has seats is refused whole: `refused TooManySeats R`.
+Unlike `site`, the service goes on behind a line that can't be read, whose reply is `refused BadWord K`: word K is the
+first that can't stand there, is missing, or is one too many, counted from 1 by single blanks. It also goes on behind
+one longer than any call, `refused TooLong`, and one for which memory ran out, `refused Memory`. A last line without LF
+may be cut short: it is `refused BadWord`. A delta that would give the site more rights to a record than it has seats is
+refused whole: `refused TooManySeats R`.
+
+`send` prints a mark in front of the delta, and `take` wants one: the group's name, or `-`; 16 hexadecimal digits for the
+layout's records; 8 for the delta's text; each with a blank behind it. So a text of another group, of a layout with
+other records, or with a damaged byte is refused: `refused NoMark`, `WrongGroup`, `OtherRecords` or `Damaged`. With --plain
+deltas have no mark, as those of `site`.
 
 FILE is the store that `site` makes too. Without --create it must be there, else `store refused NoStore`; with --create
-it must not be there, else `store refused Exists`. While another process has it open, `store refused InUse`: with --wait
-it is tried again for so many seconds, at most 65,535. These end with status 5.
+it must not be there, else `store refused Exists`. A database that this program did not make is `store refused
+NotAStore`. While another process has it open, `store refused InUse`: with --wait it is tried again for so many seconds,
+at most 65,535. A layout with more sites than the store knows needs --grow, else `store refused WrongLayout`. These end
+with status 5.
 
 The site freezes when a change can't be committed: that reply is `refused StoreFault`. It also freezes when a delta shows
 that FILE is older than what other sites have seen of this one: that reply is `refused OwnRowAhead R`, and at the end
@@ -120,9 +130,8 @@ that FILE is older than what other sites have seen of this one: that reply is `r
 status 5, else 0.
 
 With --group the site is one of a group of sites: NAME is kept in a store that is made, and a store of another group, or
-of none, is refused with `store refused WrongGroup`. `send` then prints NAME, a blank and the delta, and `take` wants the
-same; any other text is `refused WrongGroup`, so that deltas of two groups with the same layout can't be mixed up. NAME
-has 1 to 32 bytes: a letter from a to z first, then such letters, digits and `-`.
+of none, is refused with `store refused WrongGroup`. NAME has 1 to 32 bytes: a letter from a to z first, then such
+letters, digits and `-`; no word that begins a reply, as `refused`.
 
 With --log each call and its reply are appended to FILE before the call is committed, so that `judge` can read the logs
 of all sites behind one another, even after a crash.
@@ -143,6 +152,12 @@ Example:
 
 /// The flag `--create`.
 pub const CREATE: &str = "Make the store, which must not be there yet";
+
+/// The flag `--grow`.
+pub const GROW: &str = "Let the store know the layout's sites, where it was made for fewer";
+
+/// The flag `--plain`.
+pub const PLAIN: &str = "Send and take deltas without a mark, as `site` does";
 
 /// The option `--wait`.
 pub const WAIT: &str =

@@ -2,7 +2,7 @@
 ghost use Rattle.std.specs.Prelude.{◌≡◌, ◌∷◌, [], None, Some, codes, false, true};
 ghost use Rattle.clap.specs.Words.{fault_of};
 ghost use Rattle.clap.specs.declared.error.ErrorKind.TheVariants.{ArgumentConflict, InvalidSubcommand, InvalidValue, MissingRequiredArgument, TooManyValues, UnknownArgument, ValueValidation};
-ghost use Rattle.command_arguments.specs.Arguments.{asked_words, called_with, named_command, named_value, program, said};
+ghost use Rattle.command_arguments.specs.Arguments.{asked_words, called_with, named_command, named_value, program, said, serving};
 ghost use Rattle.command_arguments.specs.declared.arguments.Command.TheVariants.{Join, Play, Site, Serve, Ask, Judge, Run};
 
 /// What arguments the program is called with and how they are read, by computation alone: the layout file that they
@@ -58,13 +58,15 @@ pub fn site_arguments_read()
     ensures store_of_play { fault_of program (called_with (codes "play" ∷ codes "--store=a" ∷ [])) ≡ UnknownArgument ∷ [] }
 {}
 
-/// The same of the command `serve`: the site and its store, which are needed; whether the store is made; how long to wait
-/// for it; the name of the site's group; and the file for the site's log.
+/// The same of the command `serve`: the site and its store, which are needed; whether the store is made, or grows; how
+/// long to wait for it; the name of the site's group, or whether deltas travel without a mark; and the file for the site's log.
 #[tactic(auto, unfolding(clap::proofs::OnLiterals::clap_on_literals))]
 pub fn serve_arguments_read()
-    ensures plain { named_command (called_with (codes "serve" ∷ codes "--site=1" ∷ codes "--store=a" ∷ [])) ≡ Serve 1 false 0 }
-    ensures created { named_command (called_with (codes "serve" ∷ codes "--create" ∷ codes "--store=a" ∷ codes "--site=0" ∷ [])) ≡ Serve 0 true 0 }
-    ensures waits { named_command (called_with (codes "serve" ∷ codes "--wait" ∷ codes "30" ∷ codes "--store=a" ∷ codes "--site=0" ∷ [])) ≡ Serve 0 false 30 }
+    ensures plain { named_command (called_with (codes "serve" ∷ codes "--site=1" ∷ codes "--store=a" ∷ [])) ≡ Serve (serving 1 false false false 0) }
+    ensures created { named_command (called_with (codes "serve" ∷ codes "--create" ∷ codes "--store=a" ∷ codes "--site=0" ∷ [])) ≡ Serve (serving 0 true false false 0) }
+    ensures grown { named_command (called_with (codes "serve" ∷ codes "--grow" ∷ codes "--store=a" ∷ codes "--site=0" ∷ [])) ≡ Serve (serving 0 false true false 0) }
+    ensures unmarked { named_command (called_with (codes "serve" ∷ codes "--plain" ∷ codes "--store=a" ∷ codes "--site=0" ∷ [])) ≡ Serve (serving 0 false false true 0) }
+    ensures waits { named_command (called_with (codes "serve" ∷ codes "--wait" ∷ codes "30" ∷ codes "--store=a" ∷ codes "--site=0" ∷ [])) ≡ Serve (serving 0 false false false 30) }
     ensures store { named_value (codes "store") (called_with (codes "serve" ∷ codes "--site=1" ∷ codes "--store" ∷ codes "a" ∷ [])) ≡ Some (codes "a") }
     ensures log { named_value (codes "log") (called_with (codes "serve" ∷ codes "--site=1" ∷ codes "--store=a" ∷ codes "--log=b" ∷ [])) ≡ Some (codes "b") }
     ensures no_log { named_value (codes "log") (called_with (codes "serve" ∷ codes "--site=1" ∷ codes "--store=a" ∷ [])) ≡ None }
@@ -80,7 +82,7 @@ pub fn serve_arguments_read()
 /// The same of the command `ask`: one to four words behind the options.
 #[tactic(auto, unfolding(clap::proofs::OnLiterals::clap_on_literals))]
 pub fn ask_arguments_read()
-    ensures plain { named_command (called_with (codes "ask" ∷ codes "--site=1" ∷ codes "--store=a" ∷ codes "send" ∷ [])) ≡ Ask 1 false 0 }
+    ensures plain { named_command (called_with (codes "ask" ∷ codes "--site=1" ∷ codes "--store=a" ∷ codes "send" ∷ [])) ≡ Ask (serving 1 false false false 0) }
     ensures one { asked_words (called_with (codes "ask" ∷ codes "--site=1" ∷ codes "--store=a" ∷ codes "send" ∷ [])) ≡ said (Some (codes "send")) None None None }
     ensures three { asked_words (called_with (codes "ask" ∷ codes "--site=1" ∷ codes "--store=a" ∷ codes "read" ∷ codes "a" ∷ codes "7" ∷ []))
         ≡ said (Some (codes "read")) (Some (codes "a")) (Some (codes "7")) None }

@@ -1,7 +1,7 @@
 //! The arguments of the program: what they ask for, by clap's rules, and the texts of its help.
 #![tactic(auto)]
 
-pub use arguments::{Command, Request, Words, requested};
+pub use arguments::{Command, Request, Serving, Words, requested};
 
 mod arguments;
 mod help;

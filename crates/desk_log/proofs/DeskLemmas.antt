@@ -16,6 +16,7 @@ use Rattle.admission_model.proofs.AskedLemmas.{changed_refused}
 use Rattle.admission_core.proofs.ReadyLemmas.{stands_along}
 use Rattle.admission_model.specs.View.{view_of}
 use Rattle.admission_model.specs.Serving.{after, reason, replied, answer}
+use Rattle.admission_model.specs.Durable.{change_between, IsEmpty}
 use Rattle.admission_core.specs.Core.{Core, IsCore, Stands}
 use Rattle.admission_core.specs.Kept.{durable_of}
 use Rattle.merge_core.specs.Book.{seats_at}
@@ -52,6 +53,7 @@ frozen_served g d pass call frozen = record {
   told = λ e. absurd (cc);
   in_doubt = λ serves e. absurd (clash serves);
   refused = λ refusal e. refl;
+  idle = λ empty. refl;
   crash = λ serves. absurd (clash serves);
 }
   where
@@ -76,6 +78,7 @@ full_served g d pass call running full = record {
   told = λ e. absurd (cc);
   in_doubt = λ serves e. absurd (clash serves);
   refused = λ refusal e. refl;
+  idle = λ empty. refl;
   crash = λ serves. absurd (clash serves);
 }
   where
@@ -108,12 +111,13 @@ module _ {K : Type 0} (g : Ghosts K) (d : DeskState K) (pass : ℕ) (call : Call
     told = λ e. absurd (cc);
     in_doubt = λ there e. absurd (cc);
     refused = λ refusal e. refl;
+    idle = λ empty. refl;
     crash = λ there kept. kept;
   }
 
   -- anything else
-  pub no_memory : (c : Core) (k : K) → (g.is_honest k → g.is_honest d.keeper) → IsUnserved g (account_of d) d.core c d.keeper k call → IsServing g d (record d { core = c; keeper = k }) pass call (Refused NoMemory)
-  no_memory c k honest un = record {
+  pub no_memory : (c : Core) (k : K) → (g.is_honest k → g.is_honest d.keeper) → (IsEmpty (change_between (account_of d) (after (account_of d) call)) → k ≡ d.keeper) → IsUnserved g (account_of d) d.core c d.keeper k call → IsServing g d (record d { core = c; keeper = k }) pass call (Refused NoMemory)
+  no_memory c k honest idle un = record {
     frozen = λ e. absurd (not_frozen e);
     only_frozen = λ e. absurd (cc);
     full = λ running e. absurd (not_full e);
@@ -129,6 +133,7 @@ module _ {K : Type 0} (g : Ghosts K) (d : DeskState K) (pass : ℕ) (call : Call
     told = λ e. absurd (cc);
     in_doubt = λ there e. absurd (cc);
     refused = λ refusal e. un.core;
+    idle = idle;
     crash = λ there kept. subst (λ (a : Account). g.keeps k (durable_of a)) (sym account) (un.kept kept);
   }
     where
@@ -234,8 +239,8 @@ module _ {K : Type 0} (g : Ghosts K) (d : DeskState K) (pass : ℕ) (call : Call
           (subst (λ (a : Account). g.keeps k (durable_of a)) (sym answered_account) (it.kept (was_kept began)));
     }
 
-    pub answered_served : IsServing g d new pass call reply
-    answered_served = record {
+    pub answered_served : (IsEmpty (change_between (account_of d) (after (account_of d) call)) → k ≡ d.keeper) → IsServing g d new pass call reply
+    answered_served idle = record {
       frozen = λ e. absurd (not_frozen g d pass call serves e);
       only_frozen = λ e. absurd (never_frozen (view_of (account_of d)) call (sym it.model ∙ e));
       full = λ running e. absurd (not_full g d pass call serves e);
@@ -251,6 +256,7 @@ module _ {K : Type 0} (g : Ghosts K) (d : DeskState K) (pass : ℕ) (call : Call
       told = λ e. let both : false ≡ true = sym no_fault_now ∙ e in absurd (cc);
       in_doubt = λ there e. let both : false ≡ true = sym no_fault_now ∙ e in absurd (cc);
       refused = it.refused;
+      idle = idle;
       crash = λ there kept.
           subst (λ (b : Bool). Leaves g b k (account_of new) (after (account_of d) call)) (sym no_fault_now)
           (subst (λ (a : Account). g.keeps k (durable_of a)) (sym answered_account) (it.kept kept));
@@ -309,6 +315,7 @@ module _ {K : Type 0} (g : Ghosts K) (d : DeskState K) (pass : ℕ) (call : Call
       told = λ e. it.told;
       in_doubt = λ there e. tried doubted_layout doubted_site;
       refused = λ refusal e. it.core;
+      idle = λ empty. absurd (it.changes empty);
       crash = λ there kept. subst (λ (b : Bool). Leaves g b k (account_of new) (after (account_of d) call)) (sym fault_now) (either kept);
     }
       where
@@ -316,9 +323,9 @@ module _ {K : Type 0} (g : Ghosts K) (d : DeskState K) (pass : ℕ) (call : Call
         clash refusal e = it.changes (changed_refused (account_of d) is.stands.reached call refusal e)
 
   -- either of them
-  pub desk_served : IsAnswered g (account_of d) d.core c d.keeper k call reply ⊎ IsDoubted g (account_of d) d.core c d.keeper k call reply → IsDesk g new × IsServing g d new pass call reply
-  desk_served (inl it) = (desk_answered it, answered_served it)
-  desk_served (inr it) = (desk_doubted it, doubted_served it)
+  pub desk_served : (IsEmpty (change_between (account_of d) (after (account_of d) call)) → k ≡ d.keeper) → IsAnswered g (account_of d) d.core c d.keeper k call reply ⊎ IsDoubted g (account_of d) d.core c d.keeper k call reply → IsDesk g new × IsServing g d new pass call reply
+  desk_served idle (inl it) = (desk_answered it, answered_served it idle)
+  desk_served idle (inr it) = (desk_doubted it, doubted_served it)
 
   -- and the reply is logged
   pub reply_logged : IsAnswered g (account_of d) d.core c d.keeper k call reply ⊎ IsDoubted g (account_of d) d.core c d.keeper k call reply → is_logged reply ≡ true
@@ -362,15 +369,16 @@ desk_begun {K} g keeper k layout i limit c log is there made on begins = record 
         ∙ (λ j. begun (same_layout j) (same_site j) log.first)
 
 -- the desk with the log as it was pushed, of copies
-pub desk_logged : {K : Type 0} (g : Ghosts K) (d : DeskState K) (pass : ℕ) (call copy : Call) → IsOpen d → IsDesk g d → (c : Core) (k : K) (reply logged : Reply) (log : LogState) → IsMadeFor g k d.core.layout d.core.site → (g.is_honest k → g.is_honest d.keeper) → copy ≡ call → logged ≡ reply
+pub desk_logged : {K : Type 0} (g : Ghosts K) (d : DeskState K) (pass : ℕ) (call copy : Call) → IsOpen d → IsDesk g d → (c : Core) (k : K) (reply logged : Reply) (log : LogState) → IsMadeFor g k d.core.layout d.core.site → (g.is_honest k → g.is_honest d.keeper)
+    → (IsEmpty (change_between (account_of d) (after (account_of d) call)) → k ≡ d.keeper) → copy ≡ call → logged ≡ reply
     → log ≡ record d.log { entries = d.log.entries ++ record { pass = pass; call = copy; reply = logged } ∷ [] }
     → IsAnswered g (account_of d) d.core c d.keeper k call reply ⊎ IsDoubted g (account_of d) d.core c d.keeper k call reply
     → IsDesk g (record { core = c; keeper = k; opened = d.opened; log = log }) × IsServing g d (record { core = c; keeper = k; opened = d.opened; log = log }) pass call reply
-desk_logged {K} g d pass call copy serves is c k reply logged log made honest same_call same_reply pushed it =
+desk_logged {K} g d pass call copy serves is c k reply logged log made honest idle same_call same_reply pushed it =
     let P : LogState → Type 0 = λ l. IsDesk g (record { core = c; keeper = k; opened = d.opened; log = l }) × IsServing g d (record { core = c; keeper = k; opened = d.opened; log = l }) pass call reply in
     let all : record d.log { entries = d.log.entries ++ record { pass = pass; call = call; reply = reply } ∷ [] } ≡ log =
     (λ i. record d.log { entries = d.log.entries ++ record { pass = pass; call = sym same_call i; reply = sym same_reply i } ∷ [] }) ∙ sym pushed in
-    subst P all (desk_served g d pass call serves is c k reply made honest it)
+    subst P all (desk_served g d pass call serves is c k reply made honest idle it)
 
 -- the copy for a receipt of a logged reply
 pub receipt_given : {K : Type 0} (g : Ghosts K) (a : Account) (c d : Core) (k l : K) (call : Call) (reply : Reply) (receipt : Option Reply) → IsAnswered g a c d k l call reply ⊎ IsDoubted g a c d k l call reply → receipt ≡ Some reply → receipt ≡ receipt_of reply

@@ -79,9 +79,17 @@ module _ (c mid : Core) (call : Call) (p : Prepared) (core : IsCore c) (same : S
   with_change : is_memory p.reply ≡ false → (a : Account) → Stands a c → changed p.change (durable_of a) ≡ durable_of (after a call)
   with_change memory a stands = changed_durable a stands.reached (few_sites a c core.layout stands) call p.change (change_told memory a stands)
 
+  -- where the durable part does not change, nothing was to be kept
+  pub nothing_due : is_memory p.reply ≡ false → (a : Account) → Stands a c → IsEmpty (change_between a (after a call)) → (p.change.cells ≡ []) × (p.change.session ≡ None)
+  nothing_due memory a stands = nothing_changes a call p.change (change_told memory a stands)
+
   -- where something changes, the durable part does
   changes_so : is_memory p.reply ≡ false → ¬ ((p.change.cells ≡ []) × (p.change.session ≡ None)) → (a : Account) → Stands a c → ¬ IsEmpty (change_between a (after a call))
-  changes_so memory some a stands = λ empty. some (nothing_changes a call p.change (change_told memory a stands) empty)
+  changes_so memory some a stands = λ empty. some (nothing_due memory a stands empty)
+
+  -- a keeper that is left alone where it is told nothing is left alone where the durable part does not change
+  pub left_alone : {K : Type 0} (k l : K) → is_memory p.reply ≡ false → (p.change.cells ≡ [] → p.change.session ≡ None → l ≡ k) → (a : Account) → Stands a c → IsEmpty (change_between a (after a call)) → l ≡ k
+  left_alone k l memory idle a stands empty = let none = nothing_due memory a stands empty in idle none.0 none.1
 
   -- the store has no memory
   pub store_memory : {K : Type 0} (g : Ghosts K) (k l : K) → is_memory p.reply ≡ false → HasNotKept g k l p.change → (a : Account) → Stands a c → IsUnserved g a c mid k l call

@@ -222,7 +222,7 @@ module _ {K : Type 0} where
   -- call where the reply is logged. After a refusal the core is as it was, its room aside. Where the durable part of
   -- the log's account was kept, a crash then leaves that of the account after the call; and after the store's fault
   -- that of the account before the call or after it. The store's fault is answered only where the keeper told one, and
-  -- the call that is then in doubt is this one.
+  -- the call that is then in doubt is this one. Where the durable part does not change, the keeper is as it was.
   pub record IsServing (g : Ghosts K) (old new : DeskState K) (pass : ℕ) (call : Call) (reply : Reply) : Type 0 where
     pub frozen : is_frozen old ≡ true → (reply ≡ Refused Frozen) × (new ≡ old)
     pub only_frozen : reply ≡ Refused Frozen → is_frozen old ≡ true
@@ -241,5 +241,6 @@ module _ {K : Type 0} where
     pub told : is_fault reply ≡ true → g.faults_of new.keeper ≡ 1
     pub in_doubt : IsOpen old → is_fault reply ≡ true → account_if_kept new ≡ after (account_of old) call
     pub refused : (refusal : Refusal) → reply ≡ Refused refusal → SameContent old.core new.core
+    pub idle : IsEmpty (change_between (account_of old) (after (account_of old) call)) → new.keeper ≡ old.keeper
     pub crash : IsOpen old → g.keeps old.keeper (durable_of (account_of old))
         → Leaves g (is_fault reply) new.keeper (account_of new) (after (account_of old) call)

@@ -1,11 +1,13 @@
 //! One call at a core and its keeper: answered, copied, kept, and only then carried out.
-ghost use Rattle.std.specs.Prelude.{◌≡◌, IfOk, IfSome, IsOk, IsSome, Ok, Some, None, true};
+ghost use Rattle.std.specs.Prelude.{◌≡◌, IfOk, IfSome, IsOk, IsSome, Ok, Some, None, [], true};
 ghost use Rattle.admission_model.specs.declared.ask.Ask.{Ask};
 ghost use Rattle.admission_model.specs.declared.ask.Call.TheVariants.{Ask as AskCall};
 ghost use Rattle.admission_model.specs.declared.reply.Refusal.{Refusal};
 ghost use Rattle.admission_model.specs.declared.reply.Refusal.TheVariants.{StoreFault as NoStore};
 ghost use Rattle.admission_model.specs.declared.reply.Reply.TheVariants.{Refused};
 ghost use Rattle.admission_model.specs.Account.{Account};
+ghost use Rattle.admission_model.specs.Durable.{IsEmpty, change_between};
+ghost use Rattle.admission_model.specs.Serving.{after};
 ghost use Rattle.admission_core.specs.Core.{IsCore, Stands, is_memory};
 ghost use Rattle.durable_keeper.specs.Keeping.{IsChange};
 ghost use Rattle.durable_keeper.specs.declared.error.KeeperError.TheVariants.{Memory, StoreFault};
@@ -69,6 +71,7 @@ fn keep<K: Keeper>(keeper: &mut K, change: &Change) -> Result<(), KeeperError>
     requires change { IsChange (K.layout keeper.old) (K.site keeper.old) change.now }
     requires no_fault { K.faults_of keeper.old ≡ 0 }
     ensures kept { KeepsChange K.Keeper keeper.old keeper.new change.now result }
+    ensures idle { change.now.cells ≡ [] → change.now.session ≡ None → keeper.new ≡ keeper.old }
     ensures honest { K.is_honest keeper.new → K.is_honest keeper.old }
     ensures layout { K.layout keeper.new ≡ K.layout keeper.old }
     ensures site { K.site keeper.new ≡ K.site keeper.old }
@@ -113,6 +116,7 @@ pub(crate) fn step<K: Keeper>(
     requires made_for { IsMadeFor K.Keeper keeper.old core.old.layout core.old.site }
     requires no_fault { K.faults_of keeper.old ≡ 0 }
     ensures step { (a : Account) → Stands a core.old → IsStep K.Keeper a core.old core.new keeper.old keeper.new call.now result }
+    ensures idle { (a : Account) → Stands a core.old → IsEmpty (change_between a (after a call.now)) → keeper.new ≡ keeper.old }
     ensures made_for { IsMadeFor K.Keeper keeper.new core.old.layout core.old.site }
     ensures honest { K.is_honest keeper.new → K.is_honest keeper.old }
     ensures copied { IfSome result (IsCopied receipt) }

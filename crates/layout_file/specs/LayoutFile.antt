@@ -13,6 +13,8 @@ use Rattle.text_input.specs.Input.{LosesSome, ReadsUpTo}
 use Rattle.text_input.specs.Source.{SourceState}
 use Rattle.layout_file.specs.declared.fault.LayoutFault.{LayoutFault}
 use Rattle.layout_file.specs.declared.fault.LayoutFault.TheVariants.{NotRead, TooLong, NotToml, WrongKeys, Refused, Memory, BadGrowth, NoSite}
+use Rattle.layout_file.specs.declared.refusal.LayoutRefusal.{LayoutRefusal}
+use Rattle.layout_file.specs.Places.{NamesRecord}
 
 abbrev pub count_members : Members → ℕ
 count_members no_members = 0
@@ -67,26 +69,48 @@ parts_in d = if key_count d == 2 then (do
   records ← records_at_key (codes "record") d
   Some (record { sites = sites; records = records })) else None
 
--- The answer to a document whose sites and records were read, if they were.
-abbrev pub TellsLayout : Option LayoutState → Result LayoutState LayoutFault → Type 0
-TellsLayout read (Ok layout) = (read ≡ Some layout) × (layout_fault layout.sites layout.records ≡ None)
-TellsLayout read (Err NotRead) = ⊥
-TellsLayout read (Err TooLong) = ⊥
-TellsLayout read (Err NotToml) = ⊥
-TellsLayout read (Err WrongKeys) = read ≡ None
-TellsLayout read (Err (Refused e)) =
+-- a refusal for a fault of no single record
+abbrev pub whole_refusal : LayoutFault → LayoutRefusal
+whole_refusal fault = record { fault = fault; place = None }
+
+-- sites and records were read, and are no layout
+abbrev pub IsRefused : Option LayoutState → LayoutError → Type 0
+IsRefused read error = (layout : LayoutState) × (read ≡ Some layout) × (layout_fault layout.sites layout.records ≡ Some error)
+
+-- The refusal of a document whose sites and records were read, if they were. The place of a record is told where the
+-- fault is that of a record.
+abbrev pub TellsRefusal : Option LayoutState → LayoutFault → Option ℕ → Type 0
+TellsRefusal read NotRead place = ⊥
+TellsRefusal read TooLong place = ⊥
+TellsRefusal read NotToml place = ⊥
+TellsRefusal read WrongKeys place = (read ≡ None) × (place ≡ None)
+TellsRefusal read (Refused e) place =
     (layout : LayoutState) × (read ≡ Some layout) × (layout_fault layout.sites layout.records ≡ Some e)
-TellsLayout read (Err Memory) = Unit {0}
-TellsLayout read (Err BadGrowth) = ⊥
-TellsLayout read (Err NoSite) = ⊥
+    × NamesRecord e layout.sites layout.records place
+TellsRefusal read Memory place = place ≡ None
+TellsRefusal read BadGrowth place = ⊥
+TellsRefusal read NoSite place = ⊥
+
+-- The answer to a document whose sites and records were read, if they were.
+abbrev pub TellsLayout : Option LayoutState → Result LayoutState LayoutRefusal → Type 0
+TellsLayout read (Ok layout) = (read ≡ Some layout) × (layout_fault layout.sites layout.records ≡ None)
+TellsLayout read (Err refusal) = TellsRefusal read refusal.fault refusal.place
+
+-- the bytes are a TOML document, whose sites and records were read, if it tells them
+abbrev pub ReadsDocument : List ℕ → (Option LayoutState → Type 0) → Type 0
+ReadsDocument bytes Told = (ms : Members) × IsUtf8 bytes × (parse_document bytes ≡ Some ms) × Told (parts_in (table ms))
+
+-- why bytes describe no layout: they are no TOML document, or it is told by the document's keys
+abbrev pub RefusesLayout : List ℕ → LayoutFault → Option ℕ → Type 0
+RefusesLayout bytes NotToml place = (IsUtf8 bytes → parse_document bytes ≡ None) × (place ≡ None)
+RefusesLayout bytes Memory place = place ≡ None
+RefusesLayout bytes fault place = ReadsDocument bytes (λ read. TellsRefusal read fault place)
 
 -- What reading a layout from a file's bytes answers. They are no TOML document; or they are one, and the answer
 -- is told by its keys. Memory may run out at any time.
-abbrev pub ReadsLayout : List ℕ → Result LayoutState LayoutFault → Type 0
-ReadsLayout bytes (Err NotToml) = IsUtf8 bytes → parse_document bytes ≡ None
-ReadsLayout bytes (Err Memory) = Unit {0}
-ReadsLayout bytes answer =
-    (ms : Members) × IsUtf8 bytes × (parse_document bytes ≡ Some ms) × TellsLayout (parts_in (table ms)) answer
+abbrev pub ReadsLayout : List ℕ → Result LayoutState LayoutRefusal → Type 0
+ReadsLayout bytes (Ok layout) = ReadsDocument bytes (λ read. TellsLayout read (Ok layout))
+ReadsLayout bytes (Err refusal) = RefusesLayout bytes refusal.fault refusal.place
 
 -- the names of the faults, as the program writes them
 abbrev pub layout_error_name : LayoutError → List ℕ
@@ -121,10 +145,15 @@ built_in_layout = record {
 abbrev pub layout_limit : ℕ
 layout_limit = 1048576
 
+-- why a file holds no layout: a read failed, or there are more bytes than the limit, or all its bytes describe none
+abbrev pub RefusesLayoutFile : SourceState → SourceState → LayoutFault → Option ℕ → Type 0
+RefusesLayoutFile old new NotRead place = ReadsUpTo layout_limit old new (Err input.Io) × (place ≡ None)
+RefusesLayoutFile old new TooLong place = ReadsUpTo layout_limit old new (Err input.TooLong) × (place ≡ None)
+RefusesLayoutFile old new Memory place = LosesSome old new (layout_limit + 1) × (place ≡ None)
+RefusesLayoutFile old new fault place = (bytes : List ℕ) × ReadsUpTo layout_limit old new (Ok bytes) × RefusesLayout bytes fault place
+
 -- What reading a layout file answers: what all its bytes describe; or a read failed, or there are more bytes than
 -- the limit. Memory may run out at any time.
-abbrev pub ReadsLayoutFile : SourceState → SourceState → Result LayoutState LayoutFault → Type 0
-ReadsLayoutFile old new (Err NotRead) = ReadsUpTo layout_limit old new (Err input.Io)
-ReadsLayoutFile old new (Err TooLong) = ReadsUpTo layout_limit old new (Err input.TooLong)
-ReadsLayoutFile old new (Err Memory) = LosesSome old new (layout_limit + 1)
-ReadsLayoutFile old new answer = (bytes : List ℕ) × ReadsUpTo layout_limit old new (Ok bytes) × ReadsLayout bytes answer
+abbrev pub ReadsLayoutFile : SourceState → SourceState → Result LayoutState LayoutRefusal → Type 0
+ReadsLayoutFile old new (Ok layout) = (bytes : List ℕ) × ReadsUpTo layout_limit old new (Ok bytes) × ReadsLayout bytes (Ok layout)
+ReadsLayoutFile old new (Err refusal) = RefusesLayoutFile old new refusal.fault refusal.place

@@ -1,1 +1,2 @@
 pub mod LayoutFile
+pub mod Places

@@ -2,10 +2,12 @@ ghost use Rattle.std.specs.Prelude.{◌≡◌, string_bytes, IfOk};
 ghost use Rattle.toml.specs.Data.{get};
 ghost use Rattle.toml.specs.View.{view, items_view};
 ghost use Rattle.text_parts.specs.Readers.{Gives};
-ghost use Rattle.layout_file.specs.LayoutFile.{ReadsLayout, ReadsLayoutFile, TellsLayout, key_count, number_in, number_at_key, short_at_key, text_at_key, record_in, records_in, records_of, records_at_key, parts_in, built_in_layout};
+ghost use Rattle.layout_file.specs.LayoutFile.{IsRefused, ReadsLayout, ReadsLayoutFile, TellsLayout, key_count, number_in, number_at_key, short_at_key, text_at_key, record_in, records_in, records_of, records_at_key, parts_in, built_in_layout};
 
 use crate::fault::LayoutFault;
-use merge_core::{Layout, RecordName, RecordSpec};
+use crate::places::faulty_record;
+use crate::refusal::LayoutRefusal;
+use merge_core::{Layout, LayoutError, RecordName, RecordSpec};
 use std::alloc::{AllocError, Global};
 use std::io::Read;
 use text_input::{InputError, Source, read_up_to};
@@ -19,48 +21,63 @@ pub const LAYOUT_LIMIT: u32 = 1_048_576;
 pub fn read_layout_file<R: Read>(
     alloc: Global,
     source: &mut Source<R>,
-) -> Result<Layout, LayoutFault>
+) -> Result<Layout, LayoutRefusal>
     ensures { ReadsLayoutFile source.old source.new result }
 {
     match read_up_to(alloc, source, LAYOUT_LIMIT) {
         Ok(bytes) => read_layout(alloc, bytes.as_slice()),
-        Err(InputError::TooLong) => Err(LayoutFault::TooLong),
-        Err(InputError::Memory) => Err(LayoutFault::Memory),
-        Err(InputError::Io) => Err(LayoutFault::NotRead),
+        Err(InputError::TooLong) => Err(LayoutRefusal::whole(LayoutFault::TooLong)),
+        Err(InputError::Memory) => Err(LayoutRefusal::whole(LayoutFault::Memory)),
+        Err(InputError::Io) => Err(LayoutRefusal::whole(LayoutFault::NotRead)),
     }
 }
 
-/// The layout that a file's bytes describe, or why they describe none.
-pub fn read_layout(alloc: Global, bytes: &[u8]) -> Result<Layout, LayoutFault>
+/// The layout that a file's bytes describe, or why they describe none, and which record is at fault.
+pub fn read_layout(alloc: Global, bytes: &[u8]) -> Result<Layout, LayoutRefusal>
     ensures { ReadsLayout bytes.now result }
 {
     let Ok(text) = std::str::from_utf8(bytes) else {
-        return Err(LayoutFault::NotToml);
+        return Err(LayoutRefusal::whole(LayoutFault::NotToml));
     };
     let table = match toml::table_from_str(alloc, text) {
         Ok(table) => table,
         Err(error) => {
             if error.is_memory() {
-                return Err(LayoutFault::Memory);
+                return Err(LayoutRefusal::whole(LayoutFault::Memory));
             }
-            return Err(LayoutFault::NotToml);
+            return Err(LayoutRefusal::whole(LayoutFault::NotToml));
         }
     };
     layout_in(alloc, &Value::Table(table))
 }
 
 // The layout that a document describes.
-fn layout_in(alloc: Global, value: &Value) -> Result<Layout, LayoutFault>
+fn layout_in(alloc: Global, value: &Value) -> Result<Layout, LayoutRefusal>
     ensures { TellsLayout (parts_in (view value.now)) result }
 {
     let (sites, records) = match parts_in(alloc, value) {
         Ok(parts) => parts,
-        Err(Unread::Memory) => return Err(LayoutFault::Memory),
-        Err(Unread::Refused) => return Err(LayoutFault::WrongKeys),
+        Err(Unread::Memory) => return Err(LayoutRefusal::whole(LayoutFault::Memory)),
+        Err(Unread::Refused) => return Err(LayoutRefusal::whole(LayoutFault::WrongKeys)),
     };
     match Layout::new(sites, records) {
         Ok(layout) => Ok(layout),
-        Err(error) => Err(LayoutFault::Refused(error)),
+        Err(error) => Err(refusal_in(alloc, value, error)),
+    }
+}
+
+// The refusal of a document's sites and records. They are read once more, to find the record at fault.
+fn refusal_in(alloc: Global, value: &Value, error: LayoutError) -> LayoutRefusal
+    requires { IsRefused (parts_in (view value.now)) error }
+    ensures { TellsLayout (parts_in (view value.now)) (Err result) }
+{
+    match parts_in(alloc, value) {
+        Ok((sites, records)) => LayoutRefusal {
+            fault: LayoutFault::Refused(error),
+            place: faulty_record(error, sites, records.as_slice()),
+        },
+        Err(Unread::Memory) => LayoutRefusal::whole(LayoutFault::Memory),
+        Err(Unread::Refused) => LayoutRefusal::whole(LayoutFault::WrongKeys),
     }
 }
 

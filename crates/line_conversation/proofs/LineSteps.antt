@@ -1,6 +1,6 @@
 -- Reading one line, part by part.
 use Rattle.std.proofs.Common.{◌≡◌, ℕ, ◌+◌, ◌≤◌, ◌<◌, inl, inr, Bool, true, false, List, [], ◌∷◌, ◌++◌, length, refl, sym, ap, subst, ◌∙◌, append_assoc, append-nil, length-append, arith}
-use Rattle.std.specs.Prelude.{IsTrue, ◌↔◌, not}
+use Rattle.std.specs.Prelude.{not}
 use Rattle.std.specs.Io.KnownBytes.{Consumes, IsAtEnd, Keeps}
 use Rattle.std.proofs.KnownBytes.{Consumes-kept, Consumes-trans}
 use Rattle.text_input.specs.Lines.{HasNoLf}
@@ -10,7 +10,7 @@ use Rattle.line_conversation.specs.declared.conversation.Next.{Next}
 use Rattle.line_conversation.specs.declared.conversation.Next.TheVariants as next
 use Rattle.line_conversation.specs.declared.held.Fate.{Fate}
 use Rattle.line_conversation.specs.declared.held.Fate.TheVariants as fate
-use Rattle.line_conversation.specs.Stream.{HeldState, Holds, HoldsAs, Takes, next_of, CutsLine, Cuts, ReadsLine, ReadsSoFar}
+use Rattle.line_conversation.specs.Stream.{HeldState, HoldsAs, Takes, last_of, next_of, CutsLine, Cuts, ReadsLine, ReadsSoFar}
 use Rattle.line_conversation.specs.Begins.{nothing_lost}
 
 -- a line begins
@@ -29,11 +29,11 @@ line_begins source ahead limit ended = record {
   few = omega arith;
 }
 
--- a line that came whole is told by what became of it
-cuts_by : (f : Fate) (limit : ℕ) (line bytes kept rest : List ℕ) (ended : Bool) → HoldsAs f limit line kept → CutsLine ended bytes line rest
+-- a line that an LF ended is told by what became of it
+cuts_by : (f : Fate) (limit : ℕ) (line bytes kept rest : List ℕ) (ended : Bool) → HoldsAs f limit line kept → CutsLine bytes line rest
     → Cuts (next_of f) ended bytes kept limit rest
 cuts_by fate.Kept limit line bytes kept rest ended holds cut =
-    (subst (λ (xs : List ℕ). CutsLine ended bytes xs rest) (sym holds.0) cut, subst (λ (xs : List ℕ). length xs ≤ limit) (sym holds.0) holds.1)
+    (subst (λ (xs : List ℕ). CutsLine bytes xs rest) (sym holds.0) cut, subst (λ (xs : List ℕ). length xs ≤ limit) (sym holds.0) holds.1)
 cuts_by fate.TooLong limit line bytes kept rest ended holds cut = (line, cut, holds.1)
 cuts_by fate.NoRoom limit line bytes kept rest ended holds cut = (line, cut)
 
@@ -41,6 +41,32 @@ never_fails : (f : Fate) → next_of f ≡ next.Failed → ⊥
 never_fails fate.Kept e = cc
 never_fails fate.TooLong e = cc
 never_fails fate.NoRoom e = cc
+
+-- bytes that no LF ended are told by whether there are any
+cuts_last : (line bytes kept rest : List ℕ) (limit : ℕ) (ended : Bool) → ended ≡ true → bytes ≡ line → HasNoLf line → kept ≡ [] → rest ≡ []
+    → Cuts (last_of line) ended bytes kept limit rest
+cuts_last [] bytes kept rest limit ended closed all plain dropped none = (closed, all, none)
+cuts_last (b ∷ bs) bytes kept rest limit ended closed all plain dropped none =
+    let some : 0 < length (b ∷ bs) = omega arith in (
+      (
+        record {
+          at_end = closed;
+          some = subst (λ (xs : List ℕ). 0 < length xs) (sym all) some;
+          plain = subst HasNoLf (sym all) plain;
+        },
+        none,
+      ),
+      dropped,
+    )
+
+last_never_fails : (line : List ℕ) → last_of line ≡ next.Failed → ⊥
+last_never_fails [] e = cc
+last_never_fails (b ∷ bs) e = cc
+
+-- how an input ends, by whether a byte of a line came
+pub some_came : (line : List ℕ) → (line ≡ [] → ⊥) → next.Torn ≡ last_of line
+some_came [] some = absurd (some refl)
+some_came (b ∷ bs) some = refl
 
 -- a line on the way
 module _ (source now : SourceState) (ahead ahead_now : List ℕ) (held : HeldState) (ended ended_now : Bool) (reads : ℕ) (so_far : ReadsSoFar source now ahead ahead_now held ended ended_now reads) where
@@ -54,7 +80,7 @@ module _ (source now : SourceState) (ahead ahead_now : List ℕ) (held : HeldSta
     at_end = so_far.at_end;
     cut = subst (λ (n : Next). Cuts n ended_now (ahead ++ so_far.lost) after.bytes after.limit rest) (sym is)
         (cuts_by after.fate after.limit (so_far.line ++ part) (ahead ++ so_far.lost) after.bytes rest ended_now (takes so_far.line so_far.holds)
-        (no_lf_behind so_far.line part so_far.plain plain, inl (so_far.split ∙ (ap (λ (xs : List ℕ). so_far.line ++ xs) split ∙ sym (append_assoc so_far.line part (10 ∷ rest))))));
+        (no_lf_behind so_far.line part so_far.plain plain, so_far.split ∙ (ap (λ (xs : List ℕ). so_far.line ++ xs) split ∙ sym (append_assoc so_far.line part (10 ∷ rest)))));
     failed = λ e. absurd (never_fails after.fate (sym is ∙ e));
     few = so_far.few;
   }
@@ -75,45 +101,24 @@ module _ (source now : SourceState) (ahead ahead_now : List ℕ) (held : HeldSta
     few = so_far.few;
   }
 
-some_byte : (bs : List ℕ) → (bs ≡ [] → ⊥) → 0 < length bs
-some_byte [] some = absurd (some refl)
-some_byte (b ∷ bs) some = omega arith
-
 -- nothing is ahead
 module _ (source now : SourceState) (ahead ahead_now : List ℕ) (held : HeldState) (ended ended_now : Bool) (reads : ℕ) (so_far : ReadsSoFar source now ahead ahead_now held ended ended_now reads) (none : ahead_now ≡ []) where
   all_came : ahead ++ so_far.lost ≡ so_far.line
   all_came = so_far.split ∙ (ap (λ (xs : List ℕ). so_far.line ++ xs) none ∙ append-nil so_far.line)
 
-  -- the source had told its end, and no byte of a line came
-  pub no_line : (empty : Bool) → ended_now ≡ true → ((line : List ℕ) → Holds line held → (IsTrue empty ↔ (line ≡ []))) → empty ≡ true
-      → ReadsLine source now ahead ahead_now held ended ended_now reads next.End
-  no_line empty closed tells is = record {
+  -- the source had told its end
+  pub input_ends : (after : HeldState) (told : Next) → ended_now ≡ true → after.bytes ≡ [] → told ≡ last_of so_far.line
+      → ReadsLine source now ahead ahead_now after ended ended_now reads told
+  input_ends after told closed dropped is = record {
     lost = so_far.lost;
     consumed = so_far.consumed;
     closed = so_far.closed;
     at_end = so_far.at_end;
-    cut = (closed, all_came ∙ (tells so_far.line so_far.holds).0 is, none);
-    failed = λ e. absurd (cc);
+    cut = subst (λ (n : Next). Cuts n ended_now (ahead ++ so_far.lost) after.bytes after.limit ahead_now) (sym is)
+        (cuts_last so_far.line (ahead ++ so_far.lost) after.bytes ahead_now after.limit ended_now closed all_came so_far.plain dropped none);
+    failed = λ e. absurd (last_never_fails so_far.line (sym is ∙ e));
     few = so_far.few;
   }
-
-  -- or some did
-  pub last_line : (empty : Bool) (told : Next) → ended_now ≡ true → ((line : List ℕ) → Holds line held → (IsTrue empty ↔ (line ≡ []))) → empty ≡ false → told ≡ next_of held.fate
-      → ReadsLine source now ahead ahead_now held ended ended_now reads told
-  last_line empty told closed tells is told_is = record {
-    lost = so_far.lost;
-    consumed = so_far.consumed;
-    closed = so_far.closed;
-    at_end = so_far.at_end;
-    cut = subst (λ (n : Next). Cuts n ended_now (ahead ++ so_far.lost) held.bytes held.limit ahead_now) (sym told_is)
-        (cuts_by held.fate held.limit so_far.line (ahead ++ so_far.lost) held.bytes ahead_now ended_now so_far.holds
-        (so_far.plain, inr (closed, some_byte so_far.line some, all_came, none)));
-    failed = λ e. absurd (never_fails held.fate (sym told_is ∙ e));
-    few = so_far.few;
-  }
-    where
-      some : so_far.line ≡ [] → ⊥
-      some nothing = let both : true ≡ false = sym ((tells so_far.line so_far.holds).1 nothing) ∙ is in cc
 
   -- the source is read once more
   pub read_more : (later : SourceState) (read : List ℕ) (came ended_then : Bool) → ended_now ≡ false → Consumes now.remaining later.remaining read → (came ≡ false → IsAtEnd later.remaining) → (came ≡ true → 0 < length read)

@@ -1,5 +1,5 @@
 -- Turns of a conversation with a reader and a writer.
-use Rattle.std.proofs.Common.{◌≡◌, ℕ, ◌+◌, ◌<◌, ◌≤◌, ◌⊎◌, inl, inr, Bool, true, false, List, [], ◌∷◌, ◌++◌, length, refl, sym, ap, subst, ◌∙◌, append_assoc, append-nil, length-append, arith}
+use Rattle.std.proofs.Common.{◌≡◌, ℕ, ◌+◌, ◌≤◌, ◌⊎◌, inl, inr, Bool, true, false, List, [], ◌∷◌, ◌++◌, length, refl, sym, ap, subst, ◌∙◌, append_assoc, append-nil, length-append, arith}
 use Rattle.std.specs.Io.KnownBytes.{Appends, Consumes}
 use Rattle.std.specs.Prelude.{is_some}
 use Rattle.std.proofs.KnownBytes.{Appends-trans, Consumes-trans}
@@ -9,37 +9,43 @@ use denote.Enum.Bare.{sameb}
 use Rattle.line_conversation.specs.contracts.conversation.Next.{the_type}
 use Rattle.line_conversation.specs.declared.conversation.Next.{Next}
 use Rattle.line_conversation.specs.declared.conversation.Next.TheVariants as next
-use Rattle.line_conversation.specs.Turns.{Line, Whole, TooLong, NoRoom, Turn, Heard, Told, told_in, heard_by}
+use Rattle.line_conversation.specs.Turns.{Line, Whole, TooLong, NoRoom, Torn, Turn, Heard, Told, told_in, heard_by}
 use Rattle.line_conversation.specs.Stream.{CutsLine, Cuts, CutsTurns, HeldState, Hears, MayFail, ReadsLine, StreamState, TookPlace}
+
+-- what was heard, where more bytes come behind it, and the input had not ended
+line_longer : (bytes line behind more : List ℕ) → CutsLine bytes line behind → CutsLine (bytes ++ more) line (behind ++ more)
+line_longer bytes line behind more cut = (cut.0, ap (λ (xs : List ℕ). xs ++ more) cut.1 ∙ append_assoc line (10 ∷ behind) more)
+
+heard_longer : (limit : ℕ) (ended : Bool) (bytes : List ℕ) (heard : Line) (behind more : List ℕ) → Hears limit false bytes heard behind
+    → Hears limit ended (bytes ++ more) heard (behind ++ more)
+heard_longer limit ended bytes (Whole line) behind more (cut, within) = (line_longer bytes line behind more cut, within)
+heard_longer limit ended bytes TooLong behind more (line, cut, long) = (line, line_longer bytes line behind more cut, long)
+heard_longer limit ended bytes NoRoom behind more (line, cut) = (line, line_longer bytes line behind more cut)
+heard_longer limit ended bytes Torn behind more (torn, none) = let never : false ≡ true = torn.at_end in absurd (cc)
 
 -- bytes that come behind what is left, where the input had not ended
 more_left : (limit : ℕ) (ended : Bool) (bytes : List ℕ) (turns : List Turn) (rest more : List ℕ) → CutsTurns limit false bytes turns rest
     → CutsTurns limit ended (bytes ++ more) turns (rest ++ more)
 more_left limit ended bytes [] rest more same = ap (λ (xs : List ℕ). xs ++ more) same
 more_left limit ended bytes (Told text ∷ turns) rest more cut = more_left limit ended bytes turns rest more cut
-more_left limit ended bytes (Heard heard ∷ turns) rest more (line, behind, cut, hears, later) =
-    (line, behind ++ more, (cut.0, longer cut.1), hears, more_left limit ended behind turns rest more later)
-  where
-    longer : (bytes ≡ line ++ 10 ∷ behind) ⊎ ((false ≡ true) × (0 < length line) × (bytes ≡ line) × (behind ≡ []))
-        → (bytes ++ more ≡ line ++ 10 ∷ (behind ++ more)) ⊎ ((ended ≡ true) × (0 < length line) × (bytes ++ more ≡ line) × (behind ++ more ≡ []))
-    longer (inl split) = inl (ap (λ (xs : List ℕ). xs ++ more) split ∙ append_assoc line (10 ∷ behind) more)
-    longer (inr (never, some, whole, none)) = absurd (cc)
+more_left limit ended bytes (Heard heard ∷ turns) rest more (behind, hears, later) =
+    (behind ++ more, heard_longer limit ended bytes heard behind more hears, more_left limit ended behind turns rest more later)
 
--- one more line is cut off
-cut_more : (limit : ℕ) (ended : Bool) (bytes : List ℕ) (turns : List Turn) (rest line more : List ℕ) (heard : Line) → CutsTurns limit ended bytes turns rest
-    → CutsLine ended rest line more → Hears limit line heard → CutsTurns limit ended bytes (turns ++ Heard heard ∷ []) more
-cut_more limit ended bytes [] rest line more heard same cut hears =
-    (line, more, subst (λ (xs : List ℕ). CutsLine ended xs line more) (sym same) cut, hears, refl)
-cut_more limit ended bytes (Told text ∷ turns) rest line more heard before cut hears = cut_more limit ended bytes turns rest line more heard before cut hears
-cut_more limit ended bytes (Heard first ∷ turns) rest line more heard (l, behind, c, h, later) cut hears =
-    (l, behind, c, h, cut_more limit ended behind turns rest line more heard later cut hears)
+-- one more is heard
+cut_more : (limit : ℕ) (ended : Bool) (bytes : List ℕ) (turns : List Turn) (rest more : List ℕ) (heard : Line) → CutsTurns limit ended bytes turns rest
+    → Hears limit ended rest heard more → CutsTurns limit ended bytes (turns ++ Heard heard ∷ []) more
+cut_more limit ended bytes [] rest more heard same hears =
+    (more, subst (λ (xs : List ℕ). Hears limit ended xs heard more) (sym same) hears, refl)
+cut_more limit ended bytes (Told text ∷ turns) rest more heard before hears = cut_more limit ended bytes turns rest more heard before hears
+cut_more limit ended bytes (Heard first ∷ turns) rest more heard (behind, h, later) hears =
+    (behind, h, cut_more limit ended behind turns rest more heard later hears)
 
 -- a text that was told cuts nothing off
 still_cut : (limit : ℕ) (ended : Bool) (bytes : List ℕ) (turns : List Turn) (rest : List ℕ) (text : List ℕ) → CutsTurns limit ended bytes turns rest
     → CutsTurns limit ended bytes (turns ++ Told text ∷ []) rest
 still_cut limit ended bytes [] rest text same = same
 still_cut limit ended bytes (Told first ∷ turns) rest text cut = still_cut limit ended bytes turns rest text cut
-still_cut limit ended bytes (Heard heard ∷ turns) rest text (line, more, c, h, later) = (line, more, c, h, still_cut limit ended more turns rest text later)
+still_cut limit ended bytes (Heard heard ∷ turns) rest text (more, h, later) = (more, h, still_cut limit ended more turns rest text later)
 
 -- what is told behind the turns
 pub told_more : (turns : List Turn) (text : List ℕ) → told_in (turns ++ Told text ∷ []) ≡ told_in turns ++ text
@@ -51,6 +57,7 @@ pub told_same : (turns : List Turn) (next : Next) (kept : List ℕ) → told_in 
 told_same [] next.Line kept = refl
 told_same [] next.TooLong kept = refl
 told_same [] next.Memory kept = refl
+told_same [] next.Torn kept = refl
 told_same [] next.End kept = refl
 told_same [] next.Failed kept = refl
 told_same (Told first ∷ turns) told kept = ap (λ (xs : List ℕ). first ++ xs) (told_same turns told kept)
@@ -72,12 +79,10 @@ cut_along limit false ended_now ahead lost read turns rest cut closed =
 -- with what came next
 cut_next : (told : Next) (limit : ℕ) (ended : Bool) (bytes : List ℕ) (turns : List Turn) (ahead kept rest : List ℕ) → (told ≡ next.Failed → ⊥) → CutsTurns limit ended bytes turns ahead
     → Cuts told ended ahead kept limit rest → CutsTurns limit ended bytes (turns ++ heard_by told kept) rest
-cut_next next.Line limit ended bytes turns ahead kept rest whole before cut =
-    cut_more limit ended bytes turns ahead kept rest (Whole kept) before cut.0 (refl, cut.1)
-cut_next next.TooLong limit ended bytes turns ahead kept rest whole before (line, cut, long) =
-    cut_more limit ended bytes turns ahead line rest TooLong before cut long
-cut_next next.Memory limit ended bytes turns ahead kept rest whole before (line, cut) =
-    cut_more limit ended bytes turns ahead line rest NoRoom before cut tt
+cut_next next.Line limit ended bytes turns ahead kept rest whole before cut = cut_more limit ended bytes turns ahead rest (Whole kept) before cut
+cut_next next.TooLong limit ended bytes turns ahead kept rest whole before cut = cut_more limit ended bytes turns ahead rest TooLong before cut
+cut_next next.Memory limit ended bytes turns ahead kept rest whole before cut = cut_more limit ended bytes turns ahead rest NoRoom before cut
+cut_next next.Torn limit ended bytes turns ahead kept rest whole before cut = cut_more limit ended bytes turns ahead rest Torn before cut.0
 cut_next next.End limit ended bytes turns ahead kept rest whole before (closed, none, nothing) =
     subst (λ (ts : List Turn). CutsTurns limit ended bytes ts rest) (sym (append-nil turns))
     (subst (λ (xs : List ℕ). CutsTurns limit ended bytes turns xs) (none ∙ sym nothing) before)
@@ -88,6 +93,7 @@ pub is_failed : (told : Next) → sameb the_type told next.Failed ≡ true → t
 is_failed next.Line e = absurd (cc)
 is_failed next.TooLong e = absurd (cc)
 is_failed next.Memory e = absurd (cc)
+is_failed next.Torn e = absurd (cc)
 is_failed next.End e = absurd (cc)
 is_failed next.Failed e = refl
 

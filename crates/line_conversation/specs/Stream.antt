@@ -9,7 +9,7 @@ use Rattle.line_conversation.specs.declared.conversation.Next.{Next}
 use Rattle.line_conversation.specs.declared.conversation.Next.TheVariants as next
 use Rattle.line_conversation.specs.declared.held.Fate.{Fate}
 use Rattle.line_conversation.specs.declared.held.Fate.TheVariants as fate
-use Rattle.line_conversation.specs.Turns.{Line, Whole, TooLong, NoRoom, Turn, Heard, Told, told_in}
+use Rattle.line_conversation.specs.Turns.{Line, Whole, TooLong, NoRoom, Torn, Turn, Heard, Told, told_in}
 
 -- a line whose parts come one by one: what is kept of it, at most how much, and what became of it
 pub record HeldState : Type 0 where
@@ -37,18 +37,35 @@ next_of fate.Kept = next.Line
 next_of fate.TooLong = next.TooLong
 next_of fate.NoRoom = next.Memory
 
--- Bytes begin with a line, behind which the rest comes: an LF ends it, or, where no more bytes come, the end of the
--- input one that is not empty.
-abbrev pub CutsLine : Bool → List ℕ → List ℕ → List ℕ → Type 0
-CutsLine ended bytes line rest =
-    HasNoLf line
-    × ((bytes ≡ line ++ 10 ∷ rest) ⊎ ((ended ≡ true) × (0 < length line) × (bytes ≡ line) × (rest ≡ [])))
+-- how it is told that nothing comes behind these bytes, which no LF ends
+abbrev pub last_of : List ℕ → Next
+last_of [] = next.End
+last_of (b ∷ bs) = next.Torn
 
--- what was cut off, by what was told: the line that is kept, one beyond the limit, one without memory, or nothing
+-- bytes begin with a line, which an LF ends, and behind which the rest comes
+abbrev pub CutsLine : List ℕ → List ℕ → List ℕ → Type 0
+CutsLine bytes line rest = HasNoLf line × (bytes ≡ line ++ 10 ∷ rest)
+
+-- bytes are all that was left at the end of the input: some, and no LF
+pub record AreTorn (ended : Bool) (bytes : List ℕ) : Type 0 where
+  pub at_end : ended ≡ true
+  pub some : 0 < length bytes
+  pub plain : HasNoLf bytes
+
+-- Bytes begin with what was heard, and leave the rest: a line within the limit, one beyond it, one without memory; or they
+-- were torn, and leave nothing.
+abbrev pub Hears : ℕ → Bool → List ℕ → Line → List ℕ → Type 0
+Hears limit ended bytes (Whole line) rest = CutsLine bytes line rest × (length line ≤ limit)
+Hears limit ended bytes TooLong rest = (line : List ℕ) × CutsLine bytes line rest × (limit < length line)
+Hears limit ended bytes NoRoom rest = (line : List ℕ) × CutsLine bytes line rest
+Hears limit ended bytes Torn rest = AreTorn ended bytes × (rest ≡ [])
+
+-- what was cut off, by what was told: what was heard, of which a line within the limit is kept; or nothing
 abbrev pub Cuts : Next → Bool → List ℕ → List ℕ → ℕ → List ℕ → Type 0
-Cuts next.Line ended bytes kept limit rest = CutsLine ended bytes kept rest × (length kept ≤ limit)
-Cuts next.TooLong ended bytes kept limit rest = (line : List ℕ) × CutsLine ended bytes line rest × (limit < length line)
-Cuts next.Memory ended bytes kept limit rest = (line : List ℕ) × CutsLine ended bytes line rest
+Cuts next.Line ended bytes kept limit rest = Hears limit ended bytes (Whole kept) rest
+Cuts next.TooLong ended bytes kept limit rest = Hears limit ended bytes TooLong rest
+Cuts next.Memory ended bytes kept limit rest = Hears limit ended bytes NoRoom rest
+Cuts next.Torn ended bytes kept limit rest = Hears limit ended bytes Torn rest × (kept ≡ [])
 Cuts next.End ended bytes kept limit rest = (ended ≡ true) × (bytes ≡ []) × (rest ≡ [])
 Cuts next.Failed ended bytes kept limit rest = Unit {0}
 
@@ -56,8 +73,8 @@ Cuts next.Failed ended bytes kept limit rest = Unit {0}
 abbrev pub MayFail : SourceState → ℕ → Type 0
 MayFail source reads = HasFault source.fault ⊎ (18446744073709551615 ≤ reads)
 
--- One line was read: the source lost these bytes, and none once it had told its end; what was read ahead and they begin
--- with the line. Each read but the last brought a byte at least.
+-- One reading: the source lost these bytes, and none once it had told its end; what was read ahead and they begin with
+-- what is told. Each read but the last brought a byte at least.
 pub record ReadsLine (source source_after : SourceState) (ahead ahead_after : List ℕ) (held : HeldState) (ended ended_after : Bool) (reads : ℕ) (told : Next) : Type 0 where
   pub lost : List ℕ
   pub consumed : Consumes source.remaining source_after.remaining lost
@@ -103,17 +120,11 @@ pub record IsStream (s : StreamState) : Type 0 where
   pub at_end : s.ended ≡ true → IsAtEnd s.source.remaining
   pub cause : s.broken ≡ true → MayFail s.source s.reads
 
--- the line that was heard is this one, and within the limit where it was whole
-abbrev pub Hears : ℕ → List ℕ → Line → Type 0
-Hears limit line (Whole bytes) = (bytes ≡ line) × (length line ≤ limit)
-Hears limit line TooLong = limit < length line
-Hears limit line NoRoom = Unit {0}
-
--- the lines that were heard are cut off the bytes, in order, and leave the rest
+-- what was heard is cut off the bytes, in order, and leaves the rest
 abbrev pub CutsTurns : ℕ → Bool → List ℕ → List Turn → List ℕ → Type 0
 CutsTurns limit ended bytes [] rest = bytes ≡ rest
 CutsTurns limit ended bytes (Heard heard ∷ turns) rest =
-    (line : List ℕ) × (more : List ℕ) × CutsLine ended bytes line more × Hears limit line heard × CutsTurns limit ended more turns rest
+    (more : List ℕ) × Hears limit ended bytes heard more × CutsTurns limit ended more turns rest
 CutsTurns limit ended bytes (Told text ∷ turns) rest = CutsTurns limit ended bytes turns rest
 
 -- These turns took place: the lines that were heard are those of the bytes that the reader lost, from what was read

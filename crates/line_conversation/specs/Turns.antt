@@ -3,11 +3,13 @@ use Rattle.std.specs.Prelude.{ℕ, List, [], ◌∷◌, ◌++◌}
 use Rattle.line_conversation.specs.declared.conversation.Next.{Next}
 use Rattle.line_conversation.specs.declared.conversation.Next.TheVariants as next
 
--- a line that came in, without its LF: whole; or longer than a line may be, or without memory for it, and then dropped
+-- a line that came in, without its LF: whole; or longer than a line may be, or without memory for it, and then dropped;
+-- or torn, the last part of the input, behind which no LF came, dropped too
 pub data Line : Type 0 where
   Whole : (bytes : List ℕ) → Line
   TooLong : Line
   NoRoom : Line
+  Torn : Line
 
 -- a turn: a line is heard, or a text is told
 pub data Turn : Type 0 where
@@ -19,6 +21,7 @@ abbrev pub heard_by : Next → List ℕ → List Turn
 heard_by next.Line line = Heard (Whole line) ∷ []
 heard_by next.TooLong line = Heard TooLong ∷ []
 heard_by next.Memory line = Heard NoRoom ∷ []
+heard_by next.Torn line = Heard Torn ∷ []
 heard_by next.End line = []
 heard_by next.Failed line = []
 

@@ -12,6 +12,8 @@ pub enum Next {
     TooLong,
     /// A line for which no memory was found. It was read to its end, and is not kept.
     Memory,
+    /// The last part of the input, behind which no LF came. It is not kept.
+    Torn,
     /// No line any more.
     End,
     /// The reader failed.

@@ -34,7 +34,7 @@ impl Model for Held {
 impl Held {
     ghost use Rattle.std.specs.Prelude.{◌≡◌, ◌⊎◌, ◌+◌, ◌≤◌, ◌↔◌, ℕ, List, [], ◌++◌, length, IsTrue};
     ghost use Rattle.line_conversation.specs.declared.held.Fate.TheVariants.{Kept, NoRoom};
-    ghost use Rattle.line_conversation.specs.Stream.{Holds, next_of};
+    ghost use Rattle.line_conversation.specs.Stream.{Holds, last_of, next_of};
 
     /// No line yet, of which so many bytes will be kept. Takes no memory.
     pub fn new(alloc: Global, limit: usize) -> Held
@@ -76,14 +76,26 @@ impl Held {
         }
     }
 
-    /// Whether the line has no byte yet.
-    pub fn is_empty(&self) -> bool
+    /// The input ends here: how what came behind the last LF is told, as torn, or as the end where no byte came. None of
+    /// it is kept.
+    pub fn end_input(&mut self) -> Next
+        ensures limit { self.new.limit ≡ self.old.limit }
+        ensures dropped { self.new.bytes ≡ [] }
+        ensures told { (line : List ℕ) → Holds line self.old → result ≡ last_of line }
+    {
+        let empty = self.is_empty();
+        self.clear();
+        if empty { Next::End } else { Next::Torn }
+    }
+
+    // Whether the line has no byte yet.
+    fn is_empty(&self) -> bool
         ensures { (line : List ℕ) → Holds line self.now → (IsTrue result ↔ (line ≡ [])) }
     {
         self.fate == Fate::Kept && self.bytes.is_empty()
     }
 
-    /// How a line that has come whole is told.
+    /// How a line whose LF has come is told.
     pub fn told(&self) -> Next
         ensures { result ≡ next_of self.now.fate }
     {

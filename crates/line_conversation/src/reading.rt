@@ -46,11 +46,7 @@ pub(crate) fn read_line<R: Read>(
             return held.told();
         }
         if *ended {
-            return if held.is_empty() {
-                Next::End
-            } else {
-                held.told()
-            };
+            return held.end_input();
         }
         match ahead.fill(source) {
             Ok(some) => *ended = !some,

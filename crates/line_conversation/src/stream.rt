@@ -8,9 +8,9 @@ use std::io::{Read, Write};
 use std::marker::Model;
 use text_input::{Sink, Source};
 
-/// The lines of a reader, and the texts for a writer. A line ends with LF; what follows the last LF is a line where it
-/// isn't empty. A line is kept up to a limit of bytes. What was read behind a line stays for the next ones, so that
-/// memory is bounded by one line and one chunk of 65,536 bytes. A fault is kept for good.
+/// The lines of a reader, and the texts for a writer. A line ends with LF. What follows the last LF, where it isn't empty,
+/// was torn, and is no line. A line is kept up to a limit of bytes. What was read behind a line stays for the next ones,
+/// so that memory is bounded by one line and one chunk of 65,536 bytes. A fault is kept for good.
 #[derive(Drop)]
 pub struct StreamConversation<R: Read, W: Write> {
     source: Source<R>,

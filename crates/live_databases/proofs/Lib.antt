@@ -1,1 +1,2 @@
 pub mod LiveLemmas
+mod FoundLemmas

@@ -8,32 +8,40 @@ use Rattle.durable_keeper.specs.declared.error.KeeperError.{KeeperError}
 use Rattle.durable_keeper.specs.declared.error.KeeperError.TheVariants as keeping
 use Rattle.durable_keeper.specs.declared.keeper.Keeper.{Ghosts}
 use Rattle.log_file.specs.declared.file.SystemFile.{SystemFile}
+use Rattle.log_file.specs.declared.hold.ExclusiveFile.{Ghosts as HoldGhosts}
 use Rattle.log_file.specs.declared.refusal.LogError.{LogError}
 use Rattle.log_file.specs.declared.refusal.LogError.TheVariants as logging
 use Rattle.log_file.specs.Logged.{LogState}
 use Rattle.desk_log.specs.Log.{begun}
 use Rattle.admission_core.specs.Kept.{DurableState}
 use Rattle.site_engine.specs.Sites.{Began}
-use Rattle.site_store.specs.declared.error.OpenError.{OpenError}
-use Rattle.site_store.specs.declared.error.OpenError.TheVariants as opening
+use Rattle.site_store.specs.declared.error.ServedError.{ServedError}
+use Rattle.site_store.specs.declared.error.ServedError.TheVariants as opening
+use Rattle.site_store.specs.Sql.{KeepsOutdated}
 use Rattle.site_store.specs.declared.sql.SqlKeeper.{SqlKeeper}
 use Rattle.exit_status.specs.declared.status.Status.{Status}
 use Rattle.exit_status.specs.declared.status.Status.TheVariants.{Done, Usage, NoLayout, NoStore, Fault, Refused, Memory, Io}
 use Rattle.line_conversation.specs.declared.conversation.Conversation.{Ghosts as TalkGhosts}
 use Rattle.live_site.specs.declared.call_log.CallLog.{Ghosts as LogGhosts}
+use Rattle.sqlite_disk.specs.declared.Disk as disk
+use Rattle.sqlite_store.specs.declared.store.FileStore.{FileStore}
+use Rattle.sqlite.specs.Files.{over_files}
+use Rattle.serve_engine.specs.declared.marks.Marking.{Marking}
 use Rattle.serve_engine.specs.Requests.{terms_of}
 use Rattle.serve_engine.specs.Ending.{EndsEarly, EndsServing, EndsWell}
 use Rattle.live_databases.specs.declared.service_end.ServiceEnd.{ServiceEnd}
 use Rattle.live_databases.specs.declared.service_end.ServiceEnd.TheVariants.{Ended, Absent, NoLog, LogIsStore, Unlogged, Outdated}
 use Rattle.live_databases.specs.Endings.{refused_store}
 use Rattle.live_databases.specs.LiveStores.{IsUnserved, LogsOver, ServesOver, unloaded_end, unlogged_end}
+use Rattle.live_databases.specs.Services.{Served}
+use Rattle.live_databases.specs.LiveFound.{RunsOver}
 use Rattle.live_databases.specs.LiveDatabases.{EndsLive, TalksInPart, TalksToEnd}
 
-module _ {K C L : Type 0} (g : Ghosts K) (t : TalkGhosts C) (h : LogGhosts L) (layout : LayoutState) (i : ℕ) (group : Option (List ℕ)) (keeper back : K) (talk talk_after : C) (log log_after : L) where
+module _ {K C L : Type 0} (g : Ghosts K) (m : K → Type 0) (t : TalkGhosts C) (h : LogGhosts L) (layout : LayoutState) (i : ℕ) (group : Option (List ℕ)) (marking : Marking) (keeper back : K) (talk talk_after : C) (log log_after : L) where
   -- what the conversation was, whatever the keeper and the log
   talked : (frozen : Bool) (first : DurableState) → Began g layout i keeper back first
-      → EndsWell g t h (terms_of layout group) (begun layout i first) first frozen keeper back talk talk_after log log_after
-      → TalksToEnd t layout i group frozen talk talk_after
+      → EndsWell g m t h (terms_of layout group marking) (begun layout i first) first frozen keeper back talk talk_after log log_after
+      → TalksToEnd t layout i group marking frozen talk talk_after
   talked frozen first began well = record {
     exchanges = well.exchanges;
     served = record {
@@ -51,8 +59,8 @@ module _ {K C L : Type 0} (g : Ghosts K) (t : TalkGhosts C) (h : LogGhosts L) (l
   }
 
   talked_in_part : (first : DurableState) → Began g layout i keeper back first
-      → EndsEarly g t h (terms_of layout group) (begun layout i first) first keeper back talk talk_after log log_after
-      → TalksInPart t layout i group talk talk_after
+      → EndsEarly g m t h (terms_of layout group marking) (begun layout i first) first keeper back talk talk_after log log_after
+      → TalksInPart t layout i group marking talk talk_after
   talked_in_part first began early = record {
     frozen = early.frozen;
     exchanges = early.exchanges;
@@ -72,8 +80,8 @@ module _ {K C L : Type 0} (g : Ghosts K) (t : TalkGhosts C) (h : LogGhosts L) (l
   }
 
   -- the engine of a site that is there
-  ran : (ended : Status) → i < layout.sites → EndsServing g t h layout i group keeper back talk talk_after log log_after ended
-      → EndsLive t layout i group talk talk_after (Ended ended)
+  ran : (ended : Status) → i < layout.sites → EndsServing g m t h layout i group marking keeper back talk talk_after log log_after ended
+      → EndsLive t layout i group marking talk talk_after (Ended ended)
   ran Done there s = (there, talked false s.first s.began s.ended)
   ran Fault there s = (there, talked true s.first s.began s.ended)
   ran Io there s = (there, talked_in_part s.first s.began s.ended)
@@ -84,73 +92,92 @@ module _ {K C L : Type 0} (g : Ghosts K) (t : TalkGhosts C) (h : LogGhosts L) (l
   ran Usage there ended = absurd ended
 
 -- a refused store
-refused_end : {C : Type 0} (t : TalkGhosts C) (layout : LayoutState) (i : ℕ) (group : Option (List ℕ)) (talk : C) (error : OpenError) → i < layout.sites
-    → EndsLive t layout i group talk talk (refused_store error)
-refused_end t layout i group talk opening.BadStore there = (there, refl)
-refused_end t layout i group talk opening.WrongSite there = (there, refl)
-refused_end t layout i group talk opening.WrongGroup there = (there, refl)
-refused_end t layout i group talk opening.WrongLayout there = (there, refl)
-refused_end t layout i group talk opening.StoreFault there = (there, refl)
-refused_end t layout i group talk opening.Memory there = (there, refl)
+refused_end : {C : Type 0} (t : TalkGhosts C) (layout : LayoutState) (i : ℕ) (group : Option (List ℕ)) (marking : Marking) (talk : C) (error : ServedError) → i < layout.sites
+    → EndsLive t layout i group marking talk talk (refused_store error)
+refused_end t layout i group marking talk opening.NotAStore there = (there, refl)
+refused_end t layout i group marking talk opening.NoStore there = (there, refl)
+refused_end t layout i group marking talk opening.Exists there = (there, refl)
+refused_end t layout i group marking talk opening.BadStore there = (there, refl)
+refused_end t layout i group marking talk opening.WrongSite there = (there, refl)
+refused_end t layout i group marking talk opening.WrongGroup there = (there, refl)
+refused_end t layout i group marking talk opening.Outdated there = (there, refl)
+refused_end t layout i group marking talk opening.WrongLayout there = (there, refl)
+refused_end t layout i group marking talk opening.StoreFault there = (there, refl)
+refused_end t layout i group marking talk opening.Memory there = (there, refl)
 
 -- what a keeper gave back
 pub found_one : (answer : Result DurableState KeeperError) (first d : DurableState) → answer ≡ Ok first → IfOk answer (λ found. found ≡ d) → first ≡ d
 found_one answer first d is found = subst (λ (r : Result DurableState KeeperError). IfOk r (λ f. f ≡ d)) is found
 
 -- a service that ended so before anything was heard or told
-ends_silent : {C : Type 0} (t : TalkGhosts C) (layout : LayoutState) (i : ℕ) (group : Option (List ℕ)) (talk talk_after : C) (ended so : ServiceEnd) → talk_after ≡ talk → ended ≡ so
-    → EndsLive t layout i group talk talk so → EndsLive t layout i group talk talk_after ended
-ends_silent {C = C} t layout i group talk talk_after ended so silent is ends =
-    subst (λ (e : ServiceEnd). EndsLive t layout i group talk talk_after e) (sym is) (subst (λ (x : C). EndsLive t layout i group talk x so) (sym silent) ends)
+ends_silent : {C : Type 0} (t : TalkGhosts C) (layout : LayoutState) (i : ℕ) (group : Option (List ℕ)) (marking : Marking) (talk talk_after : C) (ended so : ServiceEnd) → talk_after ≡ talk → ended ≡ so
+    → EndsLive t layout i group marking talk talk so → EndsLive t layout i group marking talk talk_after ended
+ends_silent {C = C} t layout i group marking talk talk_after ended so silent is ends =
+    subst (λ (e : ServiceEnd). EndsLive t layout i group marking talk talk_after e) (sym is) (subst (λ (x : C). EndsLive t layout i group marking talk x so) (sym silent) ends)
 
-pub ends_live : {S C L : Type 0} (g : Device S) (k : Ghosts (SqlKeeper S g)) (t : TalkGhosts C) (h : LogGhosts L) (layout : LayoutState) (i : ℕ) (group : Option (List ℕ)) (c after : Held S)
-    (talk talk_after : C) (log log_after : L) (ended : ServiceEnd) → i < layout.sites
-    → ServesOver g k t h layout i group c after talk talk_after log log_after ended → EndsLive t layout i group talk talk_after ended
-ends_live g k t h layout i group c after talk talk_after log log_after ended there (inl run) =
-    subst (λ (e : ServiceEnd). EndsLive t layout i group talk talk_after e) (sym run.is_status)
-    (ran k t h layout i group run.keeper run.keeper_after talk talk_after log log_after run.status there run.ends)
-ends_live g k t h layout i group c after talk talk_after log log_after ended there (inr none) =
-    ends_silent t layout i group talk talk_after ended (refused_store none.error) none.silent none.is_refused (refused_end t layout i group talk none.error there)
+pub ends_live : {S C L : Type 0} (g : Device S) (k : Ghosts (SqlKeeper S g)) (t : TalkGhosts C) (h : LogGhosts L) (layout : LayoutState) (s : Served) (c after : Held S)
+    (talk talk_after : C) (log log_after : L) (ended : ServiceEnd) → s.site < layout.sites
+    → ServesOver g k t h layout s c after talk talk_after log log_after ended → EndsLive t layout s.site s.group s.marking talk talk_after ended
+ends_live g k t h layout s c after talk talk_after log log_after ended there (inl run) =
+    subst (λ (e : ServiceEnd). EndsLive t layout s.site s.group s.marking talk talk_after e) (sym run.is_status)
+    (ran k KeepsOutdated t h layout s.site s.group s.marking run.keeper run.keeper_after talk talk_after log log_after run.status there run.ends)
+ends_live g k t h layout s c after talk talk_after log log_after ended there (inr none) =
+    ends_silent t layout s.site s.group s.marking talk talk_after ended (refused_store none.error) none.silent none.is_refused
+    (refused_end t layout s.site s.group s.marking talk none.error there)
 
 -- no database was opened
-pub unserved_end : {C : Type 0} (t : TalkGhosts C) (layout : LayoutState) (i : ℕ) (group : Option (List ℕ)) (talk : C) (ended : ServiceEnd) → i < layout.sites → IsUnserved ended
-    → EndsLive t layout i group talk talk ended
-unserved_end t layout i group talk (Ended Memory) there is = (there, refl)
-unserved_end t layout i group talk (Ended (NoStore refusal)) there is = (there, refl)
-unserved_end t layout i group talk (Ended (NoLayout fault)) there is = absurd is
-unserved_end t layout i group talk (Ended Done) there is = absurd is
-unserved_end t layout i group talk (Ended Usage) there is = absurd is
-unserved_end t layout i group talk (Ended Fault) there is = absurd is
-unserved_end t layout i group talk (Ended Refused) there is = absurd is
-unserved_end t layout i group talk (Ended Io) there is = absurd is
-unserved_end t layout i group talk (NoLog refusal) there is = absurd is
-unserved_end t layout i group talk LogIsStore there is = absurd is
-unserved_end t layout i group talk Unlogged there is = absurd is
-unserved_end t layout i group talk (Absent absence) there is = (there, refl)
-unserved_end t layout i group talk Outdated there is = absurd is
+pub unserved_end : {C : Type 0} (t : TalkGhosts C) (layout : LayoutState) (i : ℕ) (group : Option (List ℕ)) (marking : Marking) (talk : C) (ended : ServiceEnd) → i < layout.sites → IsUnserved ended
+    → EndsLive t layout i group marking talk talk ended
+unserved_end t layout i group marking talk (Ended Memory) there is = (there, refl)
+unserved_end t layout i group marking talk (Ended (NoStore refusal)) there is = (there, refl)
+unserved_end t layout i group marking talk (Ended (NoLayout fault)) there is = absurd is
+unserved_end t layout i group marking talk (Ended Done) there is = absurd is
+unserved_end t layout i group marking talk (Ended Usage) there is = absurd is
+unserved_end t layout i group marking talk (Ended Fault) there is = absurd is
+unserved_end t layout i group marking talk (Ended Refused) there is = absurd is
+unserved_end t layout i group marking talk (Ended Io) there is = absurd is
+unserved_end t layout i group marking talk (NoLog refusal) there is = absurd is
+unserved_end t layout i group marking talk LogIsStore there is = (there, refl)
+unserved_end t layout i group marking talk Unlogged there is = absurd is
+unserved_end t layout i group marking talk (Absent absence) there is = (there, refl)
+unserved_end t layout i group marking talk Outdated there is = absurd is
 
 -- a store that gives nothing back
-ends_unloaded : {C : Type 0} (t : TalkGhosts C) (layout : LayoutState) (i : ℕ) (group : Option (List ℕ)) (talk : C) (error : KeeperError) → i < layout.sites
-    → EndsLive t layout i group talk talk (unloaded_end error)
-ends_unloaded t layout i group talk keeping.Memory there = (there, refl)
-ends_unloaded t layout i group talk keeping.StoreFault there = (there, refl)
+ends_unloaded : {C : Type 0} (t : TalkGhosts C) (layout : LayoutState) (i : ℕ) (group : Option (List ℕ)) (marking : Marking) (talk : C) (error : KeeperError) → i < layout.sites
+    → EndsLive t layout i group marking talk talk (unloaded_end error)
+ends_unloaded t layout i group marking talk keeping.Memory there = (there, refl)
+ends_unloaded t layout i group marking talk keeping.StoreFault there = (there, refl)
 
 -- a log that is not opened
-ends_unlogged : {C : Type 0} (t : TalkGhosts C) (layout : LayoutState) (i : ℕ) (group : Option (List ℕ)) (talk : C) (error : LogError) → i < layout.sites
-    → EndsLive t layout i group talk talk (unlogged_end error)
-ends_unlogged t layout i group talk logging.Memory there = (there, refl)
-ends_unlogged t layout i group talk (logging.Refused refusal) there = (there, refl)
-ends_unlogged t layout i group talk logging.Io there = (there, refl)
+ends_unlogged : {C : Type 0} (t : TalkGhosts C) (layout : LayoutState) (i : ℕ) (group : Option (List ℕ)) (marking : Marking) (talk : C) (error : LogError) → i < layout.sites
+    → EndsLive t layout i group marking talk talk (unlogged_end error)
+ends_unlogged t layout i group marking talk logging.Memory there = (there, refl)
+ends_unlogged t layout i group marking talk (logging.Refused refusal) there = (there, refl)
+ends_unlogged t layout i group marking talk logging.Io there = (there, refl)
 
-pub ends_logged : {S C F : Type 0} (g : Device S) (k : Ghosts (SqlKeeper S g)) (remaining contents : F → Option (List ℕ)) (t : TalkGhosts C) (h : LogGhosts (LogState (SystemFile F)))
-    (layout : LayoutState) (i : ℕ) (group : Option (List ℕ)) (c after : Held S) (talk talk_after : C) (ended : ServiceEnd) → i < layout.sites
-    → LogsOver g k remaining contents t h layout i group c after talk talk_after ended → EndsLive t layout i group talk talk_after ended
-ends_logged g k remaining contents t h layout i group c after talk talk_after ended there (inl run) =
-    subst (λ (e : ServiceEnd). EndsLive t layout i group talk talk_after e) (sym run.is_status)
-    (ran k t h layout i group run.keeper_now run.keeper_after talk talk_after run.log run.log_after run.status there run.ends)
-ends_logged g k remaining contents t h layout i group c after talk talk_after ended there (inr (inl none)) =
-    ends_silent t layout i group talk talk_after ended (unlogged_end none.error) none.silent none.is_unlogged (ends_unlogged t layout i group talk none.error there)
-ends_logged g k remaining contents t h layout i group c after talk talk_after ended there (inr (inr (inl none))) =
-    ends_silent t layout i group talk talk_after ended (unloaded_end none.error) none.silent none.is_unloaded (ends_unloaded t layout i group talk none.error there)
-ends_logged g k remaining contents t h layout i group c after talk talk_after ended there (inr (inr (inr none))) =
-    ends_silent t layout i group talk talk_after ended (refused_store none.error) none.silent none.is_refused (refused_end t layout i group talk none.error there)
+pub ends_logged : {S C F : Type 0} (g : Device S) (k : Ghosts (SqlKeeper S g)) (hold : HoldGhosts F) (remaining contents : F → Option (List ℕ)) (t : TalkGhosts C) (h : LogGhosts (LogState (SystemFile F)))
+    (layout : LayoutState) (s : Served) (c after : Held S) (talk talk_after : C) (made : Bool) (ended : ServiceEnd) → s.site < layout.sites
+    → LogsOver g k hold remaining contents t h layout s c after talk talk_after made ended → EndsLive t layout s.site s.group s.marking talk talk_after ended
+ends_logged g k hold remaining contents t h layout s c after talk talk_after made ended there (inl run) =
+    subst (λ (e : ServiceEnd). EndsLive t layout s.site s.group s.marking talk talk_after e) (sym run.is_status)
+    (ran k KeepsOutdated t h layout s.site s.group s.marking run.keeper_now run.keeper_after talk talk_after run.log run.log_after run.status there run.ends)
+ends_logged g k hold remaining contents t h layout s c after talk talk_after made ended there (inr (inl none)) =
+    ends_silent t layout s.site s.group s.marking talk talk_after ended (unlogged_end none.error) none.silent none.is_unlogged
+    (ends_unlogged t layout s.site s.group s.marking talk none.error there)
+ends_logged g k hold remaining contents t h layout s c after talk talk_after made ended there (inr (inr (inl none))) =
+    ends_silent t layout s.site s.group s.marking talk talk_after ended (unloaded_end none.error) none.silent none.is_unloaded
+    (ends_unloaded t layout s.site s.group s.marking talk none.error there)
+ends_logged g k hold remaining contents t h layout s c after talk talk_after made ended there (inr (inr (inr none))) =
+    ends_silent t layout s.site s.group s.marking talk talk_after ended (refused_store none.error) none.silent none.is_refused
+    (refused_end t layout s.site s.group s.marking talk none.error there)
+
+-- a service over a database that was opened, or that ended before anything was heard or told
+pub ends_over : {D C L F : Type 0} {d : disk.Ghosts D} (k : Ghosts (SqlKeeper (FileStore D d) over_files)) (hold : HoldGhosts F) (remaining contents : F → Option (List ℕ)) (t : TalkGhosts C) (n : LogGhosts L)
+    (h : LogGhosts (LogState (SystemFile F))) (layout : LayoutState) (s : Served) (c after : Held (FileStore D d)) (talk talk_after : C) (made : Bool) (ended : ServiceEnd)
+    → s.site < layout.sites → RunsOver k hold remaining contents t n h layout s c after talk talk_after made ended → EndsLive t layout s.site s.group s.marking talk talk_after ended
+ends_over k hold remaining contents t n h layout s c after talk talk_after made ended there (inl (log, log_after, run)) =
+    ends_live over_files k t n layout s c after talk talk_after log log_after ended there run
+ends_over k hold remaining contents t n h layout s c after talk talk_after made ended there (inr (inl run)) =
+    ends_logged over_files k hold remaining contents t h layout s c after talk talk_after made ended there run
+ends_over k hold remaining contents t n h layout s c after talk talk_after made ended there (inr (inr (same, silent, unserved))) =
+    ends_silent t layout s.site s.group s.marking talk talk_after ended ended silent refl (unserved_end t layout s.site s.group s.marking talk ended there unserved)

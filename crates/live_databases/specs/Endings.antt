@@ -2,19 +2,18 @@
 use Rattle.std.specs.Prelude.{◌≡◌, ℕ, Bool, true, false, List, ◌++◌, codes, if◌then◌else◌}
 use Rattle.sqlite.specs.declared.error.Error.{Error}
 use Rattle.sqlite.specs.declared.error.Error.TheVariants.{SqliteFailure}
-use Rattle.sqlite.specs.declared.error.ErrorCode.TheVariants.{OutOfMemory, DatabaseBusy}
+use Rattle.sqlite.specs.declared.error.ErrorCode.TheVariants.{OutOfMemory, DatabaseBusy, NotADatabase}
 use Rattle.text_input.specs.Sink.{SinkState}
 use Rattle.exit_status.specs.declared.status.Status.TheVariants.{Fault, NoStore as Refused, Memory as NoRoom}
-use Rattle.exit_status.specs.declared.store_refusal.StoreRefusal.TheVariants.{StoreFault}
+use Rattle.exit_status.specs.declared.store_refusal.StoreRefusal.TheVariants.{BadStore, WrongSite, WrongLayout, StoreFault}
 use Rattle.exit_status.specs.Endings.{Says, status_code, status_line}
 use Rattle.live_databases.specs.declared.service_end.Absence.{Absence}
-use Rattle.live_databases.specs.declared.service_end.Absence.TheVariants.{NoStore, Exists, InUse, WrongGroup}
+use Rattle.live_databases.specs.declared.service_end.Absence.TheVariants.{NoStore, Exists, InUse, WrongGroup, NotAStore, NoFolder, Outdated as IsOutdated}
 use Rattle.live_databases.specs.declared.service_end.ServiceEnd.{ServiceEnd}
 use Rattle.live_databases.specs.declared.service_end.ServiceEnd.TheVariants.{Ended, Absent, NoLog, LogIsStore, Unlogged, Outdated}
 use Rattle.log_file.specs.Refusals.{log_refusal_name}
-use Rattle.site_store.specs.declared.error.OpenError.{OpenError}
-use Rattle.site_store.specs.declared.error.OpenError.TheVariants as opening
-use Rattle.stored_site.specs.StoredSites.{refusal_status}
+use Rattle.site_store.specs.declared.error.ServedError.{ServedError}
+use Rattle.site_store.specs.declared.error.ServedError.TheVariants as opening
 
 -- the name that stands for why a database is not served
 abbrev pub absence_name : Absence → List ℕ
@@ -22,21 +21,28 @@ absence_name NoStore = codes "NoStore"
 absence_name Exists = codes "Exists"
 absence_name InUse = codes "InUse"
 absence_name WrongGroup = codes "WrongGroup"
+absence_name NotAStore = codes "NotAStore"
+absence_name NoFolder = codes "NoFolder"
+absence_name IsOutdated = codes "Outdated"
 
 -- how a service ends whose store is refused
-abbrev pub refused_store : OpenError → ServiceEnd
+abbrev pub refused_store : ServedError → ServiceEnd
+refused_store opening.NotAStore = Absent NotAStore
+refused_store opening.NoStore = Absent NoStore
+refused_store opening.Exists = Absent Exists
+refused_store opening.BadStore = Ended (Refused BadStore)
+refused_store opening.WrongSite = Ended (Refused WrongSite)
 refused_store opening.WrongGroup = Absent WrongGroup
-refused_store error = Ended (refusal_status error)
-
--- why a database is not served that is there, or is not
-abbrev pub absence_of : Bool → Absence
-absence_of true = Exists
-absence_of false = NoStore
+refused_store opening.Outdated = Absent IsOutdated
+refused_store opening.WrongLayout = Ended (Refused WrongLayout)
+refused_store opening.StoreFault = Ended (Refused StoreFault)
+refused_store opening.Memory = Ended NoRoom
 
 -- how a service ends whose database could not be opened
 abbrev pub unopened_end : Error → ServiceEnd
 unopened_end (SqliteFailure OutOfMemory) = Ended NoRoom
 unopened_end (SqliteFailure DatabaseBusy) = Absent InUse
+unopened_end (SqliteFailure NotADatabase) = Absent NotAStore
 unopened_end error = Ended (Refused StoreFault)
 
 -- the site's log could not be used, and nothing was served

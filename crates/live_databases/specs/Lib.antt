@@ -1,3 +1,6 @@
+pub mod Services
+pub mod ServedStores
 pub mod Endings
 pub mod LiveStores
+pub mod LiveFound
 pub mod LiveDatabases

@@ -11,6 +11,7 @@ use Rattle.exit_status.specs.declared.status.Status.{Status}
 use Rattle.exit_status.specs.declared.status.Status.TheVariants.{Done, Usage, NoLayout, NoStore, Fault, Refused, Memory, Io}
 use Rattle.line_conversation.specs.Turns.{Turn}
 use Rattle.line_conversation.specs.declared.conversation.Conversation.{Ghosts}
+use Rattle.serve_engine.specs.declared.marks.Marking.{Marking}
 use Rattle.serve_engine.specs.Requests.{terms_of}
 use Rattle.serve_engine.specs.Exchanges.{Exchange, HasServed, turns_of}
 use Rattle.serve_engine.specs.Ending.{EndsIn}
@@ -19,7 +20,7 @@ use Rattle.live_databases.specs.declared.service_end.ServiceEnd.TheVariants.{End
 
 -- A site served these exchanges, from an account that begins with a durable part of this site. Which part that is, no
 -- contract can say of a file.
-pub record ServedSome (layout : LayoutState) (i : ℕ) (group : Option (List ℕ)) (frozen : Bool) (xs : List Exchange) : Type 0 where
+pub record ServedSome (layout : LayoutState) (i : ℕ) (group : Option (List ℕ)) (marking : Marking) (frozen : Bool) (xs : List Exchange) : Type 0 where
   pub first : DurableState
   pub cells : AreCells layout i first.cells
   pub sessions : AreSessions layout i first.cells first.sessions
@@ -27,13 +28,13 @@ pub record ServedSome (layout : LayoutState) (i : ℕ) (group : Option (List ℕ
   pub fault : Bool
   pub account : Account
   pub tried : Account
-  pub served : HasServed (terms_of layout group) frozen (begun layout i first) xs entries fault account tried
+  pub served : HasServed (terms_of layout group marking) frozen (begun layout i first) xs entries fault account tried
 
-module _ {C : Type 0} (t : Ghosts C) (layout : LayoutState) (i : ℕ) (group : Option (List ℕ)) where
+module _ {C : Type 0} (t : Ghosts C) (layout : LayoutState) (i : ℕ) (group : Option (List ℕ)) (marking : Marking) where
   -- the conversation came to its end: line, answer, line, answer
   pub record TalksToEnd (frozen : Bool) (talk talk_after : C) : Type 0 where
     pub exchanges : List Exchange
-    pub served : ServedSome layout i group frozen exchanges
+    pub served : ServedSome layout i group marking frozen exchanges
     pub heard : t.took_place talk (turns_of exchanges) talk_after
     pub ended : t.has_ended talk_after
 
@@ -41,7 +42,7 @@ module _ {C : Type 0} (t : Ghosts C) (layout : LayoutState) (i : ℕ) (group : O
   pub record TalksInPart (talk talk_after : C) : Type 0 where
     pub frozen : Bool
     pub exchanges : List Exchange
-    pub served : ServedSome layout i group frozen exchanges
+    pub served : ServedSome layout i group marking frozen exchanges
     pub turns : List Turn
     pub last : EndsIn exchanges turns
     pub heard : t.took_place talk turns talk_after

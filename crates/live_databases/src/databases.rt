@@ -1,32 +1,35 @@
 //! The database at a path, of a runtime that has some.
-ghost use Rattle.std.specs.Prelude.{◌≡◌, ◌<◌, true, false, IfOk, option_copied};
+ghost use Rattle.std.specs.Prelude.{◌≡◌, ◌<◌, true, false, IfErr, IfOk, option_copied};
+ghost use Rattle.sqlite_wal.specs.Files.{image_at};
 ghost use Rattle.live_databases.specs.LiveDatabases.{EndsLive};
+ghost use Rattle.live_databases.specs.LiveFound.{EndsFound, FindsFiles, RunsOver};
 ghost use Rattle.live_databases.specs.LiveStores.{IsUnserved};
-ghost use Rattle.live_databases.specs.Endings.{absence_of, is_unlogged, unopened_end};
+ghost use Rattle.live_databases.specs.Services.{served_by};
+ghost use Rattle.live_databases.specs.Endings.{is_unlogged, unopened_end};
 
+use crate::places::{Place, StoreFile, find_file, is_at, is_store_file};
 use crate::service_end::{Absence, ServiceEnd};
-use crate::serving::{serve_live_over, serve_logged_over};
+use crate::serving::{Service, serve_live_over, serve_logged_over};
 use exit_status::{Status, StoreRefusal};
 use layout_file::LayoutFault;
 use line_conversation::Conversation;
-use live_site::NoLog;
+use live_site::{CallLog, NoLog};
+use log_file::{ExclusiveFile, FileLog, SystemFile};
 use merge_core::Layout;
-use sqlite::{Connection, Error, ErrorCode, File, FileStore};
+use site_store::{Keeper, SqlKeeper};
+use sqlite::{Connection, Error, ErrorCode, FileFrom, FileStore, Start, Unknown};
+use std::io::{Read, Write};
 use std::time::Duration;
 use std::{fs, thread};
 
-/// Which database is opened, and how.
+/// Which site is served over which database, and how.
 #[derive(Clone, Copy, Debug)]
 pub struct Opening<'a> {
-    /// Where it is.
+    /// Where the database is.
     pub path: &'a str,
-    /// The site that it is of.
-    pub site: u16,
-    /// The name of the group of sites that the site belongs to, if it has one.
-    pub group: Option<&'a str>,
-    /// Whether it is made, and must not be there before.
-    pub create: bool,
-    /// How many seconds to wait where another process has it open.
+    /// The site, and how it is served.
+    pub service: Service<'a>,
+    /// How many seconds to wait where another process has the database open.
     pub wait: u16,
     /// The file for the site's log, if there is one.
     pub log: Option<&'a str>,
@@ -34,88 +37,148 @@ pub struct Opening<'a> {
 
 /// A runtime that has databases for a service.
 pub trait LiveDatabases {
-    /// Serves a site of the layout over the database at a path: whether it may be opened is judged, it is opened, the
-    /// site's store in it is judged, and then the conversation's lines are answered.
+    /// Serves a site of the layout over the database at a path: it is opened, the site's store in it is judged, and then the
+    /// conversation's lines are answered.
     fn serve_conversation<C: Conversation>(
         &self,
         opening: Opening<'_>,
         layout: Layout,
         conversation: &mut C,
     ) -> ServiceEnd
-        requires { opening.site < layout.sites }
-        ensures { EndsLive C.Conversation layout opening.entry.site (option_copied opening.entry.group) conversation.old conversation.new result };
+        requires { opening.service.site < layout.sites }
+        ensures { EndsLive C.Conversation layout opening.entry.service.site (option_copied opening.entry.service.group) opening.entry.service.marking
+            conversation.old conversation.new result };
 }
 
 impl LiveDatabases for HostRuntime {
-    // At the end the log beside the file is copied into it; where that fails, the next opening reads it there. A store that
-    // was made and then not served, as its log is refused, is removed again, so that the same command can be repeated.
     fn serve_conversation<C: Conversation>(
         &self,
         opening: Opening<'_>,
         layout: Layout,
         conversation: &mut C,
     ) -> ServiceEnd {
-        if opening.log == Some(opening.path) {
-            return ServiceEnd::LogIsStore;
-        }
-        if is_there(self, opening.path) == opening.create {
-            return ServiceEnd::Absent(absence(opening.create));
-        }
-        let connection = match open_in_time(self, opening.path, opening.wait) {
-            Ok(connection) => connection,
-            Err(error) => return unopened(error),
-        };
-        let (ended, connection) = serve_open(self, opening, connection, layout, conversation);
-        let _ = connection.close(); // what was answered is in the log, if not in the file
-        if opening.create && is_unlogged(ended) {
-            remove_made(self, opening, ended);
-        }
-        ended
+        serve_found::<Unknown, C>(self, opening, layout, conversation)
     }
 }
 
-// Serves a site over its database, with a log if one is named.
-fn serve_open<C: Conversation>(
+/// What the files at a path hold when they are opened. A value is used up by one opening, so that code over any beginning says
+/// the same of each try.
+pub trait Beginning: Start {
+    /// A value for one opening.
+    fn begin() -> Self;
+}
+
+impl Beginning for Unknown {
+    fn begin() -> Unknown {
+        Unknown
+    }
+}
+
+/// Serves a site over the database at a path, where `S` stands for what its files hold. `main` gives [`Unknown`], which
+/// supposes that a write that is torn by a crash leaves each byte old or new. That the files are those at the path is
+/// read in the code. Before each line that reaches the site it is looked whether the file is still at its path; where it is
+/// not, the site serves no more, since what it would answer would be lost.
+///
+/// At the end the log beside the file is copied into it; where that fails, the next opening reads it there. A store that this
+/// call made and then did not serve, as its log is refused, is removed before the database is closed, so that the same
+/// command can be repeated and no other process has used it meanwhile.
+pub fn serve_found<S: Beginning, C: Conversation>(
     rt: &HostRuntime,
     opening: Opening<'_>,
-    connection: Connection<FileStore<File>>,
     layout: Layout,
     conversation: &mut C,
-) -> (ServiceEnd, Connection<FileStore<File>>)
-    requires site { opening.site < layout.sites }
-    requires idle { connection.in_transaction ≡ false }
-    ensures { EndsLive C.Conversation layout opening.entry.site (option_copied opening.entry.group) conversation.old conversation.new result.0 }
+) -> ServiceEnd
+    requires { opening.service.site < layout.sites }
+    ensures live { EndsLive C.Conversation layout opening.entry.service.site (option_copied opening.entry.service.group) opening.entry.service.marking
+        conversation.old conversation.new result }
+    ensures found { EndsFound ⟦<SqlKeeper<FileStore<FileFrom<S>>> as Keeper>⟧ ⟦<std::fs::File as ExclusiveFile>⟧ ⟦<std::fs::File as Read>⟧.remaining ⟦<std::fs::File as Write>⟧.contents C.Conversation
+        ⟦<NoLog as CallLog>⟧ ⟦<FileLog<SystemFile<std::fs::File>> as CallLog>⟧ layout (served_by opening.entry.service)
+        (image_at S.Start) conversation.old conversation.new result }
 {
-    if let Some(path) = opening.log {
-        return serve_logged_over(
-            rt,
-            path,
-            connection,
-            layout,
-            opening.site,
-            opening.group,
-            conversation,
-        );
+    if opening.log == Some(opening.path) {
+        return ServiceEnd::LogIsStore;
     }
-    serve_live_over(
-        rt.alloc(),
+    let (connection, place) = match open_in_time::<S>(rt, opening) {
+        Ok(opened) => opened,
+        Err(ended) => return ended,
+    };
+    let store = StoreFile {
+        rt,
+        path: opening.path,
+        place,
+    };
+    let (ended, made, connection) = serve_open(
+        rt,
+        opening,
         connection,
         layout,
-        opening.site,
-        opening.group,
         conversation,
-        &mut NoLog {},
+        &store,
+    );
+    if made && is_unlogged(ended) {
+        remove_made(rt, opening.path, &connection, made, ended);
+    }
+    let _ = connection.close(); // what was answered is in the log, if not in the file
+    ended
+}
+
+// Serves a site over its database, with a log if one is named. Whether this call made the store.
+fn serve_open<S: Beginning, C: Conversation>(
+    rt: &HostRuntime,
+    opening: Opening<'_>,
+    connection: Connection<FileStore<FileFrom<S>>>,
+    layout: Layout,
+    conversation: &mut C,
+    store: &StoreFile<'_>,
+) -> (ServiceEnd, bool, Connection<FileStore<FileFrom<S>>>)
+    requires site { opening.service.site < layout.sites }
+    requires idle { connection.in_transaction ≡ false }
+    ensures { RunsOver ⟦<SqlKeeper<FileStore<FileFrom<S>>> as Keeper>⟧ ⟦<std::fs::File as ExclusiveFile>⟧ ⟦<std::fs::File as Read>⟧.remaining ⟦<std::fs::File as Write>⟧.contents C.Conversation
+        ⟦<NoLog as CallLog>⟧ ⟦<FileLog<SystemFile<std::fs::File>> as CallLog>⟧ layout (served_by opening.entry.service)
+        connection result.2 conversation.old conversation.new result.1 result.0 }
+{
+    let Some(log) = opening.log else {
+        let (ended, connection) = serve_live_over(
+            rt.alloc(),
+            connection,
+            layout,
+            opening.service,
+            conversation,
+            &mut NoLog {},
+            store,
+        );
+        return (ended, false, connection);
+    };
+    match is_store_file(rt, log, opening.path) {
+        Ok(false) => {}
+        Ok(true) => return (ServiceEnd::LogIsStore, false, connection),
+        Err(_) => return (ServiceEnd::Ended(Status::Memory), false, connection),
+    }
+    serve_logged_over(
+        rt,
+        log,
+        connection,
+        layout,
+        opening.service,
+        conversation,
+        store,
     )
 }
 
 // Removes the store that this start made, where nothing was served for want of a log that can be used. No other store is
-// ever removed.
-fn remove_made(rt: &HostRuntime, opening: Opening<'_>, ended: ServiceEnd)
-    requires made { opening.create ≡ true }
+// ever removed, and none that another process can have used: it is still locked, as the open connection shows.
+fn remove_made<S: Beginning>(
+    rt: &HostRuntime,
+    path: &str,
+    _locked: &Connection<FileStore<FileFrom<S>>>,
+    made: bool,
+    ended: ServiceEnd,
+)
+    requires made { made ≡ true }
     requires unlogged { is_unlogged ended ≡ true }
 {
-    let _ = ended;
-    let _ = fs::remove_file(rt, opening.path);
+    let _ = (made, ended);
+    let _ = fs::remove_file(rt, path);
 }
 
 // Whether nothing was served, for want of a log that can be used.
@@ -128,41 +191,52 @@ fn is_unlogged(ended: ServiceEnd) -> bool
     }
 }
 
-// Whether something that is not empty is at a path. What can't be looked at counts as there: it is not opened.
-fn is_there(rt: &HostRuntime, path: &str) -> bool {
-    match fs::metadata(rt, path) {
-        Ok(found) => !found.is_file() || found.len() > 0,
-        Err(error) => error.kind() != std::io::ErrorKind::NotFound,
-    }
-}
-
-// Why a database is not served that is there, or is not.
-fn absence(there: bool) -> Absence
-    ensures { result ≡ absence_of there }
-{
-    if there {
-        return Absence::Exists;
-    }
-    Absence::NoStore
-}
-
 // Opens the database at a path. Where another process has it open it is tried again each hundredth of a second.
-fn open_in_time(
+fn open_in_time<S: Beginning>(
     rt: &HostRuntime,
-    path: &str,
-    wait: u16,
-) -> Result<Connection<FileStore<File>>, Error>
-    ensures { IfOk result (λ c. c.in_transaction ≡ false) }
+    opening: Opening<'_>,
+) -> Result<(Connection<FileStore<FileFrom<S>>>, Place), ServiceEnd>
+    ensures opened { IfOk result (λ x. FindsFiles (image_at S.Start) x.0) }
+    ensures idle { IfOk result (λ x. x.0.in_transaction ≡ false) }
+    ensures unserved { IfErr result IsUnserved }
 {
-    for _ in 0..u64::from(wait) * 100 {
-        match Connection::open(rt, path) {
-            Err(Error::SqliteFailure(ErrorCode::DatabaseBusy)) => {
+    let create = opening.service.permission.create;
+    for _ in 0..u64::from(opening.wait) * 100 {
+        match open_once::<S>(rt, opening.path, create) {
+            Err(ServiceEnd::Absent(Absence::InUse)) => {
                 thread::sleep(rt, Duration::from_millis(10));
             }
             opened => return opened,
         }
     }
-    Connection::open(rt, path)
+    open_once::<S>(rt, opening.path, create)
+}
+
+// Opens the database at a path, where a file is there or is to be made. The file that was found there before is there still
+// behind the opening, which locks it: so it is the one that was opened, and no other process has removed it meanwhile. Which
+// file that is, is handed back.
+fn open_once<S: Beginning>(
+    rt: &HostRuntime,
+    path: &str,
+    create: bool,
+) -> Result<(Connection<FileStore<FileFrom<S>>>, Place), ServiceEnd>
+    ensures opened { IfOk result (λ x. FindsFiles (image_at S.Start) x.0) }
+    ensures idle { IfOk result (λ x. x.0.in_transaction ≡ false) }
+    ensures unserved { IfErr result IsUnserved }
+{
+    let place = match find_file(rt, path, create) {
+        Ok(place) => place,
+        Err(ended) => return Err(ended),
+    };
+    let connection = match Connection::open_from(rt, path, false, S::begin()) {
+        Ok(connection) => connection,
+        Err((error, _)) => return Err(unopened(error)),
+    };
+    if is_at(rt, path, place) {
+        return Ok((connection, place));
+    }
+    let _ = connection.close();
+    Err(ServiceEnd::Absent(Absence::InUse))
 }
 
 // How a service ends whose database could not be opened.
@@ -173,6 +247,7 @@ fn unopened(error: Error) -> ServiceEnd
     match error {
         Error::SqliteFailure(ErrorCode::OutOfMemory) => ServiceEnd::Ended(Status::Memory),
         Error::SqliteFailure(ErrorCode::DatabaseBusy) => ServiceEnd::Absent(Absence::InUse),
+        Error::SqliteFailure(ErrorCode::NotADatabase) => ServiceEnd::Absent(Absence::NotAStore),
         _ => ServiceEnd::Ended(Status::NoStore(StoreRefusal::StoreFault)),
     }
 }
@@ -184,9 +259,10 @@ pub fn serve_live<R: LiveDatabases, C: Conversation>(
     layout: Layout,
     conversation: &mut C,
 ) -> ServiceEnd
-    ensures { EndsLive C.Conversation layout opening.entry.site (option_copied opening.entry.group) conversation.old conversation.new result }
+    ensures { EndsLive C.Conversation layout opening.entry.service.site (option_copied opening.entry.service.group) opening.entry.service.marking
+        conversation.old conversation.new result }
 {
-    if opening.site >= layout.sites() {
+    if opening.service.site >= layout.sites() {
         return ServiceEnd::Ended(Status::NoLayout(LayoutFault::NoSite));
     }
     rt.serve_conversation(opening, layout, conversation)

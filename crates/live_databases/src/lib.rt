@@ -2,10 +2,12 @@
 //! answered one by one.
 #![tactic(auto)]
 
-pub use databases::{LiveDatabases, Opening, serve_live};
+pub use databases::{Beginning, LiveDatabases, Opening, serve_found, serve_live};
 pub use service_end::{Absence, ServiceEnd};
-pub use serving::{serve_live_over, serve_logged_over};
+pub use serving::{Service, serve_live_over, serve_logged_over};
 
 mod databases;
+pub mod laws;
+mod places;
 mod service_end;
 mod serving;

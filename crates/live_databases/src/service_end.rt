@@ -21,6 +21,12 @@ pub enum Absence {
     InUse,
     /// It is the store of this site in another group of sites, or in none, or in some where none is named.
     WrongGroup,
+    /// What is there was not made by this program as a store.
+    NotAStore,
+    /// The folder of the path is missing.
+    NoFolder,
+    /// It is marked: some delta has shown that it is older than what others have seen of its site.
+    Outdated,
 }
 
 impl Absence {
@@ -33,6 +39,9 @@ impl Absence {
             Absence::Exists => "Exists",
             Absence::InUse => "InUse",
             Absence::WrongGroup => "WrongGroup",
+            Absence::NotAStore => "NotAStore",
+            Absence::NoFolder => "NoFolder",
+            Absence::Outdated => "Outdated",
         }
     }
 }

@@ -1,5 +1,6 @@
 //! A service over a database, whatever this lies on.
-ghost use Rattle.std.specs.Prelude.{◌≡◌, false, option_copied};
+ghost use Rattle.std.specs.Prelude.{◌≡◌, false};
+ghost use Rattle.live_databases.specs.Services.{served_by};
 ghost use Rattle.live_databases.specs.LiveStores.{ServesOver};
 ghost use Rattle.live_databases.specs.Endings.{refused_store};
 
@@ -7,90 +8,144 @@ use crate::service_end::{Absence, ServiceEnd};
 use durable_keeper::KeeperError;
 use exit_status::{Status, StoreRefusal};
 use line_conversation::Conversation;
-use live_site::CallLog;
-use log_file::{FileLog, LogError, SystemFile, open_log};
+use live_site::{CallLog, StorePlace};
+use log_file::{ExclusiveFile, FileLog, LogError, SystemFile, open_log};
 use merge_core::Layout;
-use serve_engine::serve_engine;
-use site_store::{Keeper, OpenError, SqlKeeper};
+use serve_engine::{Marking, serve_engine};
+use site_store::{Keeper, Permission, ServedError, SqlKeeper};
 use sqlite::{Alter, Connection};
 use std::alloc::Global;
 use std::rt::Files;
 
-/// Serves a site over a database in which no transaction is open, and hands the database back.
-pub fn serve_live_over<S: Alter + Drop, C: Conversation, L: CallLog>(
+/// Which site is served, and how.
+#[derive(Clone, Copy, Debug)]
+pub struct Service<'a> {
+    /// The site's number.
+    pub site: u16,
+    /// The name of the group of sites that the site belongs to, if it has one.
+    pub group: Option<&'a str>,
+    /// Whether deltas travel with a mark.
+    pub marking: Marking,
+    /// What the opening of its store may write.
+    pub permission: Permission,
+}
+
+/// Serves a site over a database in which no transaction is open, and hands the database back. The place is where the
+/// database lies.
+pub fn serve_live_over<S: Alter + Drop, C: Conversation, L: CallLog, P: StorePlace>(
     alloc: Global,
     connection: Connection<S>,
     layout: Layout,
-    site: u16,
-    group: Option<&str>,
+    service: Service<'_>,
     conversation: &mut C,
     log: &mut L,
+    place: &P,
 ) -> (ServiceEnd, Connection<S>)
     requires { connection.in_transaction ≡ false }
-    ensures { ServesOver S.Store ⟦<SqlKeeper<S> as Keeper>⟧ C.Conversation L.CallLog layout site (option_copied group.entry) connection result.1
+    ensures { ServesOver S.Store ⟦<SqlKeeper<S> as Keeper>⟧ C.Conversation L.CallLog layout (served_by service.entry) connection result.1
         conversation.old conversation.new log.old log.new result.0 }
 {
-    let keeper = match SqlKeeper::open(alloc, connection, &layout, site, group) {
-        Ok(keeper) => keeper,
+    let Service {
+        site,
+        group,
+        marking,
+        permission,
+    } = service;
+    let (keeper, _made) = match SqlKeeper::open_served(
+        alloc, connection, &layout, site, group, permission,
+    ) {
+        Ok(opened) => opened,
         Err((error, connection)) => return (refused_store(error), connection),
     };
-    let (status, keeper) = serve_engine(alloc, keeper, layout, site, group, conversation, log);
+    let (status, keeper) = serve_engine(
+        alloc,
+        keeper,
+        layout,
+        site,
+        group,
+        marking,
+        conversation,
+        log,
+        place,
+    );
     (ServiceEnd::Ended(status), keeper.into_connection())
 }
 
 // How the service ends where the store is refused.
-fn refused_store(error: OpenError) -> ServiceEnd
+fn refused_store(error: ServedError) -> ServiceEnd
     ensures { result ≡ refused_store error }
 {
     match error {
-        OpenError::BadStore => ServiceEnd::Ended(Status::NoStore(StoreRefusal::BadStore)),
-        OpenError::WrongSite => ServiceEnd::Ended(Status::NoStore(StoreRefusal::WrongSite)),
-        OpenError::WrongGroup => ServiceEnd::Absent(Absence::WrongGroup),
-        OpenError::WrongLayout => ServiceEnd::Ended(Status::NoStore(StoreRefusal::WrongLayout)),
-        OpenError::StoreFault => ServiceEnd::Ended(Status::NoStore(StoreRefusal::StoreFault)),
-        OpenError::Memory => ServiceEnd::Ended(Status::Memory),
+        ServedError::NotAStore => ServiceEnd::Absent(Absence::NotAStore),
+        ServedError::NoStore => ServiceEnd::Absent(Absence::NoStore),
+        ServedError::Exists => ServiceEnd::Absent(Absence::Exists),
+        ServedError::BadStore => ServiceEnd::Ended(Status::NoStore(StoreRefusal::BadStore)),
+        ServedError::WrongSite => ServiceEnd::Ended(Status::NoStore(StoreRefusal::WrongSite)),
+        ServedError::WrongGroup => ServiceEnd::Absent(Absence::WrongGroup),
+        ServedError::Outdated => ServiceEnd::Absent(Absence::Outdated),
+        ServedError::WrongLayout => {
+            ServiceEnd::Ended(Status::NoStore(StoreRefusal::WrongLayout))
+        }
+        ServedError::StoreFault => ServiceEnd::Ended(Status::NoStore(StoreRefusal::StoreFault)),
+        ServedError::Memory => ServiceEnd::Ended(Status::Memory),
     }
 }
 
 ghost use Rattle.live_databases.specs.LiveStores.{LogsOver, unloaded_end, unlogged_end};
 
 /// The same with a log in the file at a path, which is opened for what the store kept: each call is in it before its change
-/// is committed.
-pub fn serve_logged_over<S: Alter + Drop, C: Conversation, R: Files + AllocGlobal>(
+/// is committed. Whether this call made the store, too.
+pub fn serve_logged_over<
+    S: Alter + Drop,
+    C: Conversation,
+    R: Files<File: ExclusiveFile> + AllocGlobal,
+    P: StorePlace,
+>(
     rt: &R,
     path: &str,
     connection: Connection<S>,
     layout: Layout,
-    site: u16,
-    group: Option<&str>,
+    service: Service<'_>,
     conversation: &mut C,
-) -> (ServiceEnd, Connection<S>)
+    place: &P,
+) -> (ServiceEnd, bool, Connection<S>)
     requires { connection.in_transaction ≡ false }
-    ensures { LogsOver S.Store ⟦<SqlKeeper<S> as Keeper>⟧ R.File.Read.remaining R.File.Write.contents C.Conversation ⟦<FileLog<SystemFile<R::File>> as CallLog>⟧ layout site
-        (option_copied group.entry) connection result.1 conversation.old conversation.new result.0 }
+    ensures { LogsOver S.Store ⟦<SqlKeeper<S> as Keeper>⟧ R.File.ExclusiveFile R.File.Read.remaining R.File.Write.contents C.Conversation ⟦<FileLog<SystemFile<R::File>> as CallLog>⟧ layout
+        (served_by service.entry) connection result.2 conversation.old conversation.new result.1 result.0 }
 {
-    let mut keeper = match SqlKeeper::open(rt.alloc(), connection, &layout, site, group) {
-        Ok(keeper) => keeper,
-        Err((error, connection)) => return (refused_store(error), connection),
+    let Service {
+        site,
+        group,
+        marking,
+        permission,
+    } = service;
+    let alloc = rt.alloc();
+    let (mut keeper, made) = match SqlKeeper::open_served(
+        alloc, connection, &layout, site, group, permission,
+    ) {
+        Ok(opened) => opened,
+        Err((error, connection)) => return (refused_store(error), false, connection),
     };
-    let first = match keeper.load(rt.alloc()) {
+    let first = match keeper.load(alloc) {
         Ok(first) => first,
-        Err(error) => return (unloaded(error), keeper.into_connection()),
+        Err(error) => return (unloaded(error), made, keeper.into_connection()),
     };
     let mut log = match open_log(rt, path, &layout, site, &first) {
         Ok(log) => log,
-        Err(error) => return (unlogged(error), keeper.into_connection()),
+        Err(error) => return (unlogged(error), made, keeper.into_connection()),
     };
     let (status, keeper) = serve_engine(
-        rt.alloc(),
+        alloc,
         keeper,
         layout,
         site,
         group,
+        marking,
         conversation,
         &mut log,
+        place,
     );
-    (ServiceEnd::Ended(status), keeper.into_connection())
+    (ServiceEnd::Ended(status), made, keeper.into_connection())
 }
 
 // How the service ends where the store gives nothing back.

@@ -1,5 +1,5 @@
 -- A site at work, as contracts see it, and what a call leaves.
-use Rattle.std.specs.Prelude.{◌≡◌, ℕ, ◌<◌, Bool, true, false, List, [], ◌∷◌, ◌++◌, codes, Some, None, Result, Ok, Err}
+use Rattle.std.specs.Prelude.{◌≡◌, ◌⊎◌, ℕ, ◌<◌, Bool, true, false, List, [], ◌∷◌, ◌++◌, codes, Some, None, Result, Ok, Err}
 use Rattle.merge_core.specs.Layout.{LayoutState, IsLayout}
 use Rattle.admission_model.specs.declared.ask.Call.{Call}
 use Rattle.admission_model.specs.declared.reply.Refusal.TheVariants.{OwnRowAhead, StoreFault as NoStore}
@@ -7,7 +7,8 @@ use Rattle.admission_model.specs.declared.reply.Reply.{Reply}
 use Rattle.admission_model.specs.declared.reply.Reply.TheVariants.{Refused}
 use Rattle.admission_model.specs.Account.{Account}
 use Rattle.admission_model.specs.View.{view_of}
-use Rattle.admission_model.specs.Serving.{reason, reply_of}
+use Rattle.admission_model.specs.Serving.{after, reason, reply_of}
+use Rattle.admission_model.specs.Durable.{change_between, IsEmpty}
 use Rattle.admission_model.specs.Restoring.{AreCells, AreSessions}
 use Rattle.admission_core.specs.Core.{Core, IsCore, Stands, SameContent}
 use Rattle.admission_core.specs.Kept.{DurableState, durable_of}
@@ -100,11 +101,12 @@ module _ {K : Type 0} where
 -- what a call leaves at a core, its keeper and a log, by the outcome, at an account for which the core stands
 module _ {K L : Type 0} where
   -- it was answered: the text got the model's reply and LF, the log was handed both, the change is kept, the core is the one
-  -- after the call
-  pub record WasAnswered (g : Ghosts K) (h : LogGhosts L) (a : Account) (c d : Core) (old new : K) (log log_after : L) (call : Call) (text text_after : List ℕ) : Type 0 where
+  -- after the call; and where the reply shows that the store is outdated, it is marked so
+  pub record WasAnswered (g : Ghosts K) (m : K → Type 0) (h : LogGhosts L) (a : Account) (c d : Core) (old new : K) (log log_after : L) (call : Call) (text text_after : List ℕ) : Type 0 where
     pub answered : IsAnswered g a c d old new call (reply_of (view_of a) call)
     pub fits : Fits a call
     pub told : text_after ≡ text ++ line_of (reply_of (view_of a) call)
+    pub marked : is_outdated (reply_of (view_of a) call) ≡ true → g.keeps old (durable_of a) → m new
     pub logged : Enters h log log_after call (reply_of (view_of a) call)
 
   -- it would give more rights than there are seats: nothing changed
@@ -129,6 +131,16 @@ module _ {K L : Type 0} where
     pub fits : Fits a call
     pub logged : Enters h log log_after call (reply_of (view_of a) call)
 
+  -- the reply would show that the store is outdated, and the store failed where it was to be marked so: the log was handed
+  -- the call and the model's reply, and what is kept stays
+  pub record WasUnmarked (g : Ghosts K) (h : LogGhosts L) (a : Account) (c d : Core) (old new : K) (log log_after : L) (call : Call) : Type 0 where
+    pub outdated : is_outdated (reply_of (view_of a) call) ≡ true
+    pub fits : Fits a call
+    pub core : SameContent c d
+    pub kept : g.keeps old (durable_of a) → g.keeps new (durable_of a)
+    pub told : g.faults_of new ≡ 1
+    pub logged : Enters h log log_after call (reply_of (view_of a) call)
+
   -- the log failed: nothing changed
   pub record WasUnlogged (g : Ghosts K) (h : LogGhosts L) (a : Account) (c d : Core) (old new : K) (log log_after : L) : Type 0 where
     pub core : SameContent c d
@@ -136,18 +148,20 @@ module _ {K L : Type 0} where
     pub no_fault : g.faults_of new ≡ 0
     pub failed : h.has_failed log_after
 
-  abbrev pub IsLiveStep : Ghosts K → LogGhosts L → Account → Core → Core → K → K → L → L → Call → List ℕ → List ℕ → Outcome → Type 0
-  IsLiveStep g h a c d old new log log_after call text text_after Answered = WasAnswered g h a c d old new log log_after call text text_after
-  IsLiveStep g h a c d old new log log_after call text text_after (TooManySeats r) = WasTooMany a c d old new log log_after call text text_after r
-  IsLiveStep g h a c d old new log log_after call text text_after Memory = WasUnserved g h a c d old new log log_after
-  IsLiveStep g h a c d old new log log_after call text text_after StoreFault = WasDoubted g h a c d old new log log_after call
-  IsLiveStep g h a c d old new log log_after call text text_after LogFailed = WasUnlogged g h a c d old new log log_after
-  IsLiveStep g h a c d old new log log_after call text text_after Frozen = ⊥
+  abbrev pub IsLiveStep : Ghosts K → (K → Type 0) → LogGhosts L → Account → Core → Core → K → K → L → L → Call → List ℕ → List ℕ → Outcome → Type 0
+  IsLiveStep g m h a c d old new log log_after call text text_after Answered = WasAnswered g m h a c d old new log log_after call text text_after
+  IsLiveStep g m h a c d old new log log_after call text text_after (TooManySeats r) = WasTooMany a c d old new log log_after call text text_after r
+  IsLiveStep g m h a c d old new log log_after call text text_after Memory = WasUnserved g h a c d old new log log_after
+  IsLiveStep g m h a c d old new log log_after call text text_after StoreFault = WasDoubted g h a c d old new log log_after call ⊎ WasUnmarked g h a c d old new log log_after call
+  IsLiveStep g m h a c d old new log log_after call text text_after LogFailed = WasUnlogged g h a c d old new log log_after
+  IsLiveStep g m h a c d old new log log_after call text text_after Frozen = ⊥
 
-  -- One call at a site that serves, for every account that its core stands for.
-  pub record IsServingSite (g : Ghosts K) (h : LogGhosts L) (a : Account) (old new : LiveState K) (log log_after : L) (call : Call) (text text_after : List ℕ) (outcome : Outcome) : Type 0 where
-    pub step : IsLiveStep g h a old.core new.core old.keeper new.keeper log log_after call text text_after outcome
+  -- One call at a site that serves, for every account that its core stands for. Where the durable part does not change, and the
+  -- reply does not show that the store is outdated, the keeper is as it was.
+  pub record IsServingSite (g : Ghosts K) (m : K → Type 0) (h : LogGhosts L) (a : Account) (old new : LiveState K) (log log_after : L) (call : Call) (text text_after : List ℕ) (outcome : Outcome) : Type 0 where
+    pub step : IsLiveStep g m h a old.core new.core old.keeper new.keeper log log_after call text text_after outcome
     pub frozen : new.frozen ≡ freezes a call outcome
+    pub idle : is_outdated (reply_of (view_of a) call) ≡ false → IsEmpty (change_between a (after a call)) → new.keeper ≡ old.keeper
 
   -- at one that serves no more nothing happens
   pub record IsIdle (old new : LiveState K) (log log_after : L) (outcome : Outcome) : Type 0 where

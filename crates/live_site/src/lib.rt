@@ -4,9 +4,11 @@
 
 pub use call_log::{CallLog, LogFault, NoLog};
 pub use live_site::{LiveSite, Outcome};
+pub use place::{NoPlace, StorePlace};
 
 mod call_log;
 pub mod laws;
 mod live_site;
 mod overfull;
+mod place;
 mod step;

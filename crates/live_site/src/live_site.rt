@@ -3,6 +3,7 @@ use crate::step::step;
 use admission_core::{Call, SiteCore};
 use desk_log::OpenError;
 use durable_keeper::{Keeper, KeeperError};
+use live_keeper::LiveKeeper;
 use merge_core::Layout;
 use std::alloc::Global;
 use std::marker::Model;
@@ -16,7 +17,8 @@ pub enum Outcome {
     TooManySeats(u16),
     /// No memory was found. Nothing changed.
     Memory,
-    /// The store failed: it is not known whether the call was kept. The site serves no more.
+    /// The store failed: it is not known whether the call was kept, or the mark that the store is outdated. The site serves
+    /// no more.
     StoreFault,
     /// The site serves no more.
     Frozen,
@@ -29,14 +31,14 @@ pub enum Outcome {
 /// It serves no more once its store has failed, or once a delta has shown that its store is older than what others have
 /// seen of it.
 #[derive(Drop)]
-pub struct LiveSite<K: Keeper> {
+pub struct LiveSite<K: LiveKeeper> {
     core: SiteCore,
     keeper: K,
     frozen: bool,
 }
 
 // Contracts see the core, the keeper, and whether the site serves no more.
-impl<K: Keeper> Model for LiveSite<K> {
+impl<K: LiveKeeper> Model for LiveSite<K> {
     ghost use Rattle.live_site.specs.Live.{LiveState, IsLive};
 
     ghost Value = { LiveState K };
@@ -46,7 +48,7 @@ impl<K: Keeper> Model for LiveSite<K> {
     ghost invariant = { λ s. IsLive K.Keeper (record { core = s.core; keeper = s.keeper; frozen = s.frozen }) };
 }
 
-impl<K: Keeper> LiveSite<K> {
+impl<K: LiveKeeper> LiveSite<K> {
     ghost use Rattle.std.specs.Prelude.{◌≡◌, ◌<◌, true, false, string_bytes};
     ghost use Rattle.admission_model.specs.Account.{Account};
     ghost use Rattle.admission_core.specs.Core.{IsCore, Stands};
@@ -95,11 +97,19 @@ impl<K: Keeper> LiveSite<K> {
         self.frozen
     }
 
+    /// Lets the site serve no more.
+    pub fn freeze(&mut self)
+        ensures { self.new ≡ record self.old { frozen = true } }
+    {
+        self.frozen = true;
+    }
+
     /// Serves a call and writes the reply and LF behind a text. The reply is written and the log is handed call and
-    /// reply before the change is kept, and the call is carried out behind that. After want of memory the text may have
-    /// a part of the reply.
+    /// reply before the change is kept, and the call is carried out behind that. Before a reply which shows that the store
+    /// is older than what others have seen, the keeper is marked so. Where neither that is due nor the durable part changes,
+    /// the keeper is not asked. After want of memory the text may have a part of the reply.
     pub fn serve<L: CallLog>(&mut self, call: &Call, text: &mut String, log: &mut L) -> Outcome
-        ensures served { (a : Account) → Stands a self.old.core → self.old.frozen ≡ false → IsServingSite K.Keeper L.CallLog a self.old self.new
+        ensures served { (a : Account) → Stands a self.old.core → self.old.frozen ≡ false → IsServingSite K.Keeper K.is_outdated L.CallLog a self.old self.new
             log.old log.new call.now (string_bytes text.old) (string_bytes text.new) result }
         ensures idle { self.old.frozen ≡ true → IsIdle self.old self.new log.old log.new result }
         ensures layout { self.new.core.layout ≡ self.old.core.layout }

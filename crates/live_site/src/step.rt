@@ -1,21 +1,24 @@
 //! One call at a core, its keeper and a log.
-ghost use Rattle.std.specs.Prelude.{◌≡◌, ◌++◌, IfOk, MatchOption, None, Some, false, string_bytes};
+ghost use Rattle.std.specs.Prelude.{◌≡◌, ◌++◌, IfOk, MatchOption, None, Some, [], false, string_bytes};
 ghost use Rattle.admission_model.specs.declared.reply.Refusal.{Refusal};
 ghost use Rattle.admission_model.specs.declared.reply.Reply.TheVariants.{Refused};
 ghost use Rattle.admission_model.specs.Account.{Account};
-ghost use Rattle.admission_model.specs.Serving.{answer, reason};
+ghost use Rattle.admission_model.specs.View.{view_of};
+ghost use Rattle.admission_model.specs.Serving.{after, answer, reason, reply_of};
+ghost use Rattle.admission_model.specs.Durable.{IsEmpty, change_between};
 ghost use Rattle.admission_core.specs.Core.{IsCore, Stands, core_view, is_memory};
 ghost use Rattle.durable_keeper.specs.Keeping.{IsChange};
 ghost use Rattle.desk_log.specs.Desk.{IsMadeFor, KeepsChange};
 ghost use Rattle.live_site.specs.Overfull.{overfull_in};
 ghost use Rattle.live_site.specs.Live.{IsLiveStep, freezes, is_outdated, line_of};
-ghost use Rattle.live_site.specs.Steps.{IsNotKept, is_refused, unlogged};
+ghost use Rattle.live_site.specs.Steps.{IsNotKept, KeepsCall, KeepsMark, is_refused, unlogged};
 
 use crate::call_log::{CallLog, LogFault};
 use crate::live_site::Outcome;
 use crate::overfull::overfull_in;
 use admission_core::{Call, Change, Refusal, Reply, SiteCore};
 use durable_keeper::{Keeper, KeeperError};
+use live_keeper::LiveKeeper;
 use script_text::push_reply;
 use std::alloc::AllocError;
 
@@ -60,6 +63,7 @@ fn keep<K: Keeper>(keeper: &mut K, change: &Change) -> Result<(), KeeperError>
     requires change { IsChange (K.layout keeper.old) (K.site keeper.old) change.now }
     requires no_fault { K.faults_of keeper.old ≡ 0 }
     ensures kept { KeepsChange K.Keeper keeper.old keeper.new change.now result }
+    ensures idle { change.now.cells ≡ [] → change.now.session ≡ None → keeper.new ≡ keeper.old }
     ensures honest { K.is_honest keeper.new → K.is_honest keeper.old }
     ensures layout { K.layout keeper.new ≡ K.layout keeper.old }
     ensures site { K.site keeper.new ≡ K.site keeper.old }
@@ -68,6 +72,37 @@ fn keep<K: Keeper>(keeper: &mut K, change: &Change) -> Result<(), KeeperError>
         return Ok(());
     }
     keeper.commit(change)
+}
+
+// Has the mark kept that the store is outdated.
+fn mark<K: LiveKeeper>(keeper: &mut K) -> Result<(), KeeperError>
+    ensures marked { KeepsMark K.Keeper K.is_outdated keeper.old keeper.new result }
+    ensures honest { K.is_honest keeper.new → K.is_honest keeper.old }
+    ensures layout { K.layout keeper.new ≡ K.layout keeper.old }
+    ensures site { K.site keeper.new ≡ K.site keeper.old }
+{
+    keeper.mark_outdated()
+}
+
+// Has kept what goes with a reply: the mark where it shows that the store is outdated, and else the change. Behind such a
+// reply nothing changes.
+fn keep_call<K: LiveKeeper>(
+    keeper: &mut K,
+    reply: &Reply,
+    change: &Change,
+) -> Result<(), KeeperError>
+    requires change { IsChange (K.layout keeper.old) (K.site keeper.old) change.now }
+    requires no_fault { K.faults_of keeper.old ≡ 0 }
+    ensures kept { KeepsCall K.Keeper K.is_outdated (is_outdated reply.now) keeper.old keeper.new change.now result }
+    ensures idle { is_outdated reply.now ≡ false → change.now.cells ≡ [] → change.now.session ≡ None → keeper.new ≡ keeper.old }
+    ensures honest { K.is_honest keeper.new → K.is_honest keeper.old }
+    ensures layout { K.layout keeper.new ≡ K.layout keeper.old }
+    ensures site { K.site keeper.new ≡ K.site keeper.old }
+{
+    if is_outdated(reply) {
+        return mark(keeper);
+    }
+    keep(keeper, change)
 }
 
 // How a log's fault is told.
@@ -102,9 +137,9 @@ fn push_line(text: &mut String, reply: &Reply) -> Result<(), AllocError>
     text.push_str("\n")
 }
 
-/// Answers a call, writes the reply and LF behind the text, hands both to the log, has the change kept, and only then carries
-/// the call out.
-pub(crate) fn step<K: Keeper, L: CallLog>(
+/// Answers a call, writes the reply and LF behind the text, hands both to the log, has the change kept, or the mark that the
+/// store is outdated, and only then carries the call out.
+pub(crate) fn step<K: LiveKeeper, L: CallLog>(
     core: &mut SiteCore,
     keeper: &mut K,
     frozen: &mut bool,
@@ -116,9 +151,10 @@ pub(crate) fn step<K: Keeper, L: CallLog>(
     requires made_for { IsMadeFor K.Keeper keeper.old core.old.layout core.old.site }
     requires no_fault { K.faults_of keeper.old ≡ 0 }
     requires running { frozen.old ≡ false }
-    ensures step { (a : Account) → Stands a core.old → IsLiveStep K.Keeper L.CallLog a core.old core.new keeper.old keeper.new
+    ensures step { (a : Account) → Stands a core.old → IsLiveStep K.Keeper K.is_outdated L.CallLog a core.old core.new keeper.old keeper.new
         log.old log.new call.now (string_bytes text.old) (string_bytes text.new) result }
     ensures frozen { (a : Account) → Stands a core.old → frozen.new ≡ freezes a call.now result }
+    ensures idle { (a : Account) → Stands a core.old → is_outdated (reply_of (view_of a) call.now) ≡ false → IsEmpty (change_between a (after a call.now)) → keeper.new ≡ keeper.old }
     ensures made_for { IsMadeFor K.Keeper keeper.new core.old.layout core.old.site }
     ensures honest { K.is_honest keeper.new → K.is_honest keeper.old }
 {
@@ -135,7 +171,7 @@ pub(crate) fn step<K: Keeper, L: CallLog>(
     if let Err(fault) = log.enter(core.layout(), call, prepared.reply()) {
         return unlogged(fault);
     }
-    if let Err(error) = keep(keeper, prepared.change()) {
+    if let Err(error) = keep_call(keeper, prepared.reply(), prepared.change()) {
         *frozen = error == KeeperError::StoreFault;
         return not_kept(log, error);
     }

@@ -19,21 +19,33 @@ use Rattle.log_file.specs.declared.mending.Judged.{Judged}
 use Rattle.log_file.specs.declared.mending.Judged.TheVariants as judged
 use Rattle.log_file.specs.declared.refusal.LogError.{LogError}
 use Rattle.log_file.specs.declared.refusal.LogError.TheVariants.{Refused, Memory, Io}
-use Rattle.log_file.specs.declared.refusal.LogRefusal.TheVariants.{NotRead, NotTranscript, WrongSite, WrongStore}
+use Rattle.log_file.specs.declared.refusal.LogRefusal.TheVariants.{NotRead, InUse, NotALog, NotTranscript, WrongSite, WrongStore}
 use Rattle.std.specs.Prelude.{MatchOption}
 use Rattle.log_file.specs.Runs.{EndsWith, HasNoLast, in_doubt}
 use Rattle.log_file.specs.Pieces.{IsTorn}
-use Rattle.log_file.specs.Mending.{entry_line, IsFit, IsUnfit, IsDoubted, IsRewritten, FitsNot, MendsTo, IsWrongStore, IsFaultOf, IsMended}
+use Rattle.log_file.specs.Fronts.{MayBeLog}
+use Rattle.log_file.specs.Mending.{entry_line, IsFit, IsUnfit, IsDoubted, IsRewritten, FitsNot, MendsTo, IsWrongStore, IsFaultOf, IsRefusedByLines, IsMended}
 use Rattle.log_file.specs.Judging.{IsNoLog, IsJudged, IsUnfitWith, bytes_of, doubt_answer, MendsWhole, IsWholeMended}
 use Rattle.log_file.proofs.RunLemmas.{runs_below}
 
 -- ---- bytes of which the whole lines are mended
 
-pub mended_bytes : (layout : LayoutState) (i : ℕ) (bytes whole torn : List ℕ) (first : DurableState) (result : Result Mended LogError) → IsTorn bytes whole torn
-    → IsWholeMended layout i whole first result → IsMended layout i bytes first result
-mended_bytes layout i bytes whole torn first (Ok m) is_torn mends =
+by_lines : (layout : LayoutState) (i : ℕ) (bytes whole torn : List ℕ) (first : DurableState) (e : LogError) → MayBeLog layout i bytes → IsTorn bytes whole torn
+    → IsFaultOf layout i whole first e → IsRefusedByLines layout i bytes first e
+by_lines layout i bytes whole torn first e may_be is_torn fault = record {
+  may_be = may_be;
+  whole = whole;
+  torn = torn;
+  is_torn = is_torn;
+  fault = fault;
+}
+
+pub mended_bytes : (layout : LayoutState) (i : ℕ) (bytes whole torn : List ℕ) (first : DurableState) (result : Result Mended LogError) → MayBeLog layout i bytes
+    → IsTorn bytes whole torn → IsWholeMended layout i whole first result → IsMended layout i bytes first result
+mended_bytes layout i bytes whole torn first (Ok m) may_be is_torn mends =
     let same : take m.kept bytes ≡ take m.kept whole = ap (take m.kept) is_torn.split ∙ take-append-le m.kept whole torn mends.within in
     record {
+      may_be = may_be;
       whole = whole;
       torn = torn;
       is_torn = is_torn;
@@ -44,12 +56,17 @@ mended_bytes layout i bytes whole torn first (Ok m) is_torn mends =
         | inr some ↦ inr (subst (λ (xs : List ℕ). IsRewritten layout i whole xs first (string_bytes m.tail)) (sym same) some)
       ];
     }
-mended_bytes layout i bytes whole torn first (Err e) is_torn fault = record {
-  whole = whole;
-  torn = torn;
-  is_torn = is_torn;
-  fault = fault;
-}
+mended_bytes layout i bytes whole torn first (Err (Refused NotRead)) may_be is_torn fault = absurd fault
+mended_bytes layout i bytes whole torn first (Err (Refused InUse)) may_be is_torn fault = absurd fault
+mended_bytes layout i bytes whole torn first (Err (Refused NotALog)) may_be is_torn fault = absurd fault
+mended_bytes layout i bytes whole torn first (Err (Refused (NotTranscript line))) may_be is_torn fault =
+    by_lines layout i bytes whole torn first (Refused (NotTranscript line)) may_be is_torn fault
+mended_bytes layout i bytes whole torn first (Err (Refused WrongSite)) may_be is_torn fault =
+    by_lines layout i bytes whole torn first (Refused WrongSite) may_be is_torn fault
+mended_bytes layout i bytes whole torn first (Err (Refused WrongStore)) may_be is_torn fault =
+    by_lines layout i bytes whole torn first (Refused WrongStore) may_be is_torn fault
+mended_bytes layout i bytes whole torn first (Err Memory) may_be is_torn fault = tt
+mended_bytes layout i bytes whole torn first (Err Io) may_be is_torn fault = absurd fault
 
 pub within_bytes : (layout : LayoutState) (i : ℕ) (bytes : List ℕ) (first : DurableState) (kept : ℕ) (tail : List ℕ) → MendsTo layout i bytes first kept tail
     → kept ≤ length bytes
@@ -69,6 +86,8 @@ left_whole layout i whole first kept tail all none fit = record {
 
 pub no_log : (layout : LayoutState) (i : ℕ) (whole : List ℕ) (first : DurableState) (e : LogError) → IsNoLog layout i whole e → IsFaultOf layout i whole first e
 no_log layout i whole first (Refused NotRead) it = it
+no_log layout i whole first (Refused InUse) it = it
+no_log layout i whole first (Refused NotALog) it = it
 no_log layout i whole first (Refused (NotTranscript line)) it = it
 no_log layout i whole first (Refused WrongSite) it = it
 no_log layout i whole first (Refused WrongStore) it = absurd it
@@ -148,6 +167,8 @@ module _ (layout : LayoutState) (i : ℕ) (whole front other : List ℕ) (first 
       let same : Memory ≡ e = cc in
       subst (IsFaultOf layout i whole first) same tt
   refused_doubt (Err (Refused NotRead)) e judged told = absurd judged
+  refused_doubt (Err (Refused InUse)) e judged told = absurd judged
+  refused_doubt (Err (Refused NotALog)) e judged told = absurd judged
   refused_doubt (Err (Refused (NotTranscript line))) e judged told =
       let same : Refused WrongStore ≡ e = cc in
       subst (IsFaultOf layout i whole first) same (wrong_store (inl (line, judged)))

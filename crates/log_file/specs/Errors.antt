@@ -3,9 +3,10 @@ use Rattle.std.specs.Prelude.{◌≡◌, ℕ, List, [], length, take}
 use Rattle.std.specs.declared.io.ErrorKind.{ErrorKind}
 use Rattle.std.specs.declared.io.ErrorKind.TheVariants.{OutOfMemory}
 use Rattle.log_file.specs.declared.file.LogFile.{Ghosts}
+use Rattle.log_file.specs.declared.hold.ExclusiveFile.{Ghosts as HoldGhosts}
 use Rattle.log_file.specs.declared.refusal.LogError.{LogError}
 use Rattle.log_file.specs.declared.refusal.LogError.TheVariants.{Refused, Memory}
-use Rattle.log_file.specs.declared.refusal.LogRefusal.TheVariants.{NotRead}
+use Rattle.log_file.specs.declared.refusal.LogRefusal.TheVariants.{NotRead, InUse}
 use Rattle.log_file.specs.Steps.{FileStep, bytes_after, appended_in}
 
 -- the error for a file that was not opened or read
@@ -25,3 +26,9 @@ pub record Cuts {F : Type 0} (g : Ghosts F) (old new : F) (size kept : ℕ) : Ty
   pub did : g.did old steps new
   pub leaves : (bytes : List ℕ) → length bytes ≡ size → bytes_after bytes steps ≡ take kept bytes
   pub appended : appended_in steps ≡ []
+
+-- why a file is not held
+abbrev pub IsHoldError : {F : Type 0} → HoldGhosts F → F → LogError → Type 0
+IsHoldError g file (Refused InUse) = g.is_in_use file
+IsHoldError g file (Refused NotRead) = Unit {0}
+IsHoldError g file e = ⊥

@@ -11,13 +11,15 @@ use Rattle.log_file.specs.declared.mending.Judged.{Judged}
 use Rattle.log_file.specs.declared.mending.Judged.TheVariants as judged
 use Rattle.log_file.specs.declared.refusal.LogError.{LogError}
 use Rattle.log_file.specs.declared.refusal.LogError.TheVariants.{Refused, Memory, Io}
-use Rattle.log_file.specs.declared.refusal.LogRefusal.TheVariants.{NotRead, NotTranscript, WrongSite, WrongStore}
+use Rattle.log_file.specs.declared.refusal.LogRefusal.TheVariants.{NotRead, InUse, NotALog, NotTranscript, WrongSite, WrongStore}
 use Rattle.log_file.specs.Runs.{HasNoLast}
 use Rattle.log_file.specs.Mending.{IsFit, IsUnfit, IsOthers, IsDoubted, IsRewritten, IsFaultOf}
 
 -- why whole lines are no log of the site
 abbrev pub IsNoLog : LayoutState → ℕ → List ℕ → LogError → Type 0
 IsNoLog layout i whole (Refused NotRead) = ⊥
+IsNoLog layout i whole (Refused InUse) = ⊥
+IsNoLog layout i whole (Refused NotALog) = ⊥
 IsNoLog layout i whole (Refused (NotTranscript line)) = IsRefusedAt layout (lines_of whole) line
 IsNoLog layout i whole (Refused WrongSite) = IsOthers layout i whole
 IsNoLog layout i whole (Refused WrongStore) = ⊥

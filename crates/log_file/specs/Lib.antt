@@ -1,6 +1,8 @@
 pub mod Refusals
 pub mod Runs
 pub mod Pieces
+pub mod Fronts
+pub mod Fronting
 pub mod Mending
 pub mod Judging
 pub mod Steps
@@ -9,3 +11,4 @@ pub mod Begins
 pub mod NoEntry
 pub mod Opening
 pub mod Errors
+pub mod Folder

@@ -11,9 +11,10 @@ use Rattle.transcript_reader.specs.Reading.{AreTranscriptsOf, IsRefusedAt}
 use Rattle.log_file.specs.declared.mending.Mended.{Mended}
 use Rattle.log_file.specs.declared.refusal.LogError.{LogError}
 use Rattle.log_file.specs.declared.refusal.LogError.TheVariants.{Refused, Memory, Io}
-use Rattle.log_file.specs.declared.refusal.LogRefusal.TheVariants.{NotRead, NotTranscript, WrongSite, WrongStore}
+use Rattle.log_file.specs.declared.refusal.LogRefusal.TheVariants.{NotRead, InUse, NotALog, NotTranscript, WrongSite, WrongStore}
 use Rattle.log_file.specs.Runs.{IsOnlyOf, Fits, EndsWith, HasNoLast, in_doubt}
 use Rattle.log_file.specs.Pieces.{IsTorn, HasLastLine}
+use Rattle.log_file.specs.Fronts.{IsNoFront, MayBeLog}
 
 -- the bytes are the log of site i, with these transcripts
 pub record IsLogOf (layout : LayoutState) (i : ℕ) (bytes : List ℕ) (ts : List Transcript) : Type 0 where
@@ -62,9 +63,10 @@ pub record IsRewritten (layout : LayoutState) (i : ℕ) (whole front : List ℕ)
   pub cut : HasLastLine whole front line
 
 -- So many bytes are kept of a file, and this text is put behind them. Then they are a log of the site that fits. A torn
--- line is dropped; the last whole line is dropped too only where the log does not fit with it, and its entry is written
--- again with the store's fault for its reply.
+-- line is dropped, the first one only where a log can begin with it; the last whole line is dropped too only where the log
+-- does not fit with it, and its entry is written again with the store's fault for its reply.
 pub record MendsTo (layout : LayoutState) (i : ℕ) (bytes : List ℕ) (first : DurableState) (kept : ℕ) (tail : List ℕ) : Type 0 where
+  pub may_be : MayBeLog layout i bytes
   pub whole : List ℕ
   pub torn : List ℕ
   pub is_torn : IsTorn bytes whole torn
@@ -83,18 +85,27 @@ pub record IsWrongStore (layout : LayoutState) (i : ℕ) (whole : List ℕ) (fir
 -- what a refusal says of the whole lines of a file
 abbrev pub IsFaultOf : LayoutState → ℕ → List ℕ → DurableState → LogError → Type 0
 IsFaultOf layout i whole first (Refused NotRead) = ⊥
+IsFaultOf layout i whole first (Refused InUse) = ⊥
+IsFaultOf layout i whole first (Refused NotALog) = ⊥
 IsFaultOf layout i whole first (Refused (NotTranscript line)) = IsRefusedAt layout (lines_of whole) line
 IsFaultOf layout i whole first (Refused WrongSite) = IsOthers layout i whole
 IsFaultOf layout i whole first (Refused WrongStore) = IsWrongStore layout i whole first
 IsFaultOf layout i whole first Memory = Unit {0}
 IsFaultOf layout i whole first Io = ⊥
 
--- bytes are refused for what their whole lines are
-pub record IsRefused (layout : LayoutState) (i : ℕ) (bytes : List ℕ) (first : DurableState) (e : LogError) : Type 0 where
+-- bytes may be left of a log of the site, and are refused for what their whole lines are
+pub record IsRefusedByLines (layout : LayoutState) (i : ℕ) (bytes : List ℕ) (first : DurableState) (e : LogError) : Type 0 where
+  pub may_be : MayBeLog layout i bytes
   pub whole : List ℕ
   pub torn : List ℕ
   pub is_torn : IsTorn bytes whole torn
   pub fault : IsFaultOf layout i whole first e
+
+-- bytes are refused: they are left of no log of the site, or have such a fault; memory may run out over any bytes
+abbrev pub IsRefused : LayoutState → ℕ → List ℕ → DurableState → LogError → Type 0
+IsRefused layout i bytes first (Refused NotALog) = IsNoFront layout i bytes
+IsRefused layout i bytes first Memory = Unit {0}
+IsRefused layout i bytes first e = IsRefusedByLines layout i bytes first e
 
 -- the answer to a file's bytes
 abbrev pub IsMended : LayoutState → ℕ → List ℕ → DurableState → Result Mended LogError → Type 0

@@ -6,9 +6,10 @@ use Rattle.admission_core.specs.Kept.{DurableState}
 use Rattle.transcript_text.specs.Texts.{opening_text}
 use Rattle.log_file.specs.declared.file.LogFile.{Ghosts}
 use Rattle.log_file.specs.declared.file.SystemFile.{SystemFile}
+use Rattle.log_file.specs.declared.hold.ExclusiveFile.{Ghosts as HoldGhosts}
 use Rattle.log_file.specs.declared.refusal.LogError.{LogError}
 use Rattle.log_file.specs.declared.refusal.LogError.TheVariants.{Refused, Memory, Io}
-use Rattle.log_file.specs.declared.refusal.LogRefusal.TheVariants.{NotRead}
+use Rattle.log_file.specs.declared.refusal.LogRefusal.TheVariants.{NotRead, InUse}
 use Rattle.log_file.specs.Steps.{FileStep, bytes_after, appended_in}
 use Rattle.log_file.specs.Logged.{LogState}
 use Rattle.log_file.specs.Mending.{MendsTo, IsRefused}
@@ -39,10 +40,11 @@ module _ {F : Type 0} where
   IsBegunLog g file size kept text layout (Err Io) = (after : F) × g.has_failed after
   IsBegunLog g file size kept text layout (Err (Refused refusal)) = ⊥
 
-  -- All that a file gave was read, and it was mended; what was appended to it is the text that mends it, and the line of
-  -- the new run.
-  pub record OpensLog (remaining contents : F → Option (List ℕ)) (layout : LayoutState) (i : ℕ) (first : DurableState) (log : LogState (SystemFile F)) : Type 0 where
+  -- A file was held against others, and then all that it gave was read, and it was mended; what was appended to it is the
+  -- text that mends it, and the line of the new run.
+  pub record OpensLog (hold : HoldGhosts F) (remaining contents : F → Option (List ℕ)) (layout : LayoutState) (i : ℕ) (first : DurableState) (log : LogState (SystemFile F)) : Type 0 where
     pub opened : F
+    pub held : hold.is_held opened
     pub read : F
     pub bytes : List ℕ
     pub gave : Consumes (remaining opened) (remaining read) bytes
@@ -55,11 +57,12 @@ module _ {F : Type 0} where
     pub length_is : log.length ≡ kept + length (tail ++ run_line layout i first)
     pub running : log.failed ≡ false
 
-  -- The answer to a path. A file that is refused was read, and nothing was written to it; nothing can be said of one that
-  -- was not read.
-  abbrev pub IsOpenedLog : (F → Option (List ℕ)) → (F → Option (List ℕ)) → LayoutState → ℕ → DurableState → Result (LogState (SystemFile F)) LogError → Type 0
-  IsOpenedLog remaining contents layout i first (Ok log) = OpensLog remaining contents layout i first log
-  IsOpenedLog remaining contents layout i first (Err (Refused NotRead)) = Unit {0}
-  IsOpenedLog remaining contents layout i first (Err (Refused refusal)) = (bytes : List ℕ) × IsRefused layout i bytes first (Refused refusal)
-  IsOpenedLog remaining contents layout i first (Err Memory) = Unit {0}
-  IsOpenedLog remaining contents layout i first (Err Io) = Unit {0}
+  -- The answer to a path. Another holds a file that is in use. A file that is refused otherwise was read, and nothing was
+  -- written to it; nothing can be said of one that was not read.
+  abbrev pub IsOpenedLog : HoldGhosts F → (F → Option (List ℕ)) → (F → Option (List ℕ)) → LayoutState → ℕ → DurableState → Result (LogState (SystemFile F)) LogError → Type 0
+  IsOpenedLog hold remaining contents layout i first (Ok log) = OpensLog hold remaining contents layout i first log
+  IsOpenedLog hold remaining contents layout i first (Err (Refused NotRead)) = Unit {0}
+  IsOpenedLog hold remaining contents layout i first (Err (Refused InUse)) = (opened : F) × hold.is_in_use opened
+  IsOpenedLog hold remaining contents layout i first (Err (Refused refusal)) = (bytes : List ℕ) × IsRefused layout i bytes first (Refused refusal)
+  IsOpenedLog hold remaining contents layout i first (Err Memory) = Unit {0}
+  IsOpenedLog hold remaining contents layout i first (Err Io) = Unit {0}

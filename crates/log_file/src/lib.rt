@@ -4,6 +4,7 @@
 
 pub use file::{LogFile, SystemFile};
 pub use file_log::FileLog;
+pub use hold::ExclusiveFile;
 pub use mending::{Mended, mend};
 pub use opening::{begin_log, open_log};
 pub use refusal::{LogError, LogRefusal};
@@ -11,6 +12,9 @@ pub use refusal::{LogError, LogRefusal};
 mod doubt;
 mod file;
 mod file_log;
+mod folder;
+mod fronts;
+mod hold;
 mod legality;
 mod mending;
 mod opening;

@@ -6,6 +6,7 @@ ghost use Rattle.log_file.specs.Mending.{IsDoubted, IsMended};
 ghost use Rattle.log_file.specs.Judging.{IsJudged, IsWholeMended, doubt_answer};
 
 use crate::doubt::doubted_line;
+use crate::fronts::may_be_log;
 use crate::legality::{fits, is_only_of, runs_of};
 use crate::pieces::{before_last, whole_lines, with_tail};
 use crate::refusal::{LogError, LogRefusal};
@@ -25,11 +26,13 @@ pub struct Mended {
 ///
 /// A line without LF was torn by a crash, and is dropped: its change was never handed to the store. The last whole entry may
 /// be that of a change that the store did not keep; then it is written again with the reply `refused StoreFault`. Refused,
-/// in this order: `NotTranscript`, by the whole lines; `WrongSite`; `WrongStore`, where the log fits what the store kept in
-/// neither way. `Memory` may come in place of each.
+/// in this order: `NotALog`, where no line is whole, and the bytes are not the front of one with which a log of the site can
+/// begin; `NotTranscript`, by the whole lines; `WrongSite`; `WrongStore`, where the log fits what the store kept in neither
+/// way. `Memory` may come in place of each.
 ///
-/// Linear in the entries, a merge in its rows, and in the runs times the layout's slots. Beside the bytes there is room
-/// for their transcripts, and for a copy of the bytes where the last entry is written again.
+/// Linear in the entries, a merge in its rows, and in the runs times the layout's slots; without a whole line in the sites
+/// times the layout's slots. Beside the bytes there is room for their transcripts, and for a copy of the bytes where the
+/// last entry is written again.
 pub fn mend(
     alloc: Global,
     layout: &Layout,
@@ -41,7 +44,11 @@ pub fn mend(
     ensures within { IfOk result (λ m. m.kept ≤ length bytes.now) }
     ensures may_begin { IfOk result (λ _. MayBegin layout.now site layout.now.sites first.now) }
 {
-    mend_whole(alloc, layout, site, whole_lines(bytes), first)
+    let whole = whole_lines(bytes);
+    if !may_be_log(alloc, layout, site, bytes, whole)? {
+        return Err(LogError::Refused(LogRefusal::NotALog));
+    }
+    mend_whole(alloc, layout, site, whole, first)
 }
 
 // What must stand there, by whole lines.

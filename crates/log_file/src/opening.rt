@@ -1,40 +1,44 @@
-//! A log file is opened: read, mended, and given the line of a new run.
+//! A log file is opened: held, read, mended, and given the line of a new run.
 ghost use Rattle.std.specs.Prelude.{◌≡◌, ◌++◌, ◌≤◌, IfOk, MatchBool, MatchResult, string_bytes};
 ghost use Rattle.std.specs.Io.KnownBytes.{Consumes, IsAtEnd};
 ghost use Rattle.transcript_text.specs.Texts.{MayBegin};
 ghost use Rattle.log_file.specs.Opening.{IsBegunLog, IsOpenedLog, Puts, run_line};
-ghost use Rattle.log_file.specs.Errors.{IsReadError, open_error};
+ghost use Rattle.log_file.specs.Errors.{IsHoldError, IsReadError, open_error};
 
 use crate::file::{LogFile, SystemFile};
 use crate::file_log::FileLog;
+use crate::folder::sync_name;
+use crate::hold::ExclusiveFile;
 use crate::mending::{Mended, mend};
 use crate::refusal::{LogError, LogRefusal};
 use admission_core::Durable;
 use merge_core::Layout;
 use std::alloc::{AllocError, Global};
-use std::fs::{OpenFile, OpenOptions};
+use std::fs::OpenOptions;
 use std::io;
-use std::io::{ErrorKind, Read, Write};
+use std::io::{ErrorKind, Read};
 use std::rt::Files;
 use transcript_text::{book_told, push_front, push_sites};
 
 /// Opens the log file at a path for a new run of a site, which begins with what its store kept: the file is made where
-/// there is none, read, mended ([`mend`]), and the line of the new run is appended. Records are named by the layout.
+/// there is none, held against others until the log is dropped, read, mended ([`mend`]), and the line of the new run is
+/// appended. The folder of an empty file is synced before, so that the file's name is there after a crash. Records are named
+/// by the layout.
 ///
-/// Refused as by [`mend`]; and as `NotRead` where it can't be opened or read. Then nothing was
-/// written to it. `Io` is answered where it was not written; then it may have been mended, and have a part of
-/// the new run's line.
-pub fn open_log<R: Files + AllocGlobal>(
+/// Refused as by [`mend`]; before that as `NotRead` where the file can't be opened, as `InUse` where another process, or this
+/// one, has opened it as a log, and as `NotRead` where it can't be read. Then nothing was written to it. `Io` is answered
+/// where it was not written, or its folder not synced; then it may have been mended, and have a part of the new run's line.
+pub fn open_log<R: Files<File: ExclusiveFile> + AllocGlobal>(
     rt: &R,
     path: &str,
     layout: &Layout,
     site: u16,
     first: &Durable,
 ) -> Result<FileLog<SystemFile<R::File>>, LogError>
-    ensures { IsOpenedLog R.File.Read.remaining R.File.Write.contents layout.now site first.now result }
+    ensures { IsOpenedLog R.File.ExclusiveFile R.File.Read.remaining R.File.Write.contents layout.now site first.now result }
 {
     match open_file(rt, path) {
-        Ok(file) => open_over(rt.alloc(), file, layout, site, first),
+        Ok(file) => open_over(rt, path, file, layout, site, first),
         Err(error) => Err(open_error(error.kind())),
     }
 }
@@ -56,22 +60,25 @@ fn open_error(kind: ErrorKind) -> LogError
     LogError::Refused(LogRefusal::NotRead)
 }
 
-// Begins the log of a new run in a file that is open, and of which nothing was read.
-fn open_over<F: Read + Write + OpenFile + Drop>(
-    alloc: Global,
-    file: F,
+// Begins the log of a new run in the file at a path, which is open, and of which nothing was read.
+fn open_over<R: Files<File: ExclusiveFile> + AllocGlobal>(
+    rt: &R,
+    path: &str,
+    file: R::File,
     layout: &Layout,
     site: u16,
     first: &Durable,
-) -> Result<FileLog<SystemFile<F>>, LogError>
-    ensures { IsOpenedLog F.remaining F.contents layout.now site first.now result }
+) -> Result<FileLog<SystemFile<R::File>>, LogError>
+    ensures { IsOpenedLog R.File.ExclusiveFile R.File.Read.remaining R.File.Write.contents layout.now site first.now result }
 {
     let mut file = file;
-    let bytes = read_file(alloc, &mut file)?;
-    let mended = mend(alloc, layout, site, bytes.as_slice(), first)?;
+    hold(&file)?;
+    let bytes = read_file(rt.alloc(), &mut file)?;
+    let mended = mend(rt.alloc(), layout, site, bytes.as_slice(), first)?;
     let size = bytes.as_slice().len() as u64;
+    sync_name(rt, path, size)?;
     begin_log(
-        alloc,
+        rt.alloc(),
         SystemFile::new(file),
         size,
         mended,
@@ -79,6 +86,17 @@ fn open_over<F: Read + Write + OpenFile + Drop>(
         site,
         first,
     )
+}
+
+// Holds a file.
+fn hold<F: ExclusiveFile>(file: &F) -> Result<(), LogError>
+    ensures { MatchResult result (λ _. F.is_held file.now) (IsHoldError F.ExclusiveFile file.now) }
+{
+    match file.try_hold() {
+        Ok(true) => Ok(()),
+        Ok(false) => Err(LogError::Refused(LogRefusal::InUse)),
+        Err(()) => Err(LogError::Refused(LogRefusal::NotRead)),
+    }
 }
 
 // All that a file has.

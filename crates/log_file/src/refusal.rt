@@ -14,6 +14,12 @@ pub enum LogRefusal {
     /// It can't be opened or read.
     #[error("the log can't be read")]
     NotRead,
+    /// Another process holds it, as the log of a service. Then it is not read.
+    #[error("another process writes to it")]
+    InUse,
+    /// No line of it is whole, and it is not the front of a line with which a log of the site can begin.
+    #[error("it is no log of the site")]
+    NotALog,
     /// Its line of this number, counted from 1, is whole, and is no line of a log.
     #[error("line {line} is no line of a log")]
     NotTranscript { line: u64 },
@@ -35,6 +41,8 @@ impl LogRefusal {
     {
         match self {
             LogRefusal::NotRead => "NotRead",
+            LogRefusal::InUse => "InUse",
+            LogRefusal::NotALog => "NotALog",
             LogRefusal::NotTranscript { .. } => "NotTranscript",
             LogRefusal::WrongSite => "WrongSite",
             LogRefusal::WrongStore => "WrongStore",

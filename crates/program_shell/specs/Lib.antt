@@ -1,4 +1,5 @@
 pub mod Groups
+pub mod Refusals
 pub mod Runs
 pub mod Services
 pub mod Shell

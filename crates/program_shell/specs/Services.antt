@@ -1,5 +1,5 @@
 -- What the commands that serve a site at once do (the project's own).
-use Rattle.std.specs.Prelude.{◌≡◌, ◌==◌, ◌&&◌, ◌⊎◌, ℕ, Bool, false, List, [], ◌∷◌, ◌++◌, Option, Some, None, unwrap_or, if◌then◌else◌}
+use Rattle.std.specs.Prelude.{◌≡◌, ◌==◌, ◌&&◌, ◌⊎◌, ℕ, Bool, true, false, List, [], ◌∷◌, ◌++◌, Option, Some, None, unwrap_or, if◌then◌else◌}
 use Rattle.clap.specs.Words.{Text}
 use Rattle.merge_core.specs.Layout.{LayoutState}
 use Rattle.text_input.specs.Source.{SourceState}
@@ -8,6 +8,8 @@ use Rattle.exit_status.specs.declared.status.Status.TheVariants.{Memory}
 use Rattle.exit_status.specs.Endings.{EndsWith, Says}
 use Rattle.line_conversation.specs.Stream.{StreamState}
 use Rattle.line_conversation.specs.declared.conversation.Conversation.{Ghosts}
+use Rattle.serve_engine.specs.declared.marks.Marking.{Marking}
+use Rattle.serve_engine.specs.declared.marks.Marking.TheVariants.{Marked, Plain}
 use Rattle.serve_engine.specs.Requests.{line_limit}
 use Rattle.service_talk.specs.Notes.{NotedState}
 use Rattle.service_talk.specs.OneLine.{OneLineState}
@@ -15,20 +17,25 @@ use Rattle.live_databases.specs.declared.service_end.ServiceEnd.{ServiceEnd}
 use Rattle.live_databases.specs.Endings.{EndsServiceWith, service_code, service_line, with_note}
 use Rattle.live_databases.specs.LiveDatabases.{EndsLive}
 
+-- whether deltas travel with a mark
+abbrev pub marking_of : Bool → Marking
+marking_of true = Plain
+marking_of false = Marked
+
 -- a conversation with a source and a sink before any turn, of which nothing is noted
-abbrev pub stream_between : Option Text → SourceState → SinkState → NotedState StreamState
-stream_between group source sink = record {
-  talk = record { source = source; sink = sink; ahead = []; kept = []; limit = line_limit group; ended = false; broken = false; reads = 0 };
+abbrev pub stream_between : Option Text → Marking → SourceState → SinkState → NotedState StreamState
+stream_between group marking source sink = record {
+  talk = record { source = source; sink = sink; ahead = []; kept = []; limit = line_limit group marking; ended = false; broken = false; reads = 0 };
   refused = false;
   outdated = false;
 }
 
 -- `serve` answered the lines of a source into a sink
-pub record ServesLines (t : Ghosts (NotedState StreamState)) (layout : LayoutState) (i : ℕ) (group : Option Text) (source source_after : SourceState)
+pub record ServesLines (t : Ghosts (NotedState StreamState)) (layout : LayoutState) (i : ℕ) (group : Option Text) (marking : Marking) (source source_after : SourceState)
     (sink sink_after errors errors_after : SinkState) (code : ℕ) : Type 0 where
   pub after : NotedState StreamState
   pub ended : ServiceEnd
-  pub served : EndsLive t layout i group (stream_between group source sink) after ended
+  pub served : EndsLive t layout i group marking (stream_between group marking source sink) after ended
   pub source_left : source_after ≡ after.talk.source
   pub sink_left : sink_after ≡ after.talk.sink
   pub told : EndsServiceWith (with_note ended after.outdated) errors errors_after code
@@ -40,9 +47,9 @@ pub record ServesNone (source source_after : SourceState) (sink sink_after error
   pub told : EndsWith Memory errors errors_after code
 
 -- the command `serve`
-abbrev pub EndsServe : Ghosts (NotedState StreamState) → LayoutState → ℕ → Option Text → SourceState → SourceState → SinkState → SinkState → SinkState → SinkState → ℕ → Type 0
-EndsServe t layout i group source source_after sink sink_after errors errors_after code =
-    ServesLines t layout i group source source_after sink sink_after errors errors_after code
+abbrev pub EndsServe : Ghosts (NotedState StreamState) → LayoutState → ℕ → Option Text → Marking → SourceState → SourceState → SinkState → SinkState → SinkState → SinkState → ℕ → Type 0
+EndsServe t layout i group marking source source_after sink sink_after errors errors_after code =
+    ServesLines t layout i group marking source source_after sink sink_after errors errors_after code
     ⊎ ServesNone source source_after sink sink_after errors errors_after code
 
 -- the words behind the first one, each behind a blank
@@ -65,11 +72,11 @@ abbrev pub call_code : ℕ → Bool → ℕ
 call_code code refused = if (code == 0) && refused then 1 else code
 
 -- `ask` made its call
-pub record MakesCall (t : Ghosts (NotedState OneLineState)) (layout : LayoutState) (i : ℕ) (group : Option Text) (words : List (Option Text))
+pub record MakesCall (t : Ghosts (NotedState OneLineState)) (layout : LayoutState) (i : ℕ) (group : Option Text) (marking : Marking) (words : List (Option Text))
     (sink sink_after errors errors_after : SinkState) (code : ℕ) : Type 0 where
   pub after : NotedState OneLineState
   pub ended : ServiceEnd
-  pub served : EndsLive t layout i group (one_line (spoken words) sink) after ended
+  pub served : EndsLive t layout i group marking (one_line (spoken words) sink) after ended
   pub sink_left : sink_after ≡ after.talk.sink
   pub status : code ≡ call_code (service_code (with_note ended after.outdated)) after.refused
   pub said : Says errors errors_after (service_line (with_note ended after.outdated))
@@ -80,7 +87,7 @@ pub record MakesNone (sink sink_after errors errors_after : SinkState) (code : �
   pub told : EndsWith Memory errors errors_after code
 
 -- the command `ask`
-abbrev pub EndsAsk : Ghosts (NotedState OneLineState) → LayoutState → ℕ → Option Text → List (Option Text) → SinkState → SinkState → SinkState → SinkState → ℕ → Type 0
-EndsAsk t layout i group words sink sink_after errors errors_after code =
-    MakesCall t layout i group words sink sink_after errors errors_after code
+abbrev pub EndsAsk : Ghosts (NotedState OneLineState) → LayoutState → ℕ → Option Text → Marking → List (Option Text) → SinkState → SinkState → SinkState → SinkState → ℕ → Type 0
+EndsAsk t layout i group marking words sink sink_after errors errors_after code =
+    MakesCall t layout i group marking words sink sink_after errors errors_after code
     ⊎ MakesNone sink sink_after errors errors_after code

@@ -1,5 +1,5 @@
 -- What the program does: the command that its arguments ask for, or what is said of them (the project's own).
-use Rattle.std.specs.Prelude.{◌≡◌, ◌⊎◌, ℕ, true, false, List, [], ◌∷◌, ◌++◌, codes, Result, Ok, Err, Option, Some, None}
+use Rattle.std.specs.Prelude.{◌≡◌, ◌⊎◌, ℕ, Bool, true, false, List, [], ◌∷◌, ◌++◌, codes, Result, Ok, Err, Option, Some, None}
 use Rattle.merge_core.specs.Layout.{LayoutState, shape_of}
 use Rattle.text_input.specs.Source.{HasFault, SourceState}
 use Rattle.text_input.specs.Sink.{Prints, SinkState, Writes}
@@ -12,25 +12,27 @@ use Rattle.command_arguments.specs.declared.arguments.Command.{Command}
 use Rattle.command_arguments.specs.declared.arguments.Command.TheVariants.{Join, Play, Site, Serve, Ask, Judge, Run}
 use Rattle.layout_file.specs.declared.fault.LayoutFault.{LayoutFault}
 use Rattle.layout_file.specs.declared.fault.LayoutFault.TheVariants as layout
+use Rattle.layout_file.specs.declared.refusal.LayoutRefusal.{LayoutRefusal}
 use Rattle.exit_status.specs.declared.status.Status.{Status}
 use Rattle.exit_status.specs.declared.status.Status.TheVariants.{Done, Memory, Io}
 use Rattle.command_arguments.specs.Arguments.{asked_command, asked_cut, asked_group, asked_layout, asked_out, asked_words, usage_errors}
-use Rattle.exit_status.specs.Endings.{EndsWith, without_layout}
+use Rattle.exit_status.specs.Endings.{EndsWith}
 use Rattle.join_engine.specs.Engine.{EndsJoin}
 use Rattle.judge_engine.specs.declared.cut.CutError.{CutError}
 use Rattle.judge_engine.specs.declared.cut.CutError.TheVariants as cut
 use Rattle.judge_engine.specs.Cuts.{IsCutFault, cut_in}
 use Rattle.judge_engine.specs.Engine.{EndsJudge}
-use Rattle.layout_file.specs.LayoutFile.{ReadsLayoutFile, built_in_layout}
+use Rattle.layout_file.specs.LayoutFile.{ReadsLayoutFile, built_in_layout, whole_refusal}
 use Rattle.play_engine.specs.Plays.{EndsPlay}
 use Rattle.stored_site.specs.Databases.{EndsStored}
 use Rattle.line_conversation.specs.Stream.{StreamState}
 use Rattle.line_conversation.specs.declared.conversation.Conversation.{Ghosts}
 use Rattle.service_talk.specs.Notes.{NotedState}
 use Rattle.service_talk.specs.OneLine.{OneLineState}
-use Rattle.program_shell.specs.Groups.{is_good_group}
+use Rattle.program_shell.specs.Groups.{is_good_group, is_plain_group}
+use Rattle.program_shell.specs.Refusals.{EndsWithoutLayout}
 use Rattle.program_shell.specs.Runs.{EndsRunTo}
-use Rattle.program_shell.specs.Services.{EndsAsk, EndsServe}
+use Rattle.program_shell.specs.Services.{EndsAsk, EndsServe, marking_of}
 
 -- help or the version: it was printed, or the sink met a fault
 abbrev pub EndsPrinted : SinkState → SinkState → SinkState → SinkState → ℕ → Type 0
@@ -67,23 +69,23 @@ unopened kinds.OutOfMemory = layout.Memory
 unopened _ = layout.NotRead
 
 -- a layout file did not open, so that there is no layout
-abbrev pub IsUnopened : Result LayoutState LayoutFault → Type 0
-IsUnopened answer = (kind : IoKind) × (answer ≡ Err (unopened kind))
+abbrev pub IsUnopened : Result LayoutState LayoutRefusal → Type 0
+IsUnopened answer = (kind : IoKind) × (answer ≡ Err (whole_refusal (unopened kind)))
 
 -- what the program finds without a layout file: the built-in layout
-abbrev pub FindsBuiltIn : Result LayoutState LayoutFault → Type 0
+abbrev pub FindsBuiltIn : Result LayoutState LayoutRefusal → Type 0
 FindsBuiltIn (Ok layout) = layout ≡ built_in_layout
-FindsBuiltIn (Err e) = e ≡ layout.Memory
+FindsBuiltIn (Err refusal) = refusal ≡ whole_refusal layout.Memory
 
 -- What it finds in a layout file that was opened, and of which nothing was read before: what all its bytes describe, or
 -- that it could not be read, or is too long. No contract can say at which path it stands, or what is in it.
-pub record FindsFile {F : Type 0} (remaining : F → Option (List ℕ)) (answer : Result LayoutState LayoutFault) : Type 0 where
+pub record FindsFile {F : Type 0} (remaining : F → Option (List ℕ)) (answer : Result LayoutState LayoutRefusal) : Type 0 where
   pub opened : F
   pub source_after : SourceState
   pub read : ReadsLayoutFile (record { remaining = remaining opened; fault = None }) source_after answer
 
 -- what the program finds for a layout: the built-in one, or what is in the file that is named, if that was opened
-abbrev pub FindsLayout : {F : Type 0} → (F → Option (List ℕ)) → Option Text → Result LayoutState LayoutFault → Type 0
+abbrev pub FindsLayout : {F : Type 0} → (F → Option (List ℕ)) → Option Text → Result LayoutState LayoutRefusal → Type 0
 FindsLayout remaining None answer = FindsBuiltIn answer
 FindsLayout remaining (Some path) answer = FindsFile remaining answer ⊎ IsUnopened answer
 
@@ -103,6 +105,12 @@ abbrev pub EndsWithoutCut : CutError → SinkState → SinkState → ℕ → Typ
 EndsWithoutCut cut.BadWord errors errors_after code = (Writes errors errors_after no_cut_text ⊎ HasFault errors_after.fault) × (code ≡ 2)
 EndsWithoutCut cut.Memory errors errors_after code = EndsWith Memory errors errors_after code
 
+-- whether a command asks for deltas without a mark
+abbrev pub is_plain : Command → Bool
+is_plain (Serve serving) = serving.plain
+is_plain (Ask serving) = serving.plain
+is_plain command = false
+
 -- an engine ended so, and the program with it
 abbrev pub EndsBy : (Status → Type 0) → SinkState → SinkState → ℕ → Type 0
 EndsBy Ends errors errors_after code = (ended : Status) × Ends ended × EndsWith ended errors errors_after code
@@ -117,22 +125,22 @@ module _ (t : Ghosts (NotedState StreamState)) (u : Ghosts (NotedState OneLineSt
       EndsBy (EndsPlay layout first tables source source_after sink sink_after) errors errors_after code
   EndsCommand (Site site) lengths out group words layout source source_after sink sink_after errors errors_after code =
       EndsBy (EndsStored layout site source source_after sink sink_after) errors errors_after code
-  EndsCommand (Serve site create wait) lengths out group words layout source source_after sink sink_after errors errors_after code =
-      EndsServe t layout site group source source_after sink sink_after errors errors_after code
-  EndsCommand (Ask site create wait) lengths out group words layout source source_after sink sink_after errors errors_after code =
-      (source_after ≡ source) × EndsAsk u layout site group words sink sink_after errors errors_after code
+  EndsCommand (Serve serving) lengths out group words layout source source_after sink sink_after errors errors_after code =
+      EndsServe t layout serving.site group (marking_of serving.plain) source source_after sink sink_after errors errors_after code
+  EndsCommand (Ask serving) lengths out group words layout source source_after sink sink_after errors errors_after code =
+      (source_after ≡ source) × EndsAsk u layout serving.site group (marking_of serving.plain) words sink sink_after errors errors_after code
   EndsCommand Judge lengths out group words layout source source_after sink sink_after errors errors_after code =
       EndsBy (EndsJudge layout lengths source source_after sink sink_after) errors errors_after code
   EndsCommand (Run turns) lengths out group words layout source source_after sink sink_after errors errors_after code =
       EndsBy (EndsRunTo out layout source source_after sink sink_after) errors errors_after code
 
   -- a command under what was found for a layout: without a layout nothing is read or written
-  abbrev pub EndsUnder : Command → Option (List ℕ) → Option Text → Option Text → List (Option Text) → Result LayoutState LayoutFault → SourceState → SourceState
+  abbrev pub EndsUnder : Command → Option (List ℕ) → Option Text → Option Text → List (Option Text) → Result LayoutState LayoutRefusal → SourceState → SourceState
       → SinkState → SinkState → SinkState → SinkState → ℕ → Type 0
   EndsUnder command lengths out group words (Ok layout) source source_after sink sink_after errors errors_after code =
       EndsCommand command lengths out group words layout source source_after sink sink_after errors errors_after code
-  EndsUnder command lengths out group words (Err fault) source source_after sink sink_after errors errors_after code =
-      (source_after ≡ source) × (sink_after ≡ sink) × EndsWith (without_layout fault) errors errors_after code
+  EndsUnder command lengths out group words (Err refusal) source source_after sink sink_after errors errors_after code =
+      (source_after ≡ source) × (sink_after ≡ sink) × EndsWithoutLayout command refusal errors errors_after code
 
   -- a command is asked for, and that one was carried out under the cut and the layout that the arguments name
   pub record RunsCommand {F : Type 0} (remaining : F → Option (List ℕ)) (arguments : List Text)
@@ -141,7 +149,8 @@ module _ (t : Ghosts (NotedState StreamState)) (u : Ghosts (NotedState OneLineSt
     pub lengths : Option (List ℕ)
     pub cut_found : FindsCut (asked_cut arguments) (Ok lengths)
     pub group_fits : is_good_group (asked_group arguments) ≡ true
-    pub layout : Result LayoutState LayoutFault
+    pub marked : is_plain_group (is_plain (asked_command arguments)) (asked_group arguments) ≡ false
+    pub layout : Result LayoutState LayoutRefusal
     pub found : FindsLayout remaining (asked_layout arguments) layout
     pub carried_out : EndsUnder (asked_command arguments) lengths (asked_out arguments) (asked_group arguments) (asked_words arguments) layout source source_after sink sink_after
         errors errors_after code
@@ -159,13 +168,24 @@ pub record RefusesCut (arguments : List Text) (source source_after : SourceState
 abbrev pub no_group_text : List ℕ
 no_group_text = codes "group refused BadWord\n"
 
--- the arguments name a group by a name that none can have: nothing is read or written
+-- what is said of a group whose deltas are to have no mark
+abbrev pub plain_group_text : List ℕ
+plain_group_text = codes "group refused Plain\n"
+
+-- what is said of the group that arguments name: none can have the name, or its deltas are to have no mark
+abbrev pub group_text : Bool → List ℕ
+group_text false = no_group_text
+group_text true = plain_group_text
+
+-- the arguments name a group by a name that none can have, or beside deltas without a mark: nothing is read or written
 pub record RefusesGroup (arguments : List Text) (source source_after : SourceState) (sink sink_after errors errors_after : SinkState) (code : ℕ) : Type 0 where
   pub asked : usage_errors arguments ≡ []
-  pub refused : is_good_group (asked_group arguments) ≡ false
+  pub fits : Bool
+  pub is_fit : is_good_group (asked_group arguments) ≡ fits
+  pub refused : fits ≡ true → is_plain_group (is_plain (asked_command arguments)) (asked_group arguments) ≡ true
   pub unread : source_after ≡ source
   pub unwritten : sink_after ≡ sink
-  pub told : Writes errors errors_after no_group_text ⊎ HasFault errors_after.fault
+  pub told : Writes errors errors_after (group_text fits) ⊎ HasFault errors_after.fault
   pub status : code ≡ 2
 
 -- no command is asked for, or memory ran out: nothing is read, and what clap says is told

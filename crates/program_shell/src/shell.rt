@@ -1,23 +1,27 @@
 ghost use Rattle.std.specs.Prelude.{◌≡◌, ◌⊎◌, None, Some, map, MatchOption, MatchResult, option_copied, option_map, string_bytes};
 ghost use Rattle.clap.specs.Words.{kind_of};
 ghost use Rattle.command_arguments.specs.Arguments.{words_of};
-ghost use Rattle.program_shell.specs.Shell.{EndsCommand, EndsUnasked, EndsWithoutCut, EndsUnread, FindsBuiltIn, FindsCut, FindsFile, IsUnopened, RunsProgram, unopened};
+ghost use Rattle.program_shell.specs.Services.{marking_of};
+ghost use Rattle.program_shell.specs.Shell.{is_plain, EndsCommand, EndsUnasked, EndsWithoutCut, EndsUnread, FindsBuiltIn, FindsCut, FindsFile, IsUnopened, RunsProgram, unopened};
 
-use crate::group::{end_without_group, is_good_group};
+use crate::group::{end_with_plain_group, end_without_group, is_good_group};
 use crate::logs_file::run_sites;
+use crate::refused_layout::end_without_layout;
 use crate::service::{ask_once, serve_lines};
 use crate::standard_error::StandardError;
 use clap::error::ErrorKind as UsageKind;
-use command_arguments::{Command, Request, requested};
+use command_arguments::{Command, Request, Serving, requested};
 use exit_status::Status;
 use join_engine::join_engine;
 use judge_engine::{Cut, CutError, judge_engine};
-use layout_file::{LayoutFault, built_in, read_layout_file};
+use layout_file::{LayoutFault, LayoutRefusal, built_in, read_layout_file};
 use line_conversation::{Conversation, StreamConversation};
-use live_databases::{LiveDatabases, Opening};
+use live_databases::{LiveDatabases, Opening, Service};
 use merge_core::Layout;
 use play_engine::play_engine;
+use serve_engine::Marking;
 use service_talk::{Noted, OneLine};
+use site_store::Permission;
 use std::alloc::Global;
 use std::io::{ErrorKind, Read, Write};
 use std::rt::{Env, Files};
@@ -95,9 +99,15 @@ pub fn run_with<
     if !is_good_group(asked.group) {
         return (end_without_group(errors), source, sink);
     }
+    if is_plain(asked.command) && asked.group.is_some() {
+        return (end_with_plain_group(errors), source, sink);
+    }
     let layout = match layout_at(rt, asked.layout) {
         Ok(layout) => layout,
-        Err(fault) => return (Status::without_layout(fault).end(errors), source, sink),
+        Err(refusal) => {
+            let code = end_without_layout(asked.command, refusal, errors);
+            return (code, source, sink);
+        }
     };
     carry_out(rt, threads, &asked, &cut, layout, source, sink, errors)
 }
@@ -138,12 +148,12 @@ fn carry_out<
             let ended = serve_stored(rt, path, layout, site, &mut source, &mut sink);
             (ended.end(errors), source, sink)
         }
-        Command::Serve { site, create, wait } => {
-            let opening = opening(asked, site, create, wait);
+        Command::Serve(serving) => {
+            let opening = opening(asked, serving);
             serve_lines(rt, opening, layout, source, sink, errors)
         }
-        Command::Ask { site, create, wait } => {
-            let opening = opening(asked, site, create, wait);
+        Command::Ask(serving) => {
+            let opening = opening(asked, serving);
             let (code, sink) = ask_once(rt, opening, layout, &asked.words, sink, errors);
             (code, source, sink)
         }
@@ -167,18 +177,47 @@ fn carry_out<
     }
 }
 
-// How the store of a service is opened. Clap has refused arguments without one.
-fn opening<'a>(asked: &Request<'a>, site: u16, create: bool, wait: u16) -> Opening<'a>
-    ensures site { result.site ≡ site }
-    ensures group { result.group ≡ asked.now.group }
+// How a site is served, and over which store. Clap has refused arguments without one.
+fn opening<'a>(asked: &Request<'a>, serving: Serving) -> Opening<'a>
+    ensures site { result.service.site ≡ serving.site }
+    ensures group { result.service.group ≡ asked.now.group }
+    ensures marking { result.service.marking ≡ marking_of serving.plain }
+    ensures create { result.service.permission.create ≡ serving.create }
+    ensures grow { result.service.permission.grow ≡ serving.grow }
 {
     Opening {
         path: asked.store.unwrap_or(""),
-        site,
-        group: asked.group,
-        create,
-        wait,
+        service: Service {
+            site: serving.site,
+            group: asked.group,
+            marking: marking_of(serving.plain),
+            permission: Permission {
+                create: serving.create,
+                grow: serving.grow,
+            },
+        },
+        wait: serving.wait,
         log: asked.log,
+    }
+}
+
+// Whether deltas travel with a mark.
+fn marking_of(plain: bool) -> Marking
+    ensures { result ≡ marking_of plain }
+{
+    if plain {
+        return Marking::Plain;
+    }
+    Marking::Marked
+}
+
+// Whether a command asks for deltas without a mark.
+fn is_plain(command: Command) -> bool
+    ensures { result ≡ is_plain command }
+{
+    match command {
+        Command::Serve(serving) | Command::Ask(serving) => serving.plain,
+        _ => false,
     }
 }
 
@@ -229,25 +268,28 @@ fn end_without_cut<E: Write>(error: CutError, errors: &mut Sink<E>) -> u8
 }
 
 // The layout of the file, or the built-in one.
-fn layout_at<R: Files + AllocGlobal>(rt: &R, path: Option<&str>) -> Result<Layout, LayoutFault>
+fn layout_at<R: Files + AllocGlobal>(rt: &R, path: Option<&str>) -> Result<Layout, LayoutRefusal>
     ensures { MatchOption path.entry (FindsBuiltIn result) (λ _. FindsFile R.File.Read.remaining result ⊎ IsUnopened result) }
 {
     let Some(path) = path else {
         return match built_in(rt.alloc()) {
             Ok(layout) => Ok(layout),
-            Err(_) => Err(LayoutFault::Memory),
+            Err(_) => Err(LayoutRefusal::whole(LayoutFault::Memory)),
         };
     };
     layout_from(rt.alloc(), fs::open(rt, path))
 }
 
 // The layout of a file that was opened, or why it was not.
-fn layout_from<F: Read + Drop>(alloc: Global, opened: io::Result<F>) -> Result<Layout, LayoutFault>
+fn layout_from<F: Read + Drop>(
+    alloc: Global,
+    opened: io::Result<F>,
+) -> Result<Layout, LayoutRefusal>
     ensures { MatchResult opened (λ _. FindsFile F.remaining result) (λ _. IsUnopened result) }
 {
     match opened {
         Ok(file) => read_layout_file(alloc, &mut Source::new(file)),
-        Err(error) => Err(unopened(error.kind())),
+        Err(error) => Err(LayoutRefusal::whole(unopened(error.kind()))),
     }
 }
 

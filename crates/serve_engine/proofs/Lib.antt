@@ -3,6 +3,10 @@ pub mod CountLemmas
 pub mod ExchangeLemmas
 pub mod TurnLemmas
 pub mod EndLemmas
-pub mod GroupLemmas
+pub mod WordLemmas
+pub mod MarkLemmas
+pub mod SendLemmas
 pub mod LineLemmas
+pub mod FenceLemmas
 pub mod LawLemmas
+pub mod ExampleLemmas

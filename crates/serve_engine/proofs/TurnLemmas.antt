@@ -12,8 +12,9 @@ use Rattle.live_site.specs.declared.call_log.CallLog.{Ghosts as LogGhosts}
 use Rattle.live_site.specs.Live.{LiveState}
 use Rattle.serve_engine.specs.declared.turns.Turned.{Turned}
 use Rattle.serve_engine.specs.declared.turns.Turned.TheVariants as turned
+use Rattle.serve_engine.specs.Answers.{fault_line}
 use Rattle.serve_engine.specs.Requests.{Terms}
-use Rattle.serve_engine.specs.Exchanges.{Exchange, turns_of, Answers, IsIdle, Serves, ServesUpTo, AreIdle, HasServed}
+use Rattle.serve_engine.specs.Exchanges.{Exchange, turns_of, Answers, IsIdle, Serves, ServesUpTo, AreIdle, HasServed, HasTold}
 use Rattle.serve_engine.specs.Steps.{AnswersHeard, Hands, ServesOn, StopsServing, StaysIdle, Exchanges, ExchangesAs, LosesLog, Tells, StandsBehind, Fails, TurnsTo, exchange_of}
 
 -- one exchange more
@@ -40,15 +41,25 @@ serves_more terms a (y ∷ ys) es b x c more (d, first, rest, split, here, later
   serves_more terms d ys rest b x c more later answers,
 )
 
+-- what was told, with one exchange more
+told_more : (text : List ℕ) (xs : List Exchange) (x : Exchange) → HasTold text xs → HasTold text (xs ++ x ∷ [])
+told_more text [] x h = absurd h
+told_more text (y ∷ ys) x (inl is) = inl is
+told_more text (y ∷ ys) x (inr h) = inr (told_more text ys x h)
+
+told_last : (text : List ℕ) (xs : List Exchange) (x : Exchange) → x.told ≡ text → HasTold text (xs ++ x ∷ [])
+told_last text [] x is = inl is
+told_last text (y ∷ ys) x is = inr (told_last text ys x is)
+
 idle_more : (terms : Terms) (xs : List Exchange) (x : Exchange) → AreIdle terms xs → IsIdle terms x.line x.told → AreIdle terms (xs ++ x ∷ [])
 idle_more terms [] x all here = (here, tt)
 idle_more terms (y ∷ ys) x all here = (all.0, idle_more terms ys x all.1 here)
 
-module _ {K L : Type 0} (g : Ghosts K) (h : LogGhosts L) (terms : Terms) (a : Account) (first : DurableState) (keeper : K) where
+module _ {K L : Type 0} (g : Ghosts K) (m : K → Type 0) (h : LogGhosts L) (terms : Terms) (a : Account) (first : DurableState) (keeper : K) where
   -- what an exchange leaves behind others
   pub record Left (live : LiveState K) (log log_after : L) (xs : List Exchange) (es : List Entry) : Type 0 where
     pub more : List Entry
-    pub site : StandsBehind g terms a first keeper live xs (es ++ more)
+    pub site : StandsBehind g m terms a first keeper live xs (es ++ more)
     pub handed : Hands h log log_after more
 
   module _ (old new : LiveState K) (log log_after : L) (xs : List Exchange) (es : List Entry) (x : Exchange) where
@@ -65,13 +76,14 @@ module _ {K L : Type 0} (g : Ghosts K) (h : LogGhosts L) (terms : Terms) (a : Ac
             (serves_more terms a xs es b x it.account it.entries served it.answers, refl, refl);
         stands = it.stands;
         kept = λ first_kept. it.kept (subst (λ (f : Bool). Leaves g f old.keeper b tried) none (kept first_kept));
+        keeps_stop = λ stopped first_kept. let clash : true ≡ false = sym stopped ∙ it.running in absurd (cc);
       };
       handed = it.handed;
     }
 
     -- or no more
     stop : (b : Account) → old.frozen ≡ false → (fault : Bool) (tried : Account) → Serves terms a xs es b → fault ≡ false → (g.keeps keeper first → Leaves g fault old.keeper b tried)
-        → StopsServing g h terms b old new log log_after x → Left new log log_after (xs ++ x ∷ []) es
+        → StopsServing g m h terms b old new log log_after x → Left new log log_after (xs ++ x ∷ []) es
     stop b running fault tried served none kept it = record {
       more = it.entries;
       site = record {
@@ -93,15 +105,19 @@ module _ {K L : Type 0} (g : Ghosts K) (h : LogGhosts L) (terms : Terms) (a : Ac
         });
         stands = it.stands;
         kept = λ first_kept. it.kept (subst (λ (f : Bool). Leaves g f old.keeper b tried) none (kept first_kept));
+        keeps_stop = λ stopped first_kept. elim (it.keeps_stop (subst (λ (f : Bool). Leaves g f old.keeper b tried) none (kept first_kept))) [
+          | inl done ↦ inl done
+          | inr told ↦ inr (told_last fault_line xs x told)
+        ];
       };
       handed = it.handed;
     }
 
     -- it had stopped before
-    idle : StandsBehind g terms a first keeper old xs es → old.frozen ≡ true → StaysIdle terms old new log log_after x → Left new log log_after (xs ++ x ∷ []) es
+    idle : StandsBehind g m terms a first keeper old xs es → old.frozen ≡ true → StaysIdle terms old new log log_after x → Left new log log_after (xs ++ x ∷ []) es
     idle st frozen it = record {
       more = [];
-      site = subst (λ (s : LiveState K). StandsBehind g terms a first keeper s (xs ++ x ∷ []) (es ++ [])) (sym it.site) (record {
+      site = subst (λ (s : LiveState K). StandsBehind g m terms a first keeper s (xs ++ x ∷ []) (es ++ [])) (sym it.site) (record {
         fault = st.fault;
         account = st.account;
         tried = st.tried;
@@ -109,6 +125,7 @@ module _ {K L : Type 0} (g : Ghosts K) (h : LogGhosts L) (terms : Terms) (a : Ac
             (subst (λ (f : Bool). HasServed terms f a xs es st.fault st.account st.tried) frozen st.served));
         stands = st.stands;
         kept = st.kept;
+        keeps_stop = λ stopped first_kept. elim (st.keeps_stop stopped first_kept) [ inl done ↦ inl done | inr told ↦ inr (told_more fault_line xs x told) ];
       });
       handed = subst (λ (l : L). Hands h log l []) (sym it.unlogged) (λ from before took. subst (λ (l : List Entry). h.took from l log) (sym (append-nil before)) took);
     }
@@ -128,23 +145,23 @@ module _ {K L : Type 0} (g : Ghosts K) (h : LogGhosts L) (terms : Terms) (a : Ac
           idle = idle_more terms up.behind x up.idle it.idle;
         }
 
-    pub exchanged : (st : StandsBehind g terms a first keeper old xs es) → Exchanges g h terms st.account old new log log_after x → Left new log log_after (xs ++ x ∷ []) es
+    pub exchanged : (st : StandsBehind g m terms a first keeper old xs es) → Exchanges g m h terms st.account old new log log_after x → Left new log log_after (xs ++ x ∷ []) es
     exchanged st ex = at (cases_Bool old.frozen)
       where
         at : (old.frozen ≡ true) ⊎ (old.frozen ≡ false) → Left new log log_after (xs ++ x ∷ []) es
-        at (inl e) = idle st e (subst (λ (b : Bool). ExchangesAs b g h terms st.account old new log log_after x) e ex)
-        at (inr e) = by_end (subst (λ (b : Bool). ExchangesAs b g h terms st.account old new log log_after x) e ex)
+        at (inl e) = idle st e (subst (λ (b : Bool). ExchangesAs b g m h terms st.account old new log log_after x) e ex)
+        at (inr e) = by_end (subst (λ (b : Bool). ExchangesAs b g m h terms st.account old new log log_after x) e ex)
           where
             was : Serves terms a xs es st.account × (st.fault ≡ false) × (st.tried ≡ st.account)
             was = subst (λ (b : Bool). HasServed terms b a xs es st.fault st.account st.tried) e st.served
 
-            by_end : ServesOn g h terms st.account old new log log_after x ⊎ StopsServing g h terms st.account old new log log_after x → Left new log log_after (xs ++ x ∷ []) es
+            by_end : ServesOn g h terms st.account old new log log_after x ⊎ StopsServing g m h terms st.account old new log log_after x → Left new log log_after (xs ++ x ∷ []) es
             by_end (inl it) = on st.account e st.fault st.tried was.0 was.1 st.kept it
             by_end (inr it) = stop st.account e st.fault st.tried was.0 was.1 st.kept it
 
   -- a line that the site did not serve
-  pub lost : (old new : LiveState K) (log_after : L) (xs : List Exchange) (es : List Entry) (st : StandsBehind g terms a first keeper old xs es) → LosesLog g h st.account old new log_after
-      → StandsBehind g terms a first keeper new xs es
+  pub lost : (old new : LiveState K) (log_after : L) (xs : List Exchange) (es : List Entry) (st : StandsBehind g m terms a first keeper old xs es) → LosesLog g h st.account old new log_after
+      → StandsBehind g m terms a first keeper new xs es
   lost old new log_after xs es st it = record {
     fault = false;
     account = st.account;
@@ -152,20 +169,21 @@ module _ {K L : Type 0} (g : Ghosts K) (h : LogGhosts L) (terms : Terms) (a : Ac
     served = subst (λ (f : Bool). HasServed terms f a xs es false st.account st.account) (sym it.running) (was.0, refl, refl);
     stands = it.stands;
     kept = λ first_kept. it.kept (subst (λ (f : Bool). Leaves g f old.keeper st.account st.tried) was.1 (st.kept first_kept));
+    keeps_stop = λ stopped first_kept. let clash : true ≡ false = sym stopped ∙ it.running in absurd (cc);
   }
     where
       was : Serves terms a xs es st.account × (st.fault ≡ false) × (st.tried ≡ st.account)
       was = subst (λ (b : Bool). HasServed terms b a xs es st.fault st.account st.tried) it.was_running st.served
 
 -- turns of the conversation
-module _ {K C L : Type 0} (g : Ghosts K) (c : TalkGhosts C) (h : LogGhosts L) (terms : Terms) (a : Account) (first : DurableState) (keeper : K) (talk : C) (began : L) where
+module _ {K C L : Type 0} (g : Ghosts K) (m : K → Type 0) (c : TalkGhosts C) (h : LogGhosts L) (terms : Terms) (a : Account) (first : DurableState) (keeper : K) (talk : C) (began : L) where
   -- a line was answered, and the answer told or not
   pub told_turn : (old new : LiveState K) (heard now : C) (log log_now : L) (xs : List Exchange) (es : List Entry) (x : Exchange) (n : ℕ) (turn : Turned)
       → c.took_place talk (turns_of xs ++ Heard x.line ∷ []) heard → h.took began es log → length xs ≡ n
-      → (st : StandsBehind g terms a first keeper old xs es) → Exchanges g h terms st.account old new log log_now x → Tells c heard now x.told turn
-      → TurnsTo g c h terms a first keeper new talk now began log_now n turn
+      → (st : StandsBehind g m terms a first keeper old xs es) → Exchanges g m h terms st.account old new log log_now x → Tells c heard now x.told turn
+      → TurnsTo g m c h terms a first keeper new talk now began log_now n turn
   told_turn old new heard now log log_now xs es x n turned.Next took logged counted st ex tells =
-      let it = exchanged g h terms a first keeper old new log log_now xs es x st ex in
+      let it = exchanged g m h terms a first keeper old new log log_now xs es x st ex in
       record {
         exchanges = xs ++ x ∷ [];
         entries = es ++ it.more;
@@ -175,7 +193,7 @@ module _ {K C L : Type 0} (g : Ghosts K) (c : TalkGhosts C) (h : LogGhosts L) (t
         counted = length-append xs (x ∷ []) ∙ ap (λ (k : ℕ). k + 1) counted;
       }
   told_turn old new heard now log log_now xs es x n turned.Failed took logged counted st ex tells =
-      let it = exchanged g h terms a first keeper old new log log_now xs es x st ex in
+      let it = exchanged g m h terms a first keeper old new log log_now xs es x st ex in
       record {
         exchanges = xs ++ x ∷ [];
         entries = es ++ it.more;
@@ -191,8 +209,8 @@ module _ {K C L : Type 0} (g : Ghosts K) (c : TalkGhosts C) (h : LogGhosts L) (t
   -- the log failed
   pub lost_turn : (old new : LiveState K) (heard : C) (log log_now : L) (xs : List Exchange) (es : List Entry) (line : Line)
       → c.took_place talk (turns_of xs ++ Heard line ∷ []) heard
-      → (st : StandsBehind g terms a first keeper old xs es) → LosesLog g h st.account old new log_now
-      → Fails g c h terms a first keeper new talk heard began log_now
+      → (st : StandsBehind g m terms a first keeper old xs es) → LosesLog g h st.account old new log_now
+      → Fails g m c h terms a first keeper new talk heard began log_now
   lost_turn old new heard log log_now xs es line took st it = record {
     exchanges = xs;
     entries = es;
@@ -200,18 +218,18 @@ module _ {K C L : Type 0} (g : Ghosts K) (c : TalkGhosts C) (h : LogGhosts L) (t
     last = inr (inr (line, refl));
     heard = took;
     logged = inr it.failed;
-    site = lost g h terms a first keeper old new log_now xs es st it;
+    site = lost g m h terms a first keeper old new log_now xs es st it;
     why = inr it.failed;
   }
 
   -- the line that is kept was answered
   pub line_turn : (old new : LiveState K) (heard now : C) (log log_now : L) (line : List ℕ) (xs : List Exchange) (es : List Entry) (n : ℕ) (turn : Turned)
       → c.took_place talk (turns_of xs ++ Heard (Whole line) ∷ []) heard → h.took began es log → length xs ≡ n
-      → (st : StandsBehind g terms a first keeper old xs es) → AnswersHeard g c h terms st.account old new heard now log log_now line turn
-      → TurnsTo g c h terms a first keeper new talk now began log_now n turn
+      → (st : StandsBehind g m terms a first keeper old xs es) → AnswersHeard g m c h terms st.account old new heard now log log_now line turn
+      → TurnsTo g m c h terms a first keeper new talk now began log_now n turn
   line_turn old new heard now log log_now line xs es n turn took logged counted st (inl (text, ex, tells)) =
       told_turn old new heard now log log_now xs es (exchange_of line text) n turn took logged counted st ex tells
   line_turn old new heard now log log_now line xs es n turn took logged counted st (inr (it, same, is)) =
-      subst (λ (t : Turned). TurnsTo g c h terms a first keeper new talk now began log_now n t) (sym is)
-      (subst (λ (x : C). Fails g c h terms a first keeper new talk x began log_now) (sym same)
+      subst (λ (t : Turned). TurnsTo g m c h terms a first keeper new talk now began log_now n t) (sym is)
+      (subst (λ (x : C). Fails g m c h terms a first keeper new talk x began log_now) (sym same)
       (lost_turn old new heard log log_now xs es (Whole line) took st it))

@@ -1,5 +1,5 @@
 -- The texts that the service answers with (this project's own format), each with its LF.
-use Rattle.std.specs.Prelude.{ℕ, ◌+◌, ◌==◌, nat_lt, Bool, true, false, List, [], ◌∷◌, ◌++◌, length, codes, decimal, if◌then◌else◌, Option, Some, None}
+use Rattle.std.specs.Prelude.{ℕ, ◌+◌, ◌==◌, nat_lt, Bool, true, false, List, [], ◌∷◌, ◌++◌, length, codes, decimal, if◌then◌else◌, Option}
 use Rattle.session_list.specs.declared.session.Session.{Session}
 use Rattle.admission_model.specs.declared.reply.Refusal.TheVariants.{Frozen, Memory, NoRecord, StoreFault}
 use Rattle.admission_model.specs.declared.reply.Reply.{Reply}
@@ -8,14 +8,24 @@ use Rattle.admission_model.specs.Account.{Account, layout_of, inside, sessions_o
 use Rattle.admission_model.specs.View.{view_of, rights_of}
 use Rattle.script_text.specs.Replies.{phase_word}
 use Rattle.live_site.specs.Live.{line_of}
+use Rattle.delta_codec.specs.DeltaText.{delta_text}
+use Rattle.serve_engine.specs.declared.marks.Marking.{Marking}
+use Rattle.serve_engine.specs.declared.marks.Marking.TheVariants.{Marked, Plain}
+use Rattle.serve_engine.specs.declared.marks.MarkFault.{MarkFault}
+use Rattle.serve_engine.specs.declared.marks.MarkFault.TheVariants.{NoMark, WrongGroup, OtherRecords, Damaged}
+use Rattle.serve_engine.specs.Marks.{mark_of, records_digest, with_mark}
+use Rattle.serve_engine.specs.Requests.{Terms}
 
--- refusals of the service itself: a line that asks for nothing, a text of another group of sites or of none, a line that is
+-- refusals of the service itself: a last line that is not complete, a text that is not behind this site's mark, a line that is
 -- too long, one without memory, a site that serves no more, and a store that failed
 abbrev pub bad_word_line : List ℕ
 bad_word_line = codes "refused BadWord\n"
 
-abbrev pub wrong_group_line : List ℕ
-wrong_group_line = codes "refused WrongGroup\n"
+abbrev pub unmarked_line : MarkFault → List ℕ
+unmarked_line NoMark = codes "refused NoMark\n"
+unmarked_line WrongGroup = codes "refused WrongGroup\n"
+unmarked_line OtherRecords = codes "refused OtherRecords\n"
+unmarked_line Damaged = codes "refused Damaged\n"
 
 abbrev pub too_long_line : List ℕ
 too_long_line = codes "refused TooLong\n"
@@ -29,19 +39,23 @@ frozen_line = line_of (Refused Frozen)
 abbrev pub fault_line : List ℕ
 fault_line = line_of (Refused StoreFault)
 
--- what stands before the text of a delta that a site sends: the name of its group and a blank
-abbrev pub group_mark : Option (List ℕ) → List ℕ
-group_mark None = []
-group_mark (Some name) = name ++ codes " "
+-- the text of a delta as a site sends it
+abbrev pub sent_text : Marking → Option (List ℕ) → List ℕ → List ℕ → List ℕ
+sent_text Plain group digest text = text
+sent_text Marked group digest text = with_mark (mark_of group digest text) text
 
--- a reply as a line of a site of the group: only a delta that is sent is marked
-abbrev pub reply_line : Option (List ℕ) → Reply → List ℕ
-reply_line group (Snapshot delta) = group_mark group ++ line_of (Snapshot delta)
-reply_line group reply = line_of reply
+-- a reply as a line: only a delta that is sent is marked
+abbrev pub reply_line : Terms → Reply → List ℕ
+reply_line terms (Snapshot delta) = sent_text terms.marking terms.group (records_digest terms.records) (delta_text delta) ++ codes "\n"
+reply_line terms reply = line_of reply
 
 -- a number behind a word
 abbrev pub field : List ℕ → ℕ → List ℕ
 field word n = word ++ decimal n
+
+-- a line that asks for nothing, by the place of the first word that is not right
+abbrev pub wrong_word_line : ℕ → List ℕ
+wrong_word_line k = field (codes "refused BadWord ") k ++ codes "\n"
 
 -- a delta that would give the site more rights to record r than it has seats
 abbrev pub too_many_line : ℕ → List ℕ

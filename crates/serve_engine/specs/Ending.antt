@@ -14,8 +14,10 @@ use Rattle.site_engine.specs.Sites.{Began, IsUnfit}
 use Rattle.line_conversation.specs.Turns.{Line, Turn, Heard}
 use Rattle.line_conversation.specs.declared.conversation.Conversation.{Ghosts as TalkGhosts}
 use Rattle.live_site.specs.declared.call_log.CallLog.{Ghosts as LogGhosts}
+use Rattle.serve_engine.specs.declared.marks.Marking.{Marking}
+use Rattle.serve_engine.specs.Answers.{fault_line}
 use Rattle.serve_engine.specs.Requests.{Terms, terms_of}
-use Rattle.serve_engine.specs.Exchanges.{Exchange, turns_of, HasServed}
+use Rattle.serve_engine.specs.Exchanges.{Exchange, turns_of, HasServed, HasTold}
 
 -- how many exchanges are counted: behind so many the service ends
 abbrev pub most_exchanges : ℕ
@@ -32,27 +34,29 @@ EndsIn xs turns =
 module _ {K : Type 0} where
   -- A site served these exchanges, from an account, and handed these entries to its log; what is then kept is the
   -- durable part of the account behind them, or, where the store failed, that or the one behind the call that met it.
-  pub record ServedSite (g : Ghosts K) (terms : Terms) (a : Account) (first : DurableState)
+  -- One that stopped and told no fault of its store has kept the mark that this is outdated.
+  pub record ServedSite (g : Ghosts K) (m : K → Type 0) (terms : Terms) (a : Account) (first : DurableState)
       (frozen : Bool) (keeper keeper_after : K) (xs : List Exchange) (entries : List Entry) : Type 0 where
     pub fault : Bool
     pub account : Account
     pub tried : Account
     pub served : HasServed terms frozen a xs entries fault account tried
     pub kept : g.keeps keeper first → Leaves g fault keeper_after account tried
+    pub keeps_stop : frozen ≡ true → g.keeps keeper first → m keeper_after ⊎ HasTold fault_line xs
 
 module _ {K C L : Type 0} where
   -- The conversation came to its end: it grew by line, answer, line, answer; each answer is the model's.
-  pub record EndsWell (g : Ghosts K) (c : TalkGhosts C) (h : LogGhosts L) (terms : Terms) (a : Account)
+  pub record EndsWell (g : Ghosts K) (m : K → Type 0) (c : TalkGhosts C) (h : LogGhosts L) (terms : Terms) (a : Account)
       (first : DurableState) (frozen : Bool) (keeper keeper_after : K) (talk talk_after : C) (log log_after : L) : Type 0 where
     pub exchanges : List Exchange
     pub entries : List Entry
     pub heard : c.took_place talk (turns_of exchanges) talk_after
     pub logged : h.took log entries log_after
-    pub site : ServedSite g terms a first frozen keeper keeper_after exchanges entries
+    pub site : ServedSite g m terms a first frozen keeper keeper_after exchanges entries
     pub ended : c.has_ended talk_after
 
   -- The conversation or the log failed: the last exchange is perhaps not complete.
-  pub record EndsEarly (g : Ghosts K) (c : TalkGhosts C) (h : LogGhosts L) (terms : Terms) (a : Account)
+  pub record EndsEarly (g : Ghosts K) (m : K → Type 0) (c : TalkGhosts C) (h : LogGhosts L) (terms : Terms) (a : Account)
       (first : DurableState) (keeper keeper_after : K) (talk talk_after : C) (log log_after : L) : Type 0 where
     pub frozen : Bool
     pub exchanges : List Exchange
@@ -61,22 +65,22 @@ module _ {K C L : Type 0} where
     pub last : EndsIn exchanges turns
     pub heard : c.took_place talk turns talk_after
     pub logged : h.took log entries log_after ⊎ h.has_failed log_after
-    pub site : ServedSite g terms a first frozen keeper keeper_after exchanges entries
+    pub site : ServedSite g m terms a first frozen keeper keeper_after exchanges entries
     pub why : c.has_failed talk_after ⊎ (h.has_failed log_after ⊎ (most_exchanges ≤ length exchanges))
 
   -- how a site that was opened ended
-  abbrev pub EndsSite : Ghosts K → TalkGhosts C → LogGhosts L → Terms → Account → DurableState → K → K → C → C → L → L → Status → Type 0
-  EndsSite g c h terms a first keeper keeper_after talk talk_after log log_after Done = EndsWell g c h terms a first false keeper keeper_after talk talk_after log log_after
-  EndsSite g c h terms a first keeper keeper_after talk talk_after log log_after Fault = EndsWell g c h terms a first true keeper keeper_after talk talk_after log log_after
-  EndsSite g c h terms a first keeper keeper_after talk talk_after log log_after Io = EndsEarly g c h terms a first keeper keeper_after talk talk_after log log_after
-  EndsSite g c h terms a first keeper keeper_after talk talk_after log log_after _ = ⊥
+  abbrev pub EndsSite : Ghosts K → (K → Type 0) → TalkGhosts C → LogGhosts L → Terms → Account → DurableState → K → K → C → C → L → L → Status → Type 0
+  EndsSite g m c h terms a first keeper keeper_after talk talk_after log log_after Done = EndsWell g m c h terms a first false keeper keeper_after talk talk_after log log_after
+  EndsSite g m c h terms a first keeper keeper_after talk talk_after log log_after Fault = EndsWell g m c h terms a first true keeper keeper_after talk talk_after log log_after
+  EndsSite g m c h terms a first keeper keeper_after talk talk_after log log_after Io = EndsEarly g m c h terms a first keeper keeper_after talk talk_after log log_after
+  EndsSite g m c h terms a first keeper keeper_after talk talk_after log log_after _ = ⊥
 
   -- the same from what was kept
-  pub record Serving (g : Ghosts K) (c : TalkGhosts C) (h : LogGhosts L) (layout : LayoutState) (i : ℕ) (group : Option (List ℕ))
+  pub record Serving (g : Ghosts K) (m : K → Type 0) (c : TalkGhosts C) (h : LogGhosts L) (layout : LayoutState) (i : ℕ) (group : Option (List ℕ)) (marking : Marking)
       (keeper keeper_after : K) (talk talk_after : C) (log log_after : L) (status : Status) : Type 0 where
     pub first : DurableState
     pub began : Began g layout i keeper keeper_after first
-    pub ended : EndsSite g c h (terms_of layout group) (begun layout i first) first keeper keeper_after talk talk_after log log_after status
+    pub ended : EndsSite g m c h (terms_of layout group marking) (begun layout i first) first keeper keeper_after talk talk_after log log_after status
 
   -- where no site was opened nothing was heard, told or logged, and what was kept is kept
   pub record Untouched (g : Ghosts K) (keeper keeper_after : K) (talk talk_after : C) (log log_after : L) : Type 0 where
@@ -84,15 +88,15 @@ module _ {K C L : Type 0} where
     pub silent : talk_after ≡ talk
     pub unlogged : log_after ≡ log
 
-  -- The whole service of a site, in a group or in none: a site that was opened served its lines; or what is kept begins no
-  -- site, there is no such site, or there is and memory ran out, and nothing else happened.
-  abbrev pub EndsServing : Ghosts K → TalkGhosts C → LogGhosts L → LayoutState → ℕ → Option (List ℕ) → K → K → C → C → L → L → Status → Type 0
-  EndsServing g c h layout i group keeper keeper_after talk talk_after log log_after (NoStore refusal) =
+  -- The whole service of a site, in a group or in none, with marked deltas or plain ones: a site that was opened served its
+  -- lines; or what is kept begins no site, there is no such site, or there is and memory ran out, and nothing else happened.
+  abbrev pub EndsServing : Ghosts K → (K → Type 0) → TalkGhosts C → LogGhosts L → LayoutState → ℕ → Option (List ℕ) → Marking → K → K → C → C → L → L → Status → Type 0
+  EndsServing g m c h layout i group marking keeper keeper_after talk talk_after log log_after (NoStore refusal) =
       IsUnfit g layout i keeper keeper_after refusal × Untouched g keeper keeper_after talk talk_after log log_after
-  EndsServing g c h layout i group keeper keeper_after talk talk_after log log_after (NoLayout fault) =
+  EndsServing g m c h layout i group marking keeper keeper_after talk talk_after log log_after (NoLayout fault) =
       (fault ≡ NoSite) × (¬ (i < layout.sites)) × (keeper_after ≡ keeper) × Untouched g keeper keeper_after talk talk_after log log_after
-  EndsServing g c h layout i group keeper keeper_after talk talk_after log log_after Memory =
+  EndsServing g m c h layout i group marking keeper keeper_after talk talk_after log log_after Memory =
       (i < layout.sites) × Untouched g keeper keeper_after talk talk_after log log_after
-  EndsServing g c h layout i group keeper keeper_after talk talk_after log log_after Usage = ⊥
-  EndsServing g c h layout i group keeper keeper_after talk talk_after log log_after Refused = ⊥
-  EndsServing g c h layout i group keeper keeper_after talk talk_after log log_after status = Serving g c h layout i group keeper keeper_after talk talk_after log log_after status
+  EndsServing g m c h layout i group marking keeper keeper_after talk talk_after log log_after Usage = ⊥
+  EndsServing g m c h layout i group marking keeper keeper_after talk talk_after log log_after Refused = ⊥
+  EndsServing g m c h layout i group marking keeper keeper_after talk talk_after log log_after status = Serving g m c h layout i group marking keeper keeper_after talk talk_after log log_after status

@@ -1,5 +1,8 @@
+pub mod Marks
 pub mod Requests
 pub mod Answers
+pub mod BadWords
+pub mod Fencing
 pub mod Looks
 pub mod Exchanges
 pub mod Ending

@@ -1,20 +1,24 @@
 //! Answering one line.
 ghost use Rattle.std.specs.Prelude.{◌≡◌, ◌≢◌, ◌++◌, ℕ, List, [], string_bytes, IfOk, Some};
-ghost use Rattle.std.specs.Option.{option_copied};
 ghost use Rattle.merge_core.specs.Layout.{LayoutState};
 ghost use Rattle.admission_model.specs.Account.{Account};
 ghost use Rattle.admission_core.specs.Core.{Stands};
 ghost use Rattle.serve_engine.specs.declared.request.Request.TheVariants.{Asked};
 ghost use Rattle.serve_engine.specs.declared.answering.Told.TheVariants.{LogFailed};
-ghost use Rattle.serve_engine.specs.Requests.{Asks, Terms, terms_of};
-ghost use Rattle.serve_engine.specs.Answers.{sessions_line, show_line, too_many_line};
-ghost use Rattle.serve_engine.specs.Steps.{ServesLine, Shows, mark_before, told_text, written};
+ghost use Rattle.serve_engine.specs.Requests.{Asks, Terms};
+ghost use Rattle.serve_engine.specs.Answers.{sessions_line, show_line, too_many_line, unmarked_line, wrong_word_line};
+ghost use Rattle.serve_engine.specs.Fencing.{fence_line};
+ghost use Rattle.serve_engine.specs.Steps.{AreTerms, ServesLine, Shows, space_before, told_text, written};
 
+use crate::fencing::push_fence;
 use crate::listing::push_sessions;
+use crate::marks::{MarkFault, Marker};
 use crate::request::{Request, request_in};
+use crate::sending::{finish_mark, push_space};
 use crate::showing::push_counts;
+use crate::wrong_words::wrong_word;
 use admission_core::Call;
-use durable_keeper::Keeper;
+use live_keeper::LiveKeeper;
 use live_site::{CallLog, LiveSite, Outcome};
 use site_script::push_no_delta_line;
 use std::alloc::{AllocError, Global};
@@ -25,10 +29,8 @@ use text_parts::push_field;
 pub(crate) enum Told {
     /// The text that was written.
     Text,
-    /// That the line asks for nothing.
-    BadWord,
-    /// That a text is of another group of sites, or of none.
-    WrongGroup,
+    /// That a text is not behind the site's own mark.
+    Unmarked(MarkFault),
     /// Want of memory.
     Memory,
     /// That the store failed.
@@ -46,8 +48,7 @@ pub(crate) fn told_text(told: Told, text: &str) -> &str
 {
     match told {
         Told::Text => text,
-        Told::BadWord => "refused BadWord\n",
-        Told::WrongGroup => "refused WrongGroup\n",
+        Told::Unmarked(fault) => unmarked_line(fault),
         Told::Memory => "refused Memory\n",
         Told::StoreFault => "refused StoreFault\n",
         Told::Frozen => "refused Frozen\n",
@@ -55,32 +56,48 @@ pub(crate) fn told_text(told: Told, text: &str) -> &str
     }
 }
 
+// The line that tells of the first fault of a mark.
+fn unmarked_line(fault: MarkFault) -> &'static str
+    ensures { result.now ≡ unmarked_line fault }
+{
+    match fault {
+        MarkFault::NoMark => "refused NoMark\n",
+        MarkFault::WrongGroup => "refused WrongGroup\n",
+        MarkFault::OtherRecords => "refused OtherRecords\n",
+        MarkFault::Damaged => "refused Damaged\n",
+    }
+}
+
 /// Answers a line: what it asks is read, and carried out at the site. The text, which is empty, gets the answer.
-pub(crate) fn serve_line<K: Keeper, L: CallLog>(
+pub(crate) fn serve_line<K: LiveKeeper, L: CallLog>(
     alloc: Global,
     live: &mut LiveSite<K>,
-    group: Option<&str>,
+    marker: &Marker,
     line: &[u8],
     text: &mut String,
     log: &mut L,
 ) -> Told
     requires { string_bytes text.old ≡ [] }
-    ensures served { (a : Account) → Stands a live.old.core → ServesLine K.Keeper L.CallLog (terms_of live.old.core.layout (option_copied group.entry)) a
-        live.old live.new log.old log.new line.now result (string_bytes text.new) }
+    ensures served { (terms : Terms) (a : Account) → AreTerms terms live.old.core.layout marker.now → Stands a live.old.core
+        → ServesLine K.Keeper K.is_outdated L.CallLog terms a live.old live.new log.old log.new line.now result (string_bytes text.new) }
     ensures layout { live.new.core.layout ≡ live.old.core.layout }
     ensures site { live.new.core.site ≡ live.old.core.site }
     ensures honest { K.is_honest live.new.keeper → K.is_honest live.old.keeper }
 {
-    let Ok(request) = request_in(alloc, live.core().layout(), group, line) else {
+    let Ok(request) = request_in(alloc, live.core().layout(), marker, line) else {
         return Told::Memory;
     };
     match request {
-        Some(Request::Asked(call)) => serve_call(live, group, &call, text, log),
+        Some(Request::Asked(call)) => serve_call(live, marker, &call, text, log),
         Some(Request::Unread(error)) => written(push_no_delta_line(text, error)),
         Some(Request::Show(r)) => show(live, r, text),
         Some(Request::Sessions(r)) => list(live, r, text),
-        Some(Request::WrongGroup) => Told::WrongGroup,
-        None => Told::BadWord,
+        Some(Request::Fence(r, h)) => fence(live, r, h, text),
+        Some(Request::Unmarked(fault)) => Told::Unmarked(fault),
+        None => {
+            let place = wrong_word(live.core().layout(), line);
+            written(push_bad_word(text, place))
+        }
     }
 }
 
@@ -94,6 +111,14 @@ fn written(answer: Result<(), AllocError>) -> Told
     }
 }
 
+// Writes that a line asks for nothing, with the place of the first word that is not right, and LF.
+fn push_bad_word(text: &mut String, place: u16) -> Result<(), AllocError>
+    ensures { IfOk result (λ _. string_bytes text.new ≡ string_bytes text.old ++ wrong_word_line place) }
+{
+    push_field(text, "refused BadWord ", u64::from(place))?;
+    text.push_str("\n")
+}
+
 // Writes that a delta would give more rights to a record than it has seats, and LF.
 fn push_too_many(text: &mut String, r: u16) -> Result<(), AllocError>
     ensures { IfOk result (λ _. string_bytes text.new ≡ string_bytes text.old ++ too_many_line r) }
@@ -103,41 +128,45 @@ fn push_too_many(text: &mut String, r: u16) -> Result<(), AllocError>
 }
 
 // Answers a call.
-fn serve_call<K: Keeper, L: CallLog>(
+fn serve_call<K: LiveKeeper, L: CallLog>(
     live: &mut LiveSite<K>,
-    group: Option<&str>,
+    marker: &Marker,
     call: &Call,
     text: &mut String,
     log: &mut L,
 ) -> Told
     requires { string_bytes text.old ≡ [] }
-    ensures served { (layout : LayoutState) (line : List ℕ) → Asks (terms_of layout (option_copied group.entry)) line (Some (Asked call.now)) → (a : Account) → Stands a live.old.core
-        → ServesLine K.Keeper L.CallLog (terms_of layout (option_copied group.entry)) a live.old live.new log.old log.new line result (string_bytes text.new) }
+    ensures served { (terms : Terms) (layout : LayoutState) (line : List ℕ) → AreTerms terms layout marker.now → Asks terms line (Some (Asked call.now)) → (a : Account) → Stands a live.old.core
+        → ServesLine K.Keeper K.is_outdated L.CallLog terms a live.old live.new log.old log.new line result (string_bytes text.new) }
     ensures layout { live.new.core.layout ≡ live.old.core.layout }
     ensures site { live.new.core.site ≡ live.old.core.site }
     ensures honest { K.is_honest live.new.keeper → K.is_honest live.old.keeper }
 {
-    let Ok(()) = push_mark(text, group, call) else {
+    let Ok(()) = push_space(text, marker, call) else {
         return Told::Memory;
     };
-    carry_out(live, call, text, log)
+    carry_out(live, marker, call, text, log)
 }
 
-// Answers a call, behind the mark of the delta that it asks for.
-fn carry_out<K: Keeper, L: CallLog>(
+// Answers a call, behind the space for the mark of the delta that it asks for.
+fn carry_out<K: LiveKeeper, L: CallLog>(
     live: &mut LiveSite<K>,
+    marker: &Marker,
     call: &Call,
     text: &mut String,
     log: &mut L,
 ) -> Told
-    ensures served { (terms : Terms) (line : List ℕ) → string_bytes text.old ≡ mark_before terms.group call.now → Asks terms line (Some (Asked call.now))
-        → (a : Account) → Stands a live.old.core → ServesLine K.Keeper L.CallLog terms a live.old live.new log.old log.new line result (string_bytes text.new) }
+    ensures served { (terms : Terms) (layout : LayoutState) (line : List ℕ) → AreTerms terms layout marker.now → string_bytes text.old ≡ space_before terms call.now → Asks terms line (Some (Asked call.now))
+        → (a : Account) → Stands a live.old.core → ServesLine K.Keeper K.is_outdated L.CallLog terms a live.old live.new log.old log.new line result (string_bytes text.new) }
     ensures layout { live.new.core.layout ≡ live.old.core.layout }
     ensures site { live.new.core.site ≡ live.old.core.site }
     ensures honest { K.is_honest live.new.keeper → K.is_honest live.old.keeper }
 {
     match live.serve(call, text, log) {
-        Outcome::Answered => Told::Text,
+        Outcome::Answered => {
+            finish_mark(text, marker, call);
+            Told::Text
+        }
         Outcome::TooManySeats(r) => written(push_too_many(text, r)),
         Outcome::Memory => Told::Memory,
         Outcome::StoreFault => Told::StoreFault,
@@ -146,19 +175,8 @@ fn carry_out<K: Keeper, L: CallLog>(
     }
 }
 
-// Writes the group's name and a blank, where the call asks for the site's delta.
-fn push_mark(text: &mut String, group: Option<&str>, call: &Call) -> Result<(), AllocError>
-    ensures { IfOk result (λ _. string_bytes text.new ≡ string_bytes text.old ++ mark_before (option_copied group.entry) call.now) }
-{
-    if let (Some(name), Call::Snapshot) = (group, call) {
-        text.push_str(name)?;
-        text.push_str(" ")?;
-    }
-    Ok(())
-}
-
 // Shows a record's counts.
-fn show<K: Keeper>(live: &LiveSite<K>, r: u16, text: &mut String) -> Told
+fn show<K: LiveKeeper>(live: &LiveSite<K>, r: u16, text: &mut String) -> Told
     requires { string_bytes text.old ≡ [] }
     ensures { Shows live.now (λ a. show_line a r) result (string_bytes text.new) }
 {
@@ -169,7 +187,7 @@ fn show<K: Keeper>(live: &LiveSite<K>, r: u16, text: &mut String) -> Told
 }
 
 // Shows a record's sessions.
-fn list<K: Keeper>(live: &LiveSite<K>, r: u16, text: &mut String) -> Told
+fn list<K: LiveKeeper>(live: &LiveSite<K>, r: u16, text: &mut String) -> Told
     requires { string_bytes text.old ≡ [] }
     ensures { Shows live.now (λ a. sessions_line a r) result (string_bytes text.new) }
 {
@@ -177,4 +195,15 @@ fn list<K: Keeper>(live: &LiveSite<K>, r: u16, text: &mut String) -> Told
         return Told::Frozen;
     }
     written(push_sessions(text, live.core(), r))
+}
+
+// Tells the number of a holder that is inside a record.
+fn fence<K: LiveKeeper>(live: &LiveSite<K>, r: u16, h: u64, text: &mut String) -> Told
+    requires { string_bytes text.old ≡ [] }
+    ensures { Shows live.now (λ a. fence_line a r h) result (string_bytes text.new) }
+{
+    if live.is_frozen() {
+        return Told::Frozen;
+    }
+    written(push_fence(text, live.core(), r, h))
 }

@@ -2,12 +2,20 @@
 #![tactic(auto)]
 
 pub use engine::{LINE_LIMIT, line_limit, serve_engine};
-pub use request::{Request, request_in};
+pub use marks::{MarkFault, Marking};
+pub use request::Request;
 
 mod answering;
+mod checksums;
+mod digests;
 mod engine;
+mod fencing;
 pub mod laws;
 mod listing;
+mod marks;
 mod request;
+mod sending;
 mod showing;
+mod taking;
 mod turns;
+mod wrong_words;

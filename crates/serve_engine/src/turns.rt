@@ -1,16 +1,16 @@
 //! One turn of the conversation.
-ghost use Rattle.std.specs.Prelude.{◌≡◌, ℕ};
-ghost use Rattle.std.specs.Option.{option_copied};
+ghost use Rattle.std.specs.Prelude.{◌≡◌, ℕ, true, false};
 ghost use Rattle.admission_model.specs.Account.{Account};
 ghost use Rattle.admission_core.specs.Kept.{DurableState};
 ghost use Rattle.admission_core.specs.Core.{Stands};
-ghost use Rattle.serve_engine.specs.Requests.{terms_of};
-ghost use Rattle.serve_engine.specs.Steps.{AnswersHeard, Tells, TurnsTo, Works};
+ghost use Rattle.serve_engine.specs.Requests.{Terms};
+ghost use Rattle.serve_engine.specs.Steps.{AnswersHeard, AreTerms, Tells, TurnsTo, Works};
 
 use crate::answering::{Told, serve_line, told_text};
-use durable_keeper::Keeper;
+use crate::marks::Marker;
 use line_conversation::{Conversation, Next};
-use live_site::{CallLog, LiveSite};
+use live_keeper::LiveKeeper;
+use live_site::{CallLog, LiveSite, StorePlace};
 use std::alloc::Global;
 
 /// What a turn came to.
@@ -25,51 +25,65 @@ pub(crate) enum Turned {
 }
 
 /// Reads a line and answers it.
-pub(crate) fn take_turn<K: Keeper, C: Conversation, L: CallLog>(
+pub(crate) fn take_turn<K: LiveKeeper, C: Conversation, L: CallLog, P: StorePlace>(
     alloc: Global,
     live: &mut LiveSite<K>,
-    group: Option<&str>,
+    marker: &Marker,
     conversation: &mut C,
     log: &mut L,
+    place: &P,
     text: &mut String,
 ) -> Turned
-    ensures turned { (a : Account) (first : DurableState) (keeper : K) (talk : C) (began : L) (n : ℕ)
-        → Works K.Keeper C.Conversation L.CallLog (terms_of live.old.core.layout (option_copied group.entry)) a first keeper live.old talk conversation.old began log.old n
-        → TurnsTo K.Keeper C.Conversation L.CallLog (terms_of live.old.core.layout (option_copied group.entry)) a first keeper live.new talk conversation.new began log.new n result }
+    ensures turned { (terms : Terms) (a : Account) (first : DurableState) (keeper : K) (talk : C) (began : L) (n : ℕ) → AreTerms terms live.old.core.layout marker.now
+        → Works K.Keeper K.is_outdated C.Conversation L.CallLog terms a first keeper live.old talk conversation.old began log.old n
+        → TurnsTo K.Keeper K.is_outdated C.Conversation L.CallLog terms a first keeper live.new talk conversation.new began log.new n result }
     ensures layout { live.new.core.layout ≡ live.old.core.layout }
     ensures site { live.new.core.site ≡ live.old.core.site }
     ensures honest { K.is_honest live.new.keeper → K.is_honest live.old.keeper }
 {
     match conversation.next_line() {
-        Next::Line => answer_line(alloc, live, group, conversation, log, text),
+        Next::Line => answer_line(alloc, live, marker, conversation, log, place, text),
         Next::TooLong => tell(conversation, "refused TooLong\n"),
         Next::Memory => tell(conversation, "refused Memory\n"),
+        Next::Torn => tell(conversation, "refused BadWord\n"),
         Next::End => Turned::End,
         Next::Failed => Turned::Failed,
     }
 }
 
-// Answers the line that is kept.
-fn answer_line<K: Keeper, C: Conversation, L: CallLog>(
+// Answers the line that is kept. Where the store is no longer at its place, that is told, and the site serves no more.
+fn answer_line<K: LiveKeeper, C: Conversation, L: CallLog, P: StorePlace>(
     alloc: Global,
     live: &mut LiveSite<K>,
-    group: Option<&str>,
+    marker: &Marker,
     conversation: &mut C,
     log: &mut L,
+    place: &P,
     text: &mut String,
 ) -> Turned
-    ensures answered { (a : Account) → Stands a live.old.core → AnswersHeard K.Keeper C.Conversation L.CallLog
-        (terms_of live.old.core.layout (option_copied group.entry)) a live.old live.new conversation.old conversation.new log.old log.new (C.kept conversation.old) result }
+    ensures answered { (terms : Terms) (a : Account) → AreTerms terms live.old.core.layout marker.now → Stands a live.old.core
+        → AnswersHeard K.Keeper K.is_outdated C.Conversation L.CallLog terms a live.old live.new conversation.old conversation.new log.old log.new (C.kept conversation.old) result }
     ensures layout { live.new.core.layout ≡ live.old.core.layout }
     ensures site { live.new.core.site ≡ live.old.core.site }
     ensures honest { K.is_honest live.new.keeper → K.is_honest live.old.keeper }
 {
+    if is_gone(live, place) {
+        live.freeze();
+        return tell(conversation, "refused StoreFault\n");
+    }
     text.clear();
-    let told = serve_line(alloc, live, group, conversation.line(), text, log);
-    if told == Told::LogFailed {
+    let told = serve_line(alloc, live, marker, conversation.line(), text, log);
+    if let Told::LogFailed = told {
         return Turned::Failed;
     }
     tell(conversation, told_text(told, text.as_str()))
+}
+
+// Whether a site that serves can't go on, as its store is no longer at its place.
+fn is_gone<K: LiveKeeper, P: StorePlace>(live: &LiveSite<K>, place: &P) -> bool
+    ensures { result ≡ true → live.now.frozen ≡ false }
+{
+    !live.is_frozen() && !place.is_there()
 }
 
 // Tells a text.

@@ -5,9 +5,9 @@ use durable_keeper::MemoryKeeper;
 use exit_status::Status;
 use layout_file::read_layout;
 use line_conversation::StreamConversation;
-use live_site::NoLog;
+use live_site::{NoLog, NoPlace};
 use merge_core::Layout;
-use serve_engine::{LINE_LIMIT, serve_engine};
+use serve_engine::{LINE_LIMIT, Marking, serve_engine};
 use std::alloc::Global;
 use test_streams::texts::{THREE_SITES, TWO_SITES, WRITERS_FIRST};
 use test_streams::{Giving, Keeping, NEVER};
@@ -43,7 +43,17 @@ fn opening(
         LINE_LIMIT,
     )
     .ok()?;
-    let (ended, keeper) = serve_engine(alloc, keeper, copy, site, None, &mut talk, &mut NoLog {});
+    let (ended, keeper) = serve_engine(
+        alloc,
+        keeper,
+        copy,
+        site,
+        None,
+        Marking::Plain,
+        &mut talk,
+        &mut NoLog {},
+        &NoPlace {},
+    );
     drop(talk);
     if ended != status || writer.bytes() != told.as_bytes() {
         return None;
@@ -79,7 +89,7 @@ fn first_other(alloc: Global, stories: &[Story]) -> Option<usize> {
 const ONE_SEAT: &str = "sites = 1\n[[record]]\nname = \"a\"\nseats = 1\nhome = 0\nproblem = 1\n";
 
 // Calls, and looks at a record.
-static LINES: [Story; 11] = [
+static LINES: [Story; 13] = [
     (TWO_SITES, 0, NOTHING, NOTHING),
     (
         TWO_SITES,
@@ -92,7 +102,7 @@ static LINES: [Story; 11] = [
         (
             b"leave a 7\nread a 9",
             Status::Done,
-            "left reader\nadmitted\n",
+            "left reader\nrefused BadWord\n",
         ),
     ),
     (
@@ -145,7 +155,7 @@ static LINES: [Story; 11] = [
             Status::Done,
             "refused NoSeat 0\nmerged 1\n",
         ),
-        (b"read a 7", Status::Done, "admitted\n"),
+        (b"read a 7\n", Status::Done, "admitted\n"),
     ),
     (
         WRITERS_FIRST,
@@ -191,6 +201,35 @@ static LINES: [Story; 11] = [
         ),
         NOTHING,
     ),
+    // the number of whoever is inside: 2^44 and the finished writers, of each site
+    (
+        TWO_SITES,
+        0,
+        (
+            b"read a 7\nfence a 7\nfence a 8\nannounce a 5\nfence a 5\nleave a 7\nwrite a 5\nfence a 5\nleave a 5\nfence a 5\nread a 7\nfence a 7\n",
+            Status::Done,
+            "admitted\nfence 17592186044416\nrefused NotHere\nannounced 1\nrefused NotHere\nleft reader\nadmitted\nfence 17592186044416\nleft writer\nrefused NotHere\nadmitted\nfence 17592186044417\n",
+        ),
+        (
+            b"fence b 7\nfence a 1000000000001\nfence a 1000000000000\nfence a 7\n",
+            Status::Done,
+            "refused NoRecord\nrefused BadHolder\nrefused NotHere\nfence 17592186044417\n",
+        ),
+    ),
+    (
+        TWO_SITES,
+        0,
+        (
+            b"read a 7\ntake {\"from\":1,\"rows\":[{\"ann\":3,\"fin\":2,\"out\":[0,0],\"r\":0,\"s\":1,\"taken\":0}],\"v\":1}\nfence a 7\n",
+            Status::Done,
+            "admitted\nmerged 2\nfence 17592186044418\n",
+        ),
+        (
+            b"fence a 7\nleave a 7\nannounce a 7\nleave a 7\nread a 8\nfence a 8\n",
+            Status::Done,
+            "fence 17592186044418\nleft reader\nannounced 1\nwithdrawn\nadmitted\nfence 17592186044419\n",
+        ),
+    ),
     (
         ONE_SEAT,
         0,
@@ -209,17 +248,72 @@ fn lines_are_answered_one_by_one(rt: HostRuntime) {
     assert!(rt; other == None, "{other:?}");
 }
 
-// Lines that ask for nothing stand between others, and do not end the service.
-static BAD_LINES: [Story; 4] = [
+// Lines that ask for nothing stand between others, and do not end the service. The last part of the input, without its LF,
+// is none, even where it would be one: the session of holder 1 stays where `leave a 12` comes in part.
+static BAD_LINES: [Story; 8] = [
     (
         TWO_SITES,
         0,
         (
-            b"reed a 7\nread a 7\n\nread a 8\r\nshow\nshow a b\nsessions  a\n show a\nrestart\n",
+            b"read a 1\nread a 12\nleave a 1",
             Status::Done,
-            "refused BadWord\nadmitted\nrefused BadWord\nrefused BadWord\nrefused BadWord\nrefused BadWord\nrefused BadWord\nrefused BadWord\nrefused BadWord\n",
+            "admitted\nadmitted\nrefused BadWord\n",
+        ),
+        (
+            b"sessions a\nread a 9\ntake {\"from\":1,\"rows\":[{\"ann\":0,\"fin\":0,\"out\":[2,1],\"r\":0,\"s\":0,\"taken\":0}],\"v\":1}",
+            Status::Done,
+            "2 1 reader, 12 reader\nrefused NoSeat 0\nrefused BadWord\n",
+        ),
+    ),
+    (
+        TWO_SITES,
+        0,
+        (
+            b"reed a 7\nread a 7\n\nread a 8\r\nshow\nshow a b\nsessions  a\n show a\nrestart\nfence a\nfence a x\n",
+            Status::Done,
+            "refused BadWord 1\nadmitted\nrefused BadWord 1\nrefused BadWord 3\nrefused BadWord 2\nrefused BadWord 3\nrefused BadWord 2\nrefused BadWord 1\nrefused BadWord 1\nrefused BadWord 3\nrefused BadWord 3\n",
         ),
         (b"read a 7\n", Status::Done, "refused AlreadyHere\n"),
+    ),
+    // the first word that can't stand at its place, is missing, or is one too many
+    (
+        TWO_SITES,
+        0,
+        (
+            b"read a x\nread a\nread a 7 8\nread  a 7\nread\nread A 7\nread a 7 \nread a 18446744073709551616\nread a 18446744073709551615\n",
+            Status::Done,
+            "refused BadWord 3\nrefused BadWord 3\nrefused BadWord 4\nrefused BadWord 2\nrefused BadWord 2\nrefused BadWord 2\nrefused BadWord 4\nrefused BadWord 3\nrefused BadHolder\n",
+        ),
+        (
+            b"give a 70000 1\ngive a 65535 1\ngive a 1\ngive a\ngive\ngive a 1 x\ngive a 1 2 3\n",
+            Status::Done,
+            "refused BadWord 3\nrefused NoSite\nrefused BadWord 4\nrefused BadWord 3\nrefused BadWord 2\nrefused BadWord 4\nrefused BadWord 5\n",
+        ),
+    ),
+    (
+        TWO_SITES,
+        0,
+        (
+            b" read a 7\nRead a 7\n \nhelp A\nhelp a b\nshow a \nsessions\nsessions a b c d e f\n",
+            Status::Done,
+            "refused BadWord 1\nrefused BadWord 1\nrefused BadWord 1\nrefused BadWord 2\nrefused BadWord 3\nrefused BadWord 3\nrefused BadWord 2\nrefused BadWord 3\n",
+        ),
+        (
+            b"send \nsend a\nannounce a -1\nwrite a 07\nleave 2b 7\nleave abcdefghijklmnopq 7\n",
+            Status::Done,
+            "refused BadWord 2\nrefused BadWord 2\nrefused BadWord 3\nrefused BadWord 3\nrefused BadWord 2\nrefused BadWord 2\n",
+        ),
+    ),
+    // of more than one wrong word the first is told
+    (
+        TWO_SITES,
+        0,
+        (
+            b"give A 70000 x y\ngive a 70000 x y\ngive a 1 x y\nreed A x\nread A\n",
+            Status::Done,
+            "refused BadWord 2\nrefused BadWord 3\nrefused BadWord 4\nrefused BadWord 1\nrefused BadWord 2\n",
+        ),
+        NOTHING,
     ),
     (
         TWO_SITES,
@@ -227,7 +321,7 @@ static BAD_LINES: [Story; 4] = [
         (
             b"take \nread a 7\ntake  {}\ntake\ntake \xff\nread a 8\n",
             Status::Done,
-            "refused NotJson\nadmitted\nrefused NotCanonical\nrefused BadWord\nrefused BadWord\nadmitted\n",
+            "refused NotJson\nadmitted\nrefused NotCanonical\nrefused BadWord 2\nrefused BadWord 2\nadmitted\n",
         ),
         NOTHING,
     ),
@@ -266,9 +360,9 @@ static OLDER_STORES: [Story; 2] = [
         TWO_SITES,
         0,
         (
-            b"read a 7\ntake {\"from\":1,\"rows\":[{\"ann\":0,\"fin\":0,\"out\":[2,1],\"r\":0,\"s\":0,\"taken\":0}],\"v\":1}\nread a 8\nleave a 7\nshow a\nsessions a\nsend\ntake x\nfoo\n",
+            b"read a 7\ntake {\"from\":1,\"rows\":[{\"ann\":0,\"fin\":0,\"out\":[2,1],\"r\":0,\"s\":0,\"taken\":0}],\"v\":1}\nread a 8\nleave a 7\nshow a\nsessions a\nfence a 7\nsend\ntake x\nfoo\nread a x\ngive a 1 2 3\nshow\ntake\n",
             Status::Fault,
-            "admitted\nrefused OwnRowAhead 0\nrefused Frozen\nrefused Frozen\nrefused Frozen\nrefused Frozen\nrefused Frozen\nrefused NotJson\nrefused BadWord\n",
+            "admitted\nrefused OwnRowAhead 0\nrefused Frozen\nrefused Frozen\nrefused Frozen\nrefused Frozen\nrefused Frozen\nrefused Frozen\nrefused NotJson\nrefused BadWord 1\nrefused BadWord 3\nrefused BadWord 5\nrefused BadWord 2\nrefused BadWord 2\n",
         ),
         (
             b"sessions a\nread a 8\n",

@@ -1,4 +1,5 @@
 //! A runtime with one file, whose faults the test chooses.
+use log_file::ExclusiveFile;
 use std::alloc::{AllocFailed, Allocator, Global};
 use std::cell::RefCell;
 use std::fs::{Metadata, OpenFile, OpenOptions};
@@ -7,7 +8,8 @@ use std::io::{Error, ErrorKind, Read, Seek, SeekFrom, Write};
 use std::rc::Rc;
 use std::rt::Files;
 
-/// What fails: the opening or a read, in this way, or the writes, the syncs, or the cuts.
+/// What fails: the opening or a read, in this way, or the writes, the syncs, or the cuts; holding the file, which another
+/// does, or nobody can; or the folder's opening or sync.
 #[derive(Clone, Copy, Debug, PartialEq, Eq)]
 pub enum Fault {
     None,
@@ -16,13 +18,19 @@ pub enum Fault {
     Write,
     Sync,
     Cut,
+    InUse,
+    Unheld,
+    Folder,
+    FolderSync,
 }
 
-/// A runtime with one file, which is there under each name.
+/// A runtime with one file, which is there under each name. It keeps the path of each folder that was opened, and `!` for
+/// each that was synced.
 #[derive(Drop)]
 pub struct Disk {
     alloc: Global,
     bytes: Rc<RefCell<Vec<u8>>>,
+    folders: Rc<RefCell<Vec<u8>>>,
     fault: Fault,
 }
 
@@ -30,9 +38,11 @@ impl Disk {
     /// The file has these bytes.
     pub fn new(alloc: Global, bytes: Vec<u8>, fault: Fault) -> io::Result<Disk> {
         let bytes = Rc::new(alloc, RefCell::new(bytes))?;
+        let folders = Rc::new(alloc, RefCell::new(Vec::new(alloc)))?;
         Ok(Disk {
             alloc,
             bytes,
+            folders,
             fault,
         })
     }
@@ -44,6 +54,31 @@ impl Disk {
             Err(_) => false,
         }
     }
+
+    /// Whether exactly these folders were opened and synced.
+    pub fn has_synced(&self, folders: &[u8]) -> bool {
+        match self.folders.try_borrow() {
+            Ok(found) => found.as_slice() == folders,
+            Err(_) => false,
+        }
+    }
+
+    // Opens a folder.
+    fn open_folder(&self, path: &str) -> io::Result<DiskFile> {
+        if self.fault == Fault::Folder {
+            return Err(unsupported());
+        }
+        match self.folders.try_borrow_mut() {
+            Ok(mut folders) => folders.extend_from_slice(path.as_bytes())?,
+            Err(_) => return Err(unsupported()),
+        }
+        Ok(DiskFile {
+            bytes: self.folders.clone()?,
+            place: 0,
+            is_folder: true,
+            fault: self.fault,
+        })
+    }
 }
 
 impl Alloc for Disk {
@@ -54,11 +89,12 @@ impl Alloc for Disk {
     }
 }
 
-/// The file, read up to a place.
+/// The file, read up to a place, or a folder.
 #[derive(Drop)]
 pub struct DiskFile {
     bytes: Rc<RefCell<Vec<u8>>>,
     place: usize,
+    is_folder: bool,
     fault: Fault,
 }
 
@@ -124,7 +160,14 @@ impl OpenFile for DiskFile {
     }
 
     fn sync_all(&self) -> io::Result<()> {
-        Err(unsupported())
+        if !self.is_folder || self.fault == Fault::FolderSync {
+            return Err(unsupported());
+        }
+        match self.bytes.try_borrow_mut() {
+            Ok(mut folders) => folders.push(b'!')?,
+            Err(_) => return Err(unsupported()),
+        }
+        Ok(())
     }
 
     fn sync_data(&self) -> io::Result<()> {
@@ -135,13 +178,30 @@ impl OpenFile for DiskFile {
     }
 }
 
+impl ExclusiveFile for DiskFile {
+    ghost is_held = { λ _. Unit {0} };
+
+    ghost is_in_use = { λ _. Unit {0} };
+
+    fn try_hold(&self) -> Result<bool, ()> {
+        match self.fault {
+            Fault::InUse => Ok(false),
+            Fault::Unheld => Err(()),
+            _ => Ok(true),
+        }
+    }
+}
+
 impl Files for Disk {
     type File = DiskFile;
 
     type Dir = DiskFile;
 
-    // Only a file that is made where there is none, read, and appended to is one of a log.
-    fn open_file(&self, how: &OpenOptions, _path: &str) -> io::Result<DiskFile> {
+    // Only a file that is made where there is none, read, and appended to is one of a log; a folder is only read.
+    fn open_file(&self, how: &OpenOptions, path: &str) -> io::Result<DiskFile> {
+        if how.asks_read() && !how.asks_append() && !how.asks_create() {
+            return self.open_folder(path);
+        }
         if let Fault::Open(kind) = self.fault {
             return Err(Error::from(kind));
         }
@@ -151,6 +211,7 @@ impl Files for Disk {
         Ok(DiskFile {
             bytes: self.bytes.clone()?,
             place: 0,
+            is_folder: false,
             fault: self.fault,
         })
     }

@@ -4,8 +4,8 @@ use durable_keeper::{Keeper, MemoryKeeper};
 use exit_status::{Status, StoreRefusal};
 use layout_file::built_in;
 use line_conversation::StreamConversation;
-use live_site::{LogFault, NoLog};
-use serve_engine::{LINE_LIMIT, serve_engine};
+use live_site::{LogFault, NoLog, NoPlace};
+use serve_engine::{LINE_LIMIT, Marking, serve_engine};
 use std::alloc::Global;
 use std::io::ErrorKind;
 use test_streams::{Giving, Keeping, NEVER};
@@ -44,7 +44,17 @@ fn ending(alloc: Global, reader: &mut Giving, writer: &mut Keeping) -> Option<St
         Sink::new(writer),
         LINE_LIMIT,
     ).ok()?;
-    let (ended, _keeper) = serve_engine(alloc, keeper, layout, 0, None, &mut talk, &mut NoLog {});
+    let (ended, _keeper) = serve_engine(
+        alloc,
+        keeper,
+        layout,
+        0,
+        None,
+        Marking::Plain,
+        &mut talk,
+        &mut NoLog {},
+        &NoPlace {},
+    );
     Some(ended)
 }
 
@@ -136,9 +146,19 @@ fn stores_so(alloc: Global, row: &Refused) -> Option<bool> {
         LINE_LIMIT,
     )
     .ok()?;
-    let (ended, keeper) = serve_engine(alloc, keeper, layout, 0, None, &mut talk, &mut NoLog {});
+    let (ended, keeper) = serve_engine(
+        alloc,
+        keeper,
+        layout,
+        0,
+        None,
+        Marking::Plain,
+        &mut talk,
+        &mut NoLog {},
+        &NoPlace {},
+    );
     drop(talk);
-    Some(ended == status && writer.bytes() == told.as_bytes() && keeper.told == changes)
+    Some(ended == status && writer.bytes() == told.as_bytes() && keeper.told.get() == changes)
 }
 
 #[test]
@@ -162,7 +182,17 @@ fn unread(alloc: Global) -> Option<(Status, usize)> {
         LINE_LIMIT,
     )
     .ok()?;
-    let (ended, _keeper) = serve_engine(alloc, keeper, layout, 0, None, &mut talk, &mut NoLog {});
+    let (ended, _keeper) = serve_engine(
+        alloc,
+        keeper,
+        layout,
+        0,
+        None,
+        Marking::Plain,
+        &mut talk,
+        &mut NoLog {},
+        &NoPlace {},
+    );
     drop(talk);
     Some((ended, writer.bytes().len()))
 }
@@ -233,7 +263,17 @@ fn logs_so(alloc: Global, row: &Logged) -> Option<bool> {
         LINE_LIMIT,
     )
     .ok()?;
-    let (ended, _keeper) = serve_engine(alloc, keeper, layout, 0, None, &mut talk, &mut log);
+    let (ended, _keeper) = serve_engine(
+        alloc,
+        keeper,
+        layout,
+        0,
+        None,
+        Marking::Plain,
+        &mut talk,
+        &mut log,
+        &NoPlace {},
+    );
     drop(talk);
     Some(ended == status && writer.bytes() == told.as_bytes() && log.entries == entries)
 }

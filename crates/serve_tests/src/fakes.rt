@@ -4,10 +4,12 @@ ghost use Rattle.std.specs.Prelude.{◌≡◌, IfOk, IfSome, if◌then◌else◌
 use admission_core::{Call, Change, Durable, Reply};
 use durable_keeper::{Keeper, KeeperError, MemoryKeeper};
 use line_conversation::{Conversation, Next};
-use live_site::{CallLog, LogFault};
+use live_keeper::LiveKeeper;
+use live_site::{CallLog, LogFault, StorePlace};
 use log_file::LogFile;
 use merge_core::Layout;
 use std::alloc::{AllocError, Global};
+use std::cell::Cell;
 
 /// What a keeper answers to the change that it does not keep.
 #[derive(Clone, Copy, PartialEq, Eq)]
@@ -24,8 +26,8 @@ pub struct Failing {
     pub left: u64,
     pub refusal: Refusal,
     pub failed: bool,
-    /// How often it was told a change that is not empty.
-    pub told: u64,
+    /// How often it was told a change, be it an empty one, or a mark.
+    pub told: Cell<u64>,
 }
 
 impl Failing {
@@ -46,8 +48,13 @@ impl Failing {
             left,
             refusal,
             failed: false,
-            told: 0,
+            told: Cell::new(0),
         })
+    }
+
+    // Counts a change or a mark.
+    fn count(&self) {
+        self.told.set(self.told.get().saturating_add(1));
     }
 }
 
@@ -66,13 +73,13 @@ impl Keeper for Failing {
     ghost faults_of = { λ k. if k.failed then 1 else 0 };
 
     fn commit(&mut self, change: &Change) -> Result<(), KeeperError> {
+        self.count();
         if self.failed {
             return Err(KeeperError::StoreFault);
         }
         if change.is_empty() {
             return Ok(());
         }
-        self.told = self.told.saturating_add(1);
         if self.left > 0 {
             self.left -= 1;
             return self.keeper.commit(change);
@@ -94,6 +101,28 @@ impl Keeper for Failing {
 
     fn faults(&self) -> u64 {
         u64::from(self.failed)
+    }
+}
+
+// A mark counts as a change, and is lost.
+impl LiveKeeper for Failing {
+    ghost is_outdated = { λ _. ⊥ };
+
+    fn mark_outdated(&mut self) -> Result<(), KeeperError> {
+        self.count();
+        if self.failed {
+            return Err(KeeperError::StoreFault);
+        }
+        if self.left > 0 {
+            self.left -= 1;
+            return Ok(());
+        }
+        if self.refusal == Refusal::Memory {
+            self.left = u64::MAX;
+            return Err(KeeperError::Memory);
+        }
+        self.failed = true;
+        Err(KeeperError::StoreFault)
     }
 }
 
@@ -172,6 +201,21 @@ impl CallLog for Counting {
     fn take_back(&mut self) -> bool {
         self.entries = self.entries.saturating_sub(1);
         true
+    }
+}
+
+/// A place from which the store is gone behind so many looks. It counts them.
+#[derive(Drop)]
+pub struct Vanishing {
+    pub looks: Cell<u64>,
+    pub stays: u64,
+}
+
+impl StorePlace for Vanishing {
+    fn is_there(&self) -> bool {
+        let looks = self.looks.get();
+        self.looks.set(looks.saturating_add(1));
+        looks < self.stays
     }
 }
 

@@ -7,9 +7,9 @@ use durable_keeper::MemoryKeeper;
 use exit_status::Status;
 use layout_file::built_in;
 use line_conversation::StreamConversation;
-use live_site::NoLog;
+use live_site::{NoLog, NoPlace};
 use merge_core::Layout;
-use serve_engine::{LINE_LIMIT, serve_engine};
+use serve_engine::{LINE_LIMIT, Marking, serve_engine};
 use std::alloc::Global;
 use std::io;
 use std::io::{BufRead, Error, ErrorKind, Read, Write};
@@ -191,7 +191,17 @@ fn served(
         LINE_LIMIT,
     )
     .ok()?;
-    let (ended, keeper) = serve_engine(alloc, keeper, copy, 0, None, &mut talk, &mut NoLog {});
+    let (ended, keeper) = serve_engine(
+        alloc,
+        keeper,
+        copy,
+        0,
+        None,
+        Marking::Plain,
+        &mut talk,
+        &mut NoLog {},
+        &NoPlace {},
+    );
     drop(talk);
     if ended == Status::Memory {
         return None;

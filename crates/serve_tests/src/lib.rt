@@ -4,11 +4,15 @@
 #[cfg(test)]
 mod answers;
 #[cfg(test)]
+mod changed_marks;
+#[cfg(test)]
 mod disk;
 #[cfg(test)]
 mod endings;
 #[cfg(test)]
 mod fakes;
+#[cfg(test)]
+mod gone_stores;
 #[cfg(test)]
 mod groups;
 #[cfg(test)]
@@ -23,3 +27,5 @@ mod log_mending;
 mod long_lines;
 #[cfg(test)]
 mod order;
+#[cfg(test)]
+mod outdated;

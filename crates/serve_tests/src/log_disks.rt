@@ -3,11 +3,15 @@ use crate::disk::{Disk, Fault};
 use admission_core::{Durable, DurableCell, Phase, Session};
 use layout_file::built_in;
 use log_file::{LogError, LogRefusal, open_log};
+use merge_core::Layout;
 use std::alloc::Global;
 use std::io::ErrorKind;
+use std::{env, fs, process};
 
 const RUN: &str =
     "{\"book\":\"{\\\"from\\\":0,\\\"rows\\\":[],\\\"v\\\":1}\",\"sessions\":[],\"site\":0,\"sites\":2}\n";
+
+const RUN_TORN: &str = "{\"book\":\"{\\\"from\\\":0,\\\"rows\\\":[],\\\"v\\\":1}\",\"ses";
 
 const READ: &str = "{\"call\":\"read a 7\",\"pass\":0,\"reply\":\"admitted\"}\n";
 
@@ -56,7 +60,11 @@ const WRONG_STORE: LogError = LogError::Refused(LogRefusal::WrongStore);
 
 const NOT_READ: LogError = LogError::Refused(LogRefusal::NotRead);
 
-static OPENINGS: [Opening; 16] = [
+const NOT_A_LOG: LogError = LogError::Refused(LogRefusal::NotALog);
+
+const IN_USE: LogError = LogError::Refused(LogRefusal::InUse);
+
+static OPENINGS: [Opening; 26] = [
     (["", "", ""], Fault::None, false, None, [RUN, "", ""]),
     ([RUN, "", ""], Fault::None, false, None, [RUN, RUN, ""]),
     (
@@ -109,6 +117,67 @@ static OPENINGS: [Opening; 16] = [
         Some(LogError::Refused(LogRefusal::NotTranscript { line: 2 })),
         [RUN, "x\n", ""],
     ),
+    // a file that is no log of the site, and the front of one's first line
+    (
+        ["x", "", ""],
+        Fault::None,
+        false,
+        Some(NOT_A_LOG),
+        ["x", "", ""],
+    ),
+    (
+        [READ_TORN, "", ""],
+        Fault::None,
+        false,
+        Some(NOT_A_LOG),
+        [READ_TORN, "", ""],
+    ),
+    ([RUN_TORN, "", ""], Fault::None, false, None, [RUN, "", ""]),
+    // a file that another has open, also where it is empty, or is no log; and one of which that can't be told
+    (
+        ["", "", ""],
+        Fault::InUse,
+        false,
+        Some(IN_USE),
+        ["", "", ""],
+    ),
+    (
+        [RUN, READ_TORN, ""],
+        Fault::InUse,
+        false,
+        Some(IN_USE),
+        [RUN, READ_TORN, ""],
+    ),
+    (
+        ["x", "", ""],
+        Fault::InUse,
+        false,
+        Some(IN_USE),
+        ["x", "", ""],
+    ),
+    (
+        [RUN, "", ""],
+        Fault::Unheld,
+        false,
+        Some(NOT_READ),
+        [RUN, "", ""],
+    ),
+    // the folder of an empty file can't be opened or synced; that of another is not asked for
+    (
+        ["", "", ""],
+        Fault::Folder,
+        false,
+        Some(LogError::Io),
+        ["", "", ""],
+    ),
+    (
+        ["", "", ""],
+        Fault::FolderSync,
+        false,
+        Some(LogError::Io),
+        ["", "", ""],
+    ),
+    ([RUN, "", ""], Fault::Folder, false, None, [RUN, RUN, ""]),
     // a file that can't be opened, read, written, synced or cut
     (
         [RUN, "", ""],
@@ -188,4 +257,62 @@ fn a_log_file_is_opened_or_left_alone(rt: HostRuntime) {
     for (row, opening) in OPENINGS.iter().enumerate() {
         assert!(rt; opens_so(rt.alloc(), opening) == Some(true), "row {row}");
     }
+}
+
+// What the file has, its path, and the folders that are synced, with `!` behind each.
+type Synced = (&'static str, &'static str, &'static [u8]);
+
+static SYNCED: [Synced; 6] = [
+    ("", "site.log", b".!"),
+    ("", "./site.log", b".!"),
+    ("", "logs/site.log", b"logs!"),
+    ("", "/var/log/site.log", b"/var/log!"),
+    ("", "/site.log", b"/!"),
+    (RUN, "logs/site.log", b""),
+];
+
+fn syncs_so(alloc: Global, row: &Synced) -> Option<bool> {
+    let (text, path, folders) = *row;
+    let layout = built_in(alloc).ok()?;
+    let first = part(alloc, false)?;
+    let bytes = Vec::from_slice(alloc, text.as_bytes()).ok()?;
+    let disk = Disk::new(alloc, bytes, Fault::None).ok()?;
+    let opened = open_log(&disk, path, &layout, 0, &first).is_ok();
+    Some(opened && disk.has_synced(folders))
+}
+
+#[test]
+fn the_folder_of_a_new_log_is_synced(rt: HostRuntime) {
+    for (row, synced) in SYNCED.iter().enumerate() {
+        assert!(rt; syncs_so(rt.alloc(), synced) == Some(true), "row {row}");
+    }
+}
+
+// How an opening ends whose log is closed at once.
+fn ending(rt: &HostRuntime, path: &str, layout: &Layout, first: &Durable) -> Option<LogError> {
+    match open_log(rt, path, layout, 0, first) {
+        Ok(_log) => None,
+        Err(error) => Some(error),
+    }
+}
+
+// A file of the system is opened as a log, again, and behind that log's end once more: whether only the second is refused.
+fn is_held(rt: &HostRuntime) -> Option<bool> {
+    let alloc = rt.alloc();
+    let layout = built_in(alloc).ok()?;
+    let first = part(alloc, false)?;
+    let mut path = env::temp_dir(rt).ok()?;
+    let name = format!(in alloc; "serve_tests_{}.log", process::id(rt.process())).ok()?;
+    path.push(name.as_str()).ok()?;
+    let log = open_log(rt, path.as_str(), &layout, 0, &first).ok()?;
+    let second = ending(rt, path.as_str(), &layout, &first);
+    drop(log);
+    let third = ending(rt, path.as_str(), &layout, &first);
+    fs::remove_file(rt, path.as_str()).ok()?;
+    Some(second == Some(IN_USE) && third == None)
+}
+
+#[test]
+fn a_log_file_is_held_until_its_log_is_dropped(rt: HostRuntime) {
+    assert!(rt; is_held(&rt) == Some(true));
 }

@@ -29,12 +29,16 @@ const RUN_0: &str =
 const RUN_1: &str =
     "{\"book\":\"{\\\"from\\\":1,\\\"rows\\\":[],\\\"v\\\":1}\",\"sessions\":[],\"site\":1,\"sites\":2}\n";
 
+// The line that begins a run of site 0 of which nothing was done, up to the number of sites.
+const BEGINNING: &str =
+    "{\"book\":\"{\\\"from\\\":0,\\\"rows\\\":[],\\\"v\\\":1}\",\"sessions\":[],\"site\":0";
+
 const READ_7: &str = "{\"call\":\"read a 7\",\"pass\":0,\"reply\":\"admitted\"}\n";
 
 // A file's text in three parts, the site, the lines that its store has kept, and what is said of the file.
 type Fault = ([&'static str; 3], u16, &'static [u8], LogRefusal);
 
-static FAULTS: [Fault; 15] = [
+static FAULTS: [Fault; 26] = [
     // lines that are none, and an entry before any run
     (
         ["\n", "", ""],
@@ -91,6 +95,55 @@ static FAULTS: [Fault; 15] = [
         b"read a 7\nread a 8\n",
         LogRefusal::WrongStore,
     ),
+    // no line is whole, and no log of the site can begin with one of which this is the front: a text, bytes of another
+    // kind, an entry, whole but for its LF too, and a run of another site
+    (["hello", "", ""], 0, b"", LogRefusal::NotALog),
+    (["\u{0}\u{1}\u{7f}", "", ""], 0, b"", LogRefusal::NotALog),
+    (["{\"call\"", "", ""], 0, b"read a 7\n", LogRefusal::NotALog),
+    (
+        [
+            "{\"call\":\"read a 7\",\"pass\":0,\"reply\":\"admitted\"}",
+            "",
+            "",
+        ],
+        0,
+        b"read a 7\n",
+        LogRefusal::NotALog,
+    ),
+    (
+        ["{\"book\":\"{\\\"from\\\":0", "", ""],
+        1,
+        b"",
+        LogRefusal::NotALog,
+    ),
+    (
+        ["{\"book\":\"{\\\"from\\\":1", "", ""],
+        0,
+        b"",
+        LogRefusal::NotALog,
+    ),
+    // a run of a site that was there before, and one of too many sites, or of none
+    (
+        ["{\"book\":\"{\\\"from\\\":0,\\\"rows\\\":[{", "", ""],
+        0,
+        b"read a 7\n",
+        LogRefusal::NotALog,
+    ),
+    ([BEGINNING, ",\"sites\":3", ""], 0, b"", LogRefusal::NotALog),
+    ([BEGINNING, ",\"sites\":0", ""], 0, b"", LogRefusal::NotALog),
+    (
+        [BEGINNING, ",\"sites\":2}}", ""],
+        0,
+        b"",
+        LogRefusal::NotALog,
+    ),
+    // a front of a log's first line, where the store has a past
+    (
+        [BEGINNING, ",\"sites\":2}", ""],
+        0,
+        b"read a 7\n",
+        LogRefusal::WrongStore,
+    ),
     // a store that lacks more than the last entry
     (
         [
@@ -133,6 +186,69 @@ fn is_refused(alloc: Global, fault: &Fault) -> Option<bool> {
 fn a_file_that_is_no_log_of_the_site_is_refused(rt: HostRuntime) {
     for (row, fault) in FAULTS.iter().enumerate() {
         assert!(rt; is_refused(rt.alloc(), fault) == Some(true), "row {row}");
+    }
+}
+
+// A site of two, and a line with which a log of it can begin, in two parts.
+type Beginning = (u16, [&'static str; 2]);
+
+static BEGINNINGS: [Beginning; 4] = [
+    (0, [BEGINNING, ",\"sites\":2}"]),
+    // the layout had one site then
+    (0, [BEGINNING, ",\"sites\":1}"]),
+    // the older spelling
+    (0, [BEGINNING, "}"]),
+    (
+        1,
+        [
+            "{\"book\":\"{\\\"from\\\":1,\\\"rows\\\":[],\\\"v\\\":1}\",",
+            "\"sessions\":[],\"site\":1,\"sites\":2}",
+        ],
+    ),
+];
+
+// Whether these bytes are a log of the site of which nothing is kept, where its store is new.
+fn is_dropped(alloc: Global, layout: &Layout, site: u16, bytes: &[u8]) -> Option<bool> {
+    let first = Durable::new(Vec::new(alloc), Vec::new(alloc));
+    match mend(alloc, layout, site, bytes, &first) {
+        Ok(mended) => Some(mended.kept == 0 && mended.tail.is_empty()),
+        Err(LogError::Refused(LogRefusal::NotALog)) => Some(false),
+        Err(_) => None,
+    }
+}
+
+// The first length at which the front of a line is not dropped, or is dropped with another last byte.
+fn first_kept(alloc: Global, beginning: &Beginning) -> Option<usize> {
+    let (site, parts) = *beginning;
+    let layout = built_in(alloc).ok()?;
+    let mut text = String::new(alloc);
+    for part in parts.iter() {
+        text.push_str(*part).ok()?;
+    }
+    let line = text.as_bytes();
+    let mut bytes = Vec::new(alloc);
+    for (place, byte) in line.iter().enumerate() {
+        bytes.push(*byte ^ 1).ok()?;
+        if is_dropped(alloc, &layout, site, bytes.as_slice()) != Some(false) {
+            return Some(place);
+        }
+        bytes.truncate(place);
+        if is_dropped(alloc, &layout, site, bytes.as_slice()) != Some(true) {
+            return Some(place);
+        }
+        bytes.push(*byte).ok()?;
+    }
+    if is_dropped(alloc, &layout, site, line) != Some(true) {
+        return Some(line.len());
+    }
+    Some(usize::MAX)
+}
+
+#[test]
+fn the_front_of_a_first_line_is_dropped(rt: HostRuntime) {
+    for (row, beginning) in BEGINNINGS.iter().enumerate() {
+        let kept = first_kept(rt.alloc(), beginning);
+        assert!(rt; kept == Some(usize::MAX), "row {row}: {kept:?}");
     }
 }
 

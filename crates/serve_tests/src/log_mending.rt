@@ -8,10 +8,11 @@ use durable_keeper::{Keeper, MemoryKeeper};
 use exit_status::Status;
 use layout_file::read_layout;
 use line_conversation::StreamConversation;
+use live_site::NoPlace;
 use log_file::{FileLog, LogError, begin_log, mend};
 use log_judge::{Verdict, are_of_sites, full_cut, judge};
 use merge_core::Layout;
-use serve_engine::{LINE_LIMIT, serve_engine};
+use serve_engine::{LINE_LIMIT, Marking, serve_engine};
 use std::alloc::Global;
 use test_streams::texts::{TWO_SITES, WRITERS_FIRST};
 use test_streams::{Giving, Keeping, NEVER};
@@ -87,7 +88,17 @@ fn served_over(
         LINE_LIMIT,
     )
     .ok()?;
-    let (ended, keeper) = serve_engine(alloc, keeper, copy, site, None, &mut talk, &mut log);
+    let (ended, keeper) = serve_engine(
+        alloc,
+        keeper,
+        copy,
+        site,
+        None,
+        Marking::Plain,
+        &mut talk,
+        &mut log,
+        &NoPlace {},
+    );
     drop(talk);
     Some((ended, keeper, log.into_file()))
 }

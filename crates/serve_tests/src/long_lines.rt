@@ -3,8 +3,8 @@ use durable_keeper::MemoryKeeper;
 use exit_status::Status;
 use layout_file::built_in;
 use line_conversation::StreamConversation;
-use live_site::NoLog;
-use serve_engine::{LINE_LIMIT, serve_engine};
+use live_site::{NoLog, NoPlace};
+use serve_engine::{LINE_LIMIT, Marking, line_limit, serve_engine};
 use std::alloc::Global;
 use std::io;
 use std::io::{BufRead, Error, ErrorKind, Read};
@@ -53,7 +53,7 @@ static LONG_LINES: [Long; 8] = [
         LINE_LIMIT,
         b"\nread a 8\n",
         NEVER,
-        "admitted\nrefused BadWord\nadmitted\n",
+        "admitted\nrefused BadWord 1\nadmitted\n",
     ),
     (
         b"read a 7\n",
@@ -74,13 +74,13 @@ static LONG_LINES: [Long; 8] = [
         LINE_LIMIT + 1,
         b"",
         5_000,
-        "admitted\nrefused TooLong\n",
+        "admitted\nrefused BadWord\n",
     ),
     // much past it
     (
         b"",
         20_000_000,
-        b"\nread a 8",
+        b"\nread a 8\n",
         40_000,
         "refused TooLong\nadmitted\n",
     ),
@@ -105,11 +105,50 @@ static LONG_LINES: [Long; 8] = [
         3,
         b"\nsend\n",
         1,
-        "admitted\nadmitted\nrefused BadWord\nrefused BadWord\n{\"from\":0,\"rows\":[{\"ann\":0,\"fin\":0,\"out\":[2,0],\"r\":0,\"s\":0,\"taken\":2}],\"v\":1}\n",
+        "admitted\nadmitted\nrefused BadWord 1\nrefused BadWord 1\n{\"from\":0,\"rows\":[{\"ann\":0,\"fin\":0,\"out\":[2,0],\"r\":0,\"s\":0,\"taken\":2}],\"v\":1}\n",
     ),
 ];
 
-fn is_told(alloc: Global, row: &Long) -> Option<bool> {
+// At the limit of marked lines, and past it. The mark is not that of the text, which is read whole for that.
+static MARKED_LINES: [Long; 5] = [
+    (
+        b"take payroll d6a41a2b6edb4b8d 01234567 ",
+        2_097_152,
+        b"\nread a 8\n",
+        NEVER,
+        "refused Damaged\nadmitted\n",
+    ),
+    (
+        b"take payroll d6a41a2b6edb4b8d 01234567 ",
+        2_097_153,
+        b"\nread a 8\n",
+        65_536,
+        "refused TooLong\nadmitted\n",
+    ),
+    (
+        b"take payroll d6a41a2b6edb4b8d 6932fd31 ",
+        2_097_152,
+        b"\nread a 8\n",
+        NEVER,
+        "refused NotJson\nadmitted\n",
+    ),
+    (
+        b"take ",
+        2_097_186,
+        b"\nread a 8\n",
+        NEVER,
+        "refused NoMark\nadmitted\n",
+    ),
+    (
+        b"take ",
+        2_097_187,
+        b"\nread a 8\n",
+        NEVER,
+        "refused TooLong\nadmitted\n",
+    ),
+];
+
+fn is_told(alloc: Global, row: &Long, group: Option<&str>, marking: Marking) -> Option<bool> {
     let (front, fillers, back, most, told) = *row;
     let layout = built_in(alloc).ok()?;
     let keeper = MemoryKeeper::new(alloc, &layout, 0).ok()?;
@@ -124,10 +163,20 @@ fn is_told(alloc: Global, row: &Long) -> Option<bool> {
         alloc,
         Source::new(&mut reader),
         Sink::new(&mut writer),
-        LINE_LIMIT,
+        line_limit(group, marking),
     )
     .ok()?;
-    let (ended, _keeper) = serve_engine(alloc, keeper, layout, 0, None, &mut talk, &mut NoLog {});
+    let (ended, _keeper) = serve_engine(
+        alloc,
+        keeper,
+        layout,
+        0,
+        group,
+        marking,
+        &mut talk,
+        &mut NoLog {},
+        &NoPlace {},
+    );
     drop(talk);
     Some(ended == Status::Done && writer.bytes() == told.as_bytes())
 }
@@ -135,6 +184,17 @@ fn is_told(alloc: Global, row: &Long) -> Option<bool> {
 #[test]
 fn a_line_past_the_limit_is_dropped(rt: HostRuntime) {
     for (row, long) in LONG_LINES.iter().enumerate() {
-        assert!(rt; is_told(rt.alloc(), long) == Some(true), "row {row}");
+        assert!(rt;
+            is_told(rt.alloc(), long, None, Marking::Plain) == Some(true),
+            "row {row}"
+        );
+    }
+}
+
+#[test]
+fn a_marked_line_past_the_limit_is_dropped(rt: HostRuntime) {
+    for (row, long) in MARKED_LINES.iter().enumerate() {
+        let told = is_told(rt.alloc(), long, Some("payroll"), Marking::Marked);
+        assert!(rt; told == Some(true), "row {row}");
     }
 }

@@ -3,8 +3,8 @@ use crate::fakes::Marking;
 use durable_keeper::MemoryKeeper;
 use exit_status::Status;
 use layout_file::built_in;
-use live_site::NoLog;
-use serve_engine::serve_engine;
+use live_site::{NoLog, NoPlace};
+use serve_engine::{Marking as Travel, serve_engine};
 use std::alloc::Global;
 
 // So many lines of a reader who enters and leaves, each told in turn.
@@ -18,7 +18,17 @@ fn served(alloc: Global, lines: u64) -> Option<(Status, Marking)> {
         marks: Vec::new(alloc),
         bytes: 0,
     };
-    let (ended, _keeper) = serve_engine(alloc, keeper, layout, 0, None, &mut talk, &mut NoLog {});
+    let (ended, _keeper) = serve_engine(
+        alloc,
+        keeper,
+        layout,
+        0,
+        None,
+        Travel::Plain,
+        &mut talk,
+        &mut NoLog {},
+        &NoPlace {},
+    );
     Some((ended, talk))
 }
 

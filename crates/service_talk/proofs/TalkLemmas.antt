@@ -1,5 +1,5 @@
 -- Turns that are noted, and turns of a conversation of one line.
-use Rattle.std.proofs.Common.{◌≡◌, ℕ, Bool, true, false, ◌||◌, List, [], ◌∷◌, ◌++◌, None, refl, sym, ap, subst, ◌∙◌, append-nil}
+use Rattle.std.proofs.Common.{◌≡◌, ℕ, Bool, true, false, ◌||◌, List, [], ◌∷◌, ◌++◌, refl, sym, ap, subst, ◌∙◌, append-nil}
 use Rattle.std.specs.Io.KnownBytes.{Appends}
 use Rattle.std.proofs.KnownBytes.{Appends-trans}
 use Rattle.std.specs.Prelude.{is_some}
@@ -8,7 +8,7 @@ use Rattle.text_input.specs.Sink.{SinkState, Writes}
 use Rattle.line_conversation.specs.declared.conversation.Next.{Next}
 use Rattle.line_conversation.specs.declared.conversation.Next.TheVariants as next
 use Rattle.line_conversation.specs.declared.conversation.Conversation.{Ghosts}
-use Rattle.line_conversation.specs.Turns.{Line, Whole, TooLong, NoRoom, Turn, Heard, Told, told_in, heard_by}
+use Rattle.line_conversation.specs.Turns.{Line, Whole, Turn, Heard, Told, told_in, heard_by}
 use Rattle.line_conversation.proofs.StreamLemmas.{told_more, told_same}
 use Rattle.service_talk.specs.Notes.{NotedState, TookPlace, any_outdated, is_refusal, last_refused, tells_outdated}
 use Rattle.service_talk.specs.OneLine.{OneLineState, heard_between, heard_in}
@@ -19,6 +19,7 @@ refused_heard : (known : Bool) (turns : List Turn) (told : Next) (line : List �
 refused_heard known [] next.Line line = refl
 refused_heard known [] next.TooLong line = refl
 refused_heard known [] next.Memory line = refl
+refused_heard known [] next.Torn line = refl
 refused_heard known [] next.End line = refl
 refused_heard known [] next.Failed line = refl
 refused_heard known (Heard first ∷ turns) told line = refused_heard known turns told line
@@ -28,6 +29,7 @@ outdated_heard : (known : Bool) (turns : List Turn) (told : Next) (line : List �
 outdated_heard known [] next.Line line = refl
 outdated_heard known [] next.TooLong line = refl
 outdated_heard known [] next.Memory line = refl
+outdated_heard known [] next.Torn line = refl
 outdated_heard known [] next.End line = refl
 outdated_heard known [] next.Failed line = refl
 outdated_heard known (Heard first ∷ turns) told line = outdated_heard known turns told line

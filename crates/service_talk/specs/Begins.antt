@@ -1,7 +1,6 @@
 -- A conversation of one line before any turn.
 use Rattle.std.proofs.Common.{◌≡◌, ℕ, Bool, true, false, List, [], refl}
 use Rattle.line_conversation.specs.Begins.{nothing_written}
-use Rattle.line_conversation.specs.Turns.{Line}
 use Rattle.service_talk.specs.OneLine.{OneLineState, TookPlace, heard_between}
 
 none_between : (line : List ℕ) (taken : Bool) → [] ≡ heard_between line taken taken

@@ -228,11 +228,11 @@ static CHANGING_REPLIES: [Numbers; 12] = [
     (4, 0, 0),
 ];
 
-// How often a store was asked in an opening what it keeps, and how often to keep a change.
+// How often a store was asked in an opening what it keeps, and how often to keep a change, be it an empty one.
 fn store_calls<R: Threads + Wait + Sync>(rt: &R, alloc: Global) -> Option<(u64, u64)> {
     let store = store_with(0, Fault::Never);
     let ended = opening_of(rt, alloc, store, &CHANGING, &CHANGING_REPLIES, 0)?;
-    Some((ended.keeper.store.loads, ended.keeper.store.commits))
+    Some((ended.keeper.store.loads, ended.keeper.store.commits.get()))
 }
 
 #[test]

@@ -5,6 +5,8 @@ use Rattle.durable_keeper.specs.declared.error.KeeperError.{KeeperError}
 use Rattle.durable_keeper.specs.declared.error.KeeperError.TheVariants as keeper
 use Rattle.site_store.specs.declared.error.OpenError.{OpenError}
 use Rattle.site_store.specs.declared.error.OpenError.TheVariants as opening
+use Rattle.site_store.specs.declared.error.ServedError.{ServedError}
+use Rattle.site_store.specs.declared.error.ServedError.TheVariants as served
 
 -- a store that is none any more has failed
 abbrev pub keeper_error : TableError → KeeperError
@@ -16,3 +18,21 @@ abbrev pub open_error : TableError → OpenError
 open_error tables.BadStore = opening.BadStore
 open_error tables.Memory = opening.Memory
 open_error tables.StoreFault = opening.StoreFault
+
+-- what a refusal of an opening is to one for a service
+abbrev pub served_error : OpenError → ServedError
+served_error opening.BadStore = served.BadStore
+served_error opening.WrongSite = served.WrongSite
+served_error opening.WrongGroup = served.WrongGroup
+served_error opening.WrongLayout = served.WrongLayout
+served_error opening.StoreFault = served.StoreFault
+served_error opening.Memory = served.Memory
+
+-- what a refusal of a marked store by what it holds is told as: the mark is told before the layout
+abbrev pub marked_error : OpenError → ServedError
+marked_error opening.BadStore = served.BadStore
+marked_error opening.WrongSite = served.WrongSite
+marked_error opening.WrongGroup = served.WrongGroup
+marked_error opening.WrongLayout = served.Outdated
+marked_error opening.StoreFault = served.StoreFault
+marked_error opening.Memory = served.Memory

@@ -1,4 +1,5 @@
 pub mod Errors
 pub mod Opened
+pub mod Served
 pub mod SiteText
 pub mod Sql

@@ -12,7 +12,7 @@ use Rattle.store_rows.specs.Rows.{Stored}
 use Rattle.store_rows.specs.Changes.{renewed}
 use Rattle.store_rows.specs.Holding.{Keeps, KeepsEither, KeepsNothing, KeepsNothingOr}
 use Rattle.store_tables.specs.Transacts.{made}
-use Rattle.store_tables.specs.Refusals.{HasRefused}
+use Rattle.store_rows.specs.Refusals.{HasRefused}
 use Rattle.store_content.specs.declared.index.Index.{Index}
 use Rattle.store_content.specs.Content.{IsContent, durable_in}
 use Rattle.store_content.specs.Known.{Knows}

@@ -1,5 +1,5 @@
 -- What a keeper over SQLite keeps, and what it was made for.
-use Rattle.std.specs.Prelude.{◌≡◌, ◌⊎◌, ℕ, ◌+◌, List, length, Option, string_bytes, if◌then◌else◌}
+use Rattle.std.specs.Prelude.{◌≡◌, ◌⊎◌, ℕ, List, Option, string_bytes, if◌then◌else◌}
 use Rattle.std.specs.Option.{option_map}
 use Rattle.sqlite_trees.specs.declared.store.Store.{Ghosts}
 use Rattle.merge_core.specs.Layout.{LayoutState}
@@ -10,12 +10,12 @@ use Rattle.store_rows.specs.Rows.{Stored}
 use Rattle.sqlite.specs.State.{HasCleanDisk}
 use Rattle.sqlite.specs.Held.{Held, state}
 use Rattle.store_rows.specs.Holding.{Keeps, KeepsEither}
-use Rattle.store_tables.specs.Kept.{has_failed, connection_of, IsRefusalOf}
+use Rattle.store_tables.specs.Kept.{has_failed, connection_of, KeepsOutdated as KeepsMark}
 use Rattle.store_content.specs.declared.index.Index.{Index}
 use Rattle.store_content.specs.Content.{IsContent, durable_in}
 use Rattle.durable_keeper.specs.Keeping.{changed}
 use Rattle.store_content.specs.Known.{Knows}
-use Rattle.store_content.specs.Plan.{after_change, rows_for}
+use Rattle.store_content.specs.Plan.{after_change}
 use Rattle.site_store.specs.declared.sql.SqlKeeper.{SqlKeeper}
 use Rattle.site_store.specs.SiteText.{site_text}
 
@@ -30,10 +30,6 @@ pub record IsOf (layout : LayoutState) (site : List ℕ) (it : Stored) : Type 0 
 pub record IsOneOf (layout : LayoutState) (site : List ℕ) (d e : DurableState) (it : Stored) : Type 0 where
   pub own : IsOf layout site it
   pub part : (durable_in it ≡ d) ⊎ (durable_in it ≡ e)
-
--- how many rows a change may put into the tables: its counters and notices, and a session
-abbrev pub row_count : ChangeState → Stored → ℕ
-row_count change it = length (rows_for change it).cells + length (rows_for change it).notices + 1
 
 module _ {S : Type 0} (g : Ghosts S) where
   -- a connection keeps a content of a site, which an index knows
@@ -97,6 +93,6 @@ module _ {S : Type 0} {g : Ghosts S} where
   abbrev pub KeepsEitherPart : SqlKeeper S g → DurableState → DurableState → Type 0
   KeepsEitherPart k d e = is_honest k → (a : Stored) × ((b : Stored) × (KeepsEither g (below k) a b × (IsOneOf k.layout (row_of k) d e a × IsOneOf k.layout (row_of k) d e b)))
 
-  -- why the tables below refuse a change of so many rows
-  abbrev pub IsRefusedBelow : ℕ → SqlKeeper S g → SqlKeeper S g → Type 0
-  IsRefusedBelow n old new = IsRefusalOf n old.tables new.tables
+  -- whatever a crash leaves is marked as older than what others have seen of its site
+  abbrev pub KeepsOutdated : SqlKeeper S g → Type 0
+  KeepsOutdated k = KeepsMark k.tables

@@ -2,12 +2,14 @@
 #![tactic(auto)]
 
 pub use durable_keeper::{Keeper, KeeperError, MemoryKeeper};
-pub use error::OpenError;
+pub use error::{OpenError, ServedError};
 pub use laws::{grown_law, own_law};
+pub use served::Permission;
 pub use sql::SqlKeeper;
 
 mod error;
 mod laws;
 mod opening;
 pub mod restart;
+mod served;
 mod sql;

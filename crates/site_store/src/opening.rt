@@ -68,7 +68,7 @@ fn is_same(a: &[u8], b: &[u8]) -> bool
 
 /// The index of a content that is one of this site, and how its line compares with the layout: it is the layout's or
 /// that of an earlier one.
-fn judge(
+pub(crate) fn judge(
     alloc: Global,
     content: &Content,
     layout: &Layout,
@@ -101,7 +101,7 @@ fn is_due(found: Line, version: Version) -> bool
 }
 
 /// An opened store of a content that was found, which gets the second version and this line where either is due.
-fn open_found<S: Alter>(
+pub(crate) fn open_found<S: Alter>(
     alloc: Global,
     tables: &mut Tables<S>,
     content: &Content,
@@ -132,7 +132,7 @@ fn open_found<S: Alter>(
 }
 
 /// An opened store that was made in a database without tables.
-fn make_new<S: Alter>(
+pub(crate) fn make_new<S: Alter>(
     alloc: Global,
     tables: &mut Tables<S>,
     layout: &Layout,

@@ -1,5 +1,5 @@
 //! A keeper over an SQLite database.
-ghost use Rattle.std.specs.Prelude.{◌≡◌, ◌≢◌, ◌⊎◌, ◌↔◌, ℕ, ◌+◌, ◌<◌, ◌^◌, List, length, All, Err, false, string_bytes, option_map, IsTrue, IfOk, OnOk};
+ghost use Rattle.std.specs.Prelude.{◌≡◌, ◌≢◌, ◌↔◌, ℕ, ◌+◌, ◌<◌, ◌^◌, List, All, Err, false, string_bytes, option_map, IsTrue, IfOk, OnOk};
 ghost use Rattle.sqlite.specs.Effect.{Database};
 ghost use Rattle.sqlite.specs.State.{HasCleanDisk};
 ghost use Rattle.sqlite.specs.Held.{state};
@@ -7,19 +7,21 @@ ghost use Rattle.sqlite.specs.declared.connection.Connection.{Connection};
 ghost use Rattle.merge_core.specs.Layout.{LayoutState};
 ghost use Rattle.store_rows.specs.Rows.{Stored};
 ghost use Rattle.store_rows.specs.Steps.{IsStorable};
-ghost use Rattle.store_tables.specs.Kept.{has_failed, connection_of, IsRefusalOf};
+ghost use Rattle.store_tables.specs.Kept.{has_failed, connection_of};
 ghost use Rattle.store_rows.specs.Holding.{Keeps, KeepsBeside, KeepsEither};
 ghost use Rattle.store_tables.specs.Transacts.{Takes};
 ghost use Rattle.store_tables.specs.declared.error.TableError.TheVariants.{BadStore, Memory as NoMemory, StoreFault as NoStore};
 ghost use Rattle.store_content.specs.Plan.{IsTellable, LacksPlace, after};
 ghost use Rattle.site_store.specs.SiteText.{named};
-ghost use Rattle.site_store.specs.Sql.{Stores, Changes, ChangesEither, row_count};
+ghost use Rattle.site_store.specs.Sql.{Stores, Changes, ChangesEither};
 ghost use Rattle.durable_keeper.specs.declared.error.KeeperError.TheVariants.{Memory, StoreFault};
 
-use crate::error::{OpenError, keeper_error};
+use crate::error::{OpenError, ServedError, keeper_error};
 use crate::opening::prepare;
+use crate::served::{Permission, check_permission, prepare_permitted};
 use admission_core::{Change, Durable};
 use durable_keeper::{Keeper, KeeperError};
+use live_keeper::LiveKeeper;
 use merge_core::Layout;
 use sqlite::{Alter, Connection};
 use std::alloc::{AllocError, Global};
@@ -71,9 +73,6 @@ fn put<S: Alter>(tables: &mut Tables<S>, rows: &Rows) -> Result<(), TableError>
     ensures honest { HasCleanDisk (state S.Store (connection_of tables.new)) → HasCleanDisk (state S.Store (connection_of tables.old)) }
     ensures fault { result ≡ Err NoStore → IsTrue (has_failed tables.new) }
     ensures sound { result ≢ Err NoStore → has_failed tables.new ≡ false }
-    ensures refused { has_failed tables.old ≡ false → (it : Stored) → Takes rows.now.edit it → Keeps S.Store (connection_of tables.old) it
-        → HasCleanDisk (state S.Store (connection_of tables.new)) → result ≡ Err NoStore
-        → IsRefusalOf (length rows.now.cells + length rows.now.notices + 1) tables.old tables.new }
     ensures kind { result ≢ Err BadStore }
 {
     tables.commit(&rows.cells, &rows.notices, rows.edit)
@@ -108,9 +107,6 @@ fn commit_rows<S: Alter>(
         → result ≡ Err StoreFault → ChangesEither S.Store layout site change.now it (connection_of tables.new) }
     ensures full { (layout : LayoutState) (site : List ℕ) (it : Stored) → Stores S.Store layout site (connection_of tables.old) index.old it
         → LacksPlace change.now.session it → result ≡ Err StoreFault }
-    ensures refused { (layout : LayoutState) (site : List ℕ) (it : Stored) → Stores S.Store layout site (connection_of tables.old) index.old it
-        → HasCleanDisk (state S.Store (connection_of tables.new)) → result ≡ Err StoreFault
-        → LacksPlace change.now.session it ⊎ IsRefusalOf (row_count change.now it) tables.old tables.new }
     ensures beside { (layout : LayoutState) (site : List ℕ) (it : Stored) (others : Database) → Stores S.Store layout site (connection_of tables.old) index.old it
         → KeepsBeside S.Store (connection_of tables.old) others → KeepsBeside S.Store (connection_of tables.new) others }
     ensures honest { HasCleanDisk (state S.Store (connection_of tables.new)) → HasCleanDisk (state S.Store (connection_of tables.old)) }
@@ -172,17 +168,19 @@ impl<S: Alter + Drop> Drop for SqlKeeper<S> {
 }
 
 impl<S: Alter> SqlKeeper<S> {
-    ghost use Rattle.std.specs.Prelude.{◌≡◌, ◌≢◌, ◌⊎◌, [], None, Err, false, IfOk, IfErr, OnOk};
+    ghost use Rattle.std.specs.Prelude.{◌≡◌, ◌≢◌, [], None, Err, true, false, IfOk, IfErr, OnOk};
     ghost use Rattle.admission_core.specs.Kept.{DurableState};
-    ghost use Rattle.durable_keeper.specs.Keeping.{IsChange, changed};
+    ghost use Rattle.durable_keeper.specs.Keeping.{IsChange, changed, nothing_kept};
     ghost use Rattle.store_rows.specs.Rows.{Stored};
     ghost use Rattle.store_rows.specs.Holding.{Keeps, KeepsBeside, KeepsEither, KeepsNothing, KeepsNothingOr};
     ghost use Rattle.sqlite.specs.Effect.{Database};
     ghost use Rattle.store_content.specs.Plan.{LacksPlace, after_change};
     ghost use Rattle.durable_keeper.specs.declared.error.KeeperError.TheVariants.{Memory, StoreFault};
-    ghost use Rattle.site_store.specs.Sql.{KeepsContent, KeepsContentOr, KeepsEitherPart, KeepsPart, IsRefusedBelow, below, faults_of, group_of, is_honest, layout_of, row_count, site_of};
+    ghost use Rattle.site_store.specs.Sql.{KeepsContent, KeepsContentOr, KeepsEitherPart, KeepsPart, below, faults_of, group_of, is_honest, layout_of, site_of, KeepsOutdated};
     ghost use Rattle.site_store.specs.SiteText.{named};
     ghost use Rattle.site_store.specs.Opened.{CommitsNothing, IsByDevice, IsCurrent, IsFault, IsJudgedFirst, IsKeeperOf, IsLeftEither, IsLeftOr, IsOwn, Opens, OpensBlank, Settles, SettlesOr, left_by};
+    ghost use Rattle.site_store.specs.declared.error.ServedError.TheVariants.{Outdated};
+    ghost use Rattle.site_store.specs.Served.{AnswersBySchema, KeepsMark, KeepsNoMark, IsLeftOfDoubt, IsLeftOfEither, IsServedByDevice, IsServedFault, IsServedJudgedFirst, IsTaken, ServesNothing, ServesStore, left_served};
 
     /// Opens a database as the store of a site of a layout, with no transaction open, as the caller shows. Where a group
     /// of sites is named, by any text, the store is that of the site in this group; without a name it is in no group.
@@ -237,6 +235,72 @@ impl<S: Alter> SqlKeeper<S> {
         }
     }
 
+    /// Opens a database for a service, with no transaction open, as the caller shows. A store is made only where that is
+    /// permitted and the database holds no table, index or view at all; a database that holds any has to be a store as
+    /// this program makes one, and none may be there where one is to be made. Else it is refused before a row is read.
+    /// A store is judged as [`open`](SqlKeeper::open) judges it, but gets this layout's line in place of an earlier one
+    /// only where the store may grow; one that is marked as outdated is refused behind the site and the group, and before the
+    /// layout. The answer also tells whether this call made the store. A refusal hands the
+    /// connection back. Linear in the schema and in what is stored.
+    pub fn open_served(
+        alloc: Global,
+        connection: Connection<S>,
+        layout: &Layout,
+        site: u16,
+        group: Option<&str>,
+        permission: Permission,
+    ) -> Result<(SqlKeeper<S>, bool), (ServedError, Connection<S>)>
+        requires { connection.in_transaction ≡ false }
+        ensures keeper { IfOk result (λ x. IsKeeperOf layout.now site (named group.entry) x.0) }
+        ensures store { (it : Stored) → Keeps S.Store connection it → ServesStore permission layout.now site (named group.entry) it result }
+        ensures blank { KeepsNothing S.Store connection → ServesNothing permission layout.now site (named group.entry) result }
+        ensures schema { HasCleanDisk (state S.Store (left_served result)) → AnswersBySchema permission (state S.Store connection).now.schema result }
+        ensures created { IfOk result (λ x. x.1 ≡ true → KeepsPart x.0 nothing_kept) }
+        ensures judged { IfErr result (IsServedJudgedFirst S.Store connection) }
+        ensures marked { (it : Stored) → Keeps S.Store connection it → KeepsMark S.Store connection → IfOk result (λ x. ¬ is_honest x.0) }
+        ensures unmarked { (it : Stored) → Keeps S.Store connection it → KeepsNoMark S.Store connection
+            → IfErr result (λ x. HasCleanDisk (state S.Store x.1) → x.0 ≢ Outdated) }
+        ensures settles { (a b : Stored) → KeepsEither S.Store connection a b → IfOk result (λ x. Settles a b x.0) }
+        ensures own { permission.create ≡ false → (a b : Stored) → IsTaken permission.grow layout.now site (named group.entry) a → IsTaken permission.grow layout.now site (named group.entry) b
+            → KeepsEither S.Store connection a b → IfErr result (IsServedByDevice S.Store) }
+        ensures settles_or { (it : Stored) → KeepsNothingOr S.Store connection it → IfOk result (λ x. SettlesOr it x.0) }
+        ensures left { (a b : Stored) → KeepsEither S.Store connection a b → IfErr result (λ x. IsLeftOfEither S.Store layout.now a b x.1 x.0) }
+        ensures left_or { (it : Stored) → KeepsNothingOr S.Store connection it → IfErr result (λ x. IsLeftOfDoubt S.Store layout.now site (named group.entry) it x.1 x.0) }
+        ensures fault { (it : Stored) → Keeps S.Store connection it → IfErr result (IsServedFault S.Store layout.now site (named group.entry) it connection) }
+        ensures current { (it : Stored) → IsCurrent layout.now it → Keeps S.Store connection it → HasCleanDisk (state S.Store (left_served result))
+            → CommitsNothing S.Store connection (left_served result) }
+        ensures beside { (a b : Stored) → (others : Database) → KeepsEither S.Store connection a b → KeepsBeside S.Store connection others
+            → KeepsBeside S.Store (left_served result) others }
+        ensures honest { IfOk result (λ x. is_honest x.0 → HasCleanDisk (state S.Store connection)) }
+    {
+        let mut connection = connection;
+        match check_permission(&mut connection, permission) {
+            Ok(()) => {}
+            Err(error) => return Err((error, connection)),
+        }
+        let Ok(copy) = layout.try_copy(alloc) else {
+            return Err((ServedError::Memory, connection));
+        };
+        let Ok(name) = copied_group(alloc, group) else {
+            return Err((ServedError::Memory, connection));
+        };
+        let mut held = Tables::over(connection);
+        match prepare_permitted(alloc, &mut held, layout, site, group, permission) {
+            Ok(index) => Ok((
+                SqlKeeper {
+                    alloc,
+                    tables: held,
+                    index,
+                    layout: copy,
+                    site,
+                    group: name,
+                },
+                permission.create,
+            )),
+            Err(error) => Err((error, held.into_connection())),
+        }
+    }
+
     /// Makes a change of what is kept, as `commit` of [`Keeper`] does, which calls this. The content is known after it: a
     /// session that comes has the place after the greatest, and one that is there keeps its own. Where no place is left,
     /// the answer is `StoreFault`. Tables of other names, which were made behind those of the store, keep their rows.
@@ -245,8 +309,6 @@ impl<S: Alter> SqlKeeper<S> {
         ensures content { (it : Stored) → KeepsContent self.old it → OnOk result (KeepsContent self.new (after_change change.now it)) }
         ensures doubt { (it : Stored) → KeepsContent self.old it → result ≡ Err StoreFault → KeepsContentOr self.new change.now it }
         ensures full { (it : Stored) → KeepsContent self.old it → LacksPlace change.now.session it → result ≡ Err StoreFault }
-        ensures refused { faults_of self.old ≡ 0 → (it : Stored) → KeepsContent self.old it → is_honest self.new → result ≡ Err StoreFault
-            → LacksPlace change.now.session it ⊎ IsRefusedBelow (row_count change.now it) self.old self.new }
         ensures ok { (d : DurableState) → KeepsPart self.old d → OnOk result (KeepsPart self.new (changed change.now d)) }
         ensures memory { (d : DurableState) → KeepsPart self.old d → result ≡ Err Memory → KeepsPart self.new d }
         ensures fault { (d : DurableState) → KeepsPart self.old d → result ≡ Err StoreFault → KeepsEitherPart self.new d (changed change.now d) }
@@ -268,6 +330,32 @@ impl<S: Alter> SqlKeeper<S> {
         }
         let _ = self.layout.sites(); // tells that the layout is one
         commit_rows(self.alloc, &mut self.tables, &mut self.index, change)
+    }
+
+    /// Marks the store as older than what others have seen of its site, in a transaction of its own: no service opens it
+    /// any more. What it keeps stays, whatever the answer, and so do tables of other names, which were made behind its own.
+    pub fn set_outdated(&mut self) -> Result<(), KeeperError>
+        ensures ok { (d : DurableState) → KeepsPart self.old d → OnOk result (KeepsOutdated self.new) }
+        ensures content { (it : Stored) → KeepsContent self.old it → KeepsContent self.new it }
+        ensures kept { (d : DurableState) → KeepsPart self.old d → KeepsPart self.new d }
+        ensures either { (d e : DurableState) → KeepsEitherPart self.old d e → KeepsEitherPart self.new d e }
+        ensures beside { (d : DurableState) → (others : Database) → KeepsPart self.old d → KeepsBeside S.Store (below self.old) others → KeepsBeside S.Store (below self.new) others }
+        ensures memory { result ≡ Err Memory → CommitsNothing S.Store (below self.old) (below self.new) }
+        ensures honest { is_honest self.new → is_honest self.old }
+        ensures told { result ≡ Err StoreFault → faults_of self.new ≡ 1 }
+        ensures sound { result ≢ Err StoreFault → faults_of self.new ≡ 0 }
+        ensures stopped { faults_of self.old ≡ 1 → (result ≡ Err StoreFault) × (self.new ≡ self.old) }
+        ensures layout { layout_of self.new ≡ layout_of self.old }
+        ensures site { site_of self.new ≡ site_of self.old }
+        ensures group { group_of self.new ≡ group_of self.old }
+    {
+        if self.tables.faults() > 0 {
+            return Err(KeeperError::StoreFault);
+        }
+        match self.tables.mark_outdated() {
+            Ok(()) => Ok(()),
+            Err(error) => Err(keeper_error(error)),
+        }
     }
 
     /// The connection, as it is. Takes no memory.
@@ -332,5 +420,15 @@ impl<S: Alter> Keeper for SqlKeeper<S> {
 
     fn faults(&self) -> u64 {
         self.tables.faults()
+    }
+}
+
+impl<S: Alter> LiveKeeper for SqlKeeper<S> {
+    ghost use Rattle.site_store.specs.Sql.{KeepsOutdated};
+
+    ghost is_outdated = { KeepsOutdated };
+
+    fn mark_outdated(&mut self) -> Result<(), KeeperError> {
+        self.set_outdated()
     }
 }

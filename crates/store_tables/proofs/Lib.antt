@@ -1,9 +1,9 @@
 pub mod KeepLemmas
 pub mod LookLemmas
 pub mod MakeLemmas
+pub mod MarkingLemmas
 pub mod OwnLemmas
 pub mod RefusalLemmas
 pub mod RestartLemmas
 pub mod RiseLemmas
-pub mod StopLemmas
 pub mod TransactLemmas

@@ -34,6 +34,7 @@ use Rattle.store_rows.specs.Sorted.{IsRising}
 use Rattle.store_rows.specs.Holding.{HoldsRows, HasMark, Mark, mark, Parts, HoldsParts}
 use Rattle.store_rows.proofs.ReadLemmas.{mapped_has, has_mapped, shown_has, has_shown, shown_same}
 use Rattle.store_rows.proofs.SortedLemmas.{IsOrder, one_rising}
+use Rattle.store_tables.specs.Marking.{ShowsNames}
 use Rattle.store_tables.specs.Reads.{is_chain, TellsMark}
 
 module _ {X : Type 0} (before : X → X → Bool) (order : IsOrder before) where
@@ -152,6 +153,10 @@ first_shown : (r : Row) (name : List ℕ) → column (eval_all two ([] ∷ r ∷
 first_shown [] name h = absurd (cc)
 first_shown (v ∷ r) name h = h
 
+shown_first : (r : Row) (name : List ℕ) → column (drop 1 r) 0 ≡ Text name → column (eval_all two ([] ∷ r ∷ [])) 0 ≡ Text name
+shown_first [] name h = absurd (cc)
+shown_first (v ∷ r) name h = h
+
 module _ (rows shown : List Row) (from : (y : Row) → Has shown y → (r : Row) × Has rows r × (y ≡ eval_all two ([] ∷ r ∷ []))) (each : (r : Row) → Has rows r → Has shown (eval_all two ([] ∷ r ∷ []))) where
   mark_told : (m : Mark) → HasMark rows m → TellsMark shown m
   mark_told m h = record {
@@ -172,6 +177,17 @@ marks_shown old new p h rows shown =
           (has_shown read_marks_text old new old.now.schema refl 0 two [] mark_names r.0 r.1 r.2 rows shown) p.marks h.marks,
       (shown_same read_marks_text [] old new rows r.1 shown).0.now_is,
     )
+
+-- the names are those of the rows
+pub names_shown : (old new : State) (v : Version) → IsSchemaOf v old.now.schema → (rows : List Row) → Shown read_marks_text [] old new rows → ShowsNames (old.now.trees 0) rows
+names_shown old new v has rows shown =
+    let r = marks_read v old.now.schema has in
+    record {
+      from = λ y k name named.
+          let it = shown_has read_marks_text old new old.now.schema refl 0 two [] mark_names r.0 r.1 r.2 rows shown y k in
+          (it.0, it.1, first_shown it.0 name (subst (λ (x : Row). column x 0 ≡ Text name) it.2 named));
+      each = λ s k name named. (eval_all two ([] ∷ s ∷ []), has_shown read_marks_text old new old.now.schema refl 0 two [] mark_names r.0 r.1 r.2 rows shown s k, shown_first s name named);
+    }
 
 -- two facts of an answer together
 pub if_ok_both : {A E : Type 0} {P Q R : A → Type 0} (r : Result A E) → ((x : A) → P x → Q x → R x) → IfOk r P → IfOk r Q → IfOk r R

@@ -35,7 +35,7 @@ pub use Rattle.store_rows.proofs.ChainLemmas.{refused_until, refused_since}
 use Rattle.store_rows.proofs.RefusalLemmas.{IsBare, IsWhole}
 use Rattle.store_tables.specs.declared.reads.Unread.{Unread}
 use Rattle.store_tables.specs.declared.reads.Unread.TheVariants.{Memory, Failed}
-use Rattle.store_tables.specs.Refusals.{HasRefused, HasLackedMemory}
+use Rattle.store_rows.specs.Refusals.{HasRefused, HasLackedMemory}
 
 -- ---- one call
 

@@ -1,5 +1,5 @@
 -- What a store over a connection keeps.
-use Rattle.std.specs.Prelude.{◌≡◌, ◌⊎◌, ℕ, Bool, false, Option, None, Some}
+use Rattle.std.specs.Prelude.{◌≡◌, Bool, Option, None, Some}
 use Rattle.sqlite_trees.specs.declared.store.Store.{Ghosts}
 use Rattle.sqlite.specs.Effect.{Database}
 use Rattle.sqlite.specs.State.{HasCleanDisk, Survives}
@@ -7,10 +7,10 @@ use Rattle.sqlite.specs.Held.{Held, state}
 use Rattle.sqlite_schema.specs.declared.schema.Schema.{Schema}
 use Rattle.store_schema.specs.Tables.{no_schema}
 use Rattle.store_rows.specs.Rows.{Stored}
-use Rattle.store_rows.specs.Holding.{Keeps, KeepsBeside, KeepsEither, KeepsNothing, KeepsNothingOr}
+use Rattle.store_rows.specs.Holding.{Keeps, KeepsBeside, KeepsEither, KeepsNothing, KeepsNothingOr, Leaves}
+use Rattle.store_tables.specs.Marking.{HasOutdatedMark, TellsOutdated}
 use Rattle.store_tables.specs.Reads.{KeepsAny}
-use Rattle.store_rows.specs.Rowids.{has_room}
-use Rattle.store_tables.specs.Refusals.{HasRefused, HasLackedTwice}
+use Rattle.store_rows.specs.Refusals.{HasRefused}
 use Rattle.store_tables.specs.declared.tables.Tables.{Tables}
 
 module _ {S : Type 0} {g : Ghosts S} where
@@ -62,16 +62,6 @@ module _ {S : Type 0} {g : Ghosts S} where
   abbrev pub IsRefusal : Tables S g → Tables S g → Type 0
   IsRefusal old new = HasRefused (state g old.conn) (state g new.conn)
 
-  -- the tables have no so many rowids left, since each new row has the rowid after the last
-  abbrev pub LacksRowids : ℕ → Tables S g → Type 0
-  LacksRowids n t = has_room n (state g t.conn).now.trees ≡ false
-
-  -- Why a change of so many rows is refused: the device refused a call, or the connection was shut, or its queries may
-  -- take only so many steps; or the database ran out of memory at the commit, and again in the call after it; or the
-  -- rowids are used up.
-  abbrev pub IsRefusalOf : ℕ → Tables S g → Tables S g → Type 0
-  IsRefusalOf n old new = IsRefusal old new ⊎ (HasLackedTwice g old.conn new.conn ⊎ LacksRowids n old)
-
   -- the device has given back what was written so far
   abbrev pub IsHonest : Tables S g → Type 0
   IsHonest t = HasCleanDisk (state g t.conn)
@@ -83,3 +73,11 @@ module _ {S : Type 0} {g : Ghosts S} where
   -- no table is what is kept, and a look has found none
   abbrev pub SettlesBlank : Tables S g → Option Stored → Type 0
   SettlesBlank t found = KeepsBlank t × (IsHonest t → found ≡ None)
+
+  -- whatever a crash at this moment leaves has the mark of a store that is older than what others have seen of its site
+  abbrev pub KeepsOutdated : Tables S g → Type 0
+  KeepsOutdated t = Leaves g t.conn HasOutdatedMark
+
+  -- whatever a crash at this moment leaves has a row of that mark's name, as this tells, or has none
+  abbrev pub KeepsTold : Tables S g → Bool → Type 0
+  KeepsTold t is_marked = Leaves g t.conn (TellsOutdated is_marked)

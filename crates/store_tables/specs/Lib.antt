@@ -1,4 +1,4 @@
 pub mod Kept
+pub mod Marking
 pub mod Reads
-pub mod Refusals
 pub mod Transacts

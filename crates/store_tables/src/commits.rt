@@ -1,17 +1,15 @@
 //! One change of a store, as one transaction.
-ghost use Rattle.std.specs.Prelude.{◌≡◌, ◌≢◌, ◌⊎◌, ◌↔◌, ◌+◌, ◌<◌, ◌^◌, true, false, length, All, Err, IsTrue, OnOk};
+ghost use Rattle.std.specs.Prelude.{◌≡◌, ◌≢◌, ◌⊎◌, ◌↔◌, ◌<◌, ◌^◌, false, All, Err, IsTrue, OnOk};
 ghost use Rattle.sqlite.specs.State.{HasCleanDisk, IsUnchanged, KeepsCommit, Survives};
 ghost use Rattle.sqlite.specs.Held.{state};
 ghost use Rattle.sqlite.specs.declared.error.Error.{Error as SqlError};
 ghost use Rattle.sqlite.specs.declared.error.Error.TheVariants.{MultipleStatement, SqliteFailure};
 ghost use Rattle.sqlite.specs.declared.error.ErrorCode.TheVariants.{OutOfMemory};
 ghost use Rattle.store_rows.specs.Changes.{changed};
-ghost use Rattle.store_rows.specs.Holding.{IsStoreOf};
-ghost use Rattle.store_rows.specs.Rowids.{has_room};
-ghost use Rattle.store_rows.specs.Steps.{Goes, Brings, IsStopped, HasFreePlace, IsStorable, with_cells, with_notices, with_edit};
+ghost use Rattle.store_rows.specs.Steps.{Goes, Brings, HasFreePlace, IsStorable, with_cells, with_notices, with_edit};
 ghost use Rattle.store_tables.specs.declared.error.TableError.TheVariants.{BadStore, Memory, StoreFault};
 ghost use Rattle.store_tables.specs.Transacts.{HasCommitted, MayCommit, Turns, Takes};
-ghost use Rattle.store_tables.specs.Refusals.{HasRefused, HasLackedMemory, HasLackedTwice};
+ghost use Rattle.store_rows.specs.Refusals.{HasRefused, HasLackedMemory};
 
 use crate::error::{TableError, is_memory};
 use sqlite::{Alter, Connection, Error, Transaction};
@@ -51,9 +49,9 @@ pub(crate) fn check_open<S: Alter>(tx: &mut Transaction<'_, S>) -> Result<(), Er
     Err(error)
 }
 
-/// Goes on only where the connection is open still, with the last commit as it was. Commits nothing, and takes no more
-/// memory than [`check_open`].
-fn check_connection<S: Alter>(conn: &mut Connection<S>) -> Result<(), Error>
+/// Goes on only where the connection is open still, with the last commit as it was. Commits nothing. Takes no memory where
+/// the connection has understood the same text before, under the same schema.
+pub fn check_connection<S: Alter>(conn: &mut Connection<S>) -> Result<(), Error>
     requires { conn.old.in_transaction ≡ false }
     ensures idle { conn.new.in_transaction ≡ false }
     ensures settled { HasCleanDisk (state S.Store conn.new) → OnOk result (IsUnchanged (state S.Store conn.old) (state S.Store conn.new)) }
@@ -77,8 +75,6 @@ pub(crate) fn refusal_of<S: Alter>(conn: &mut Connection<S>, error: Error) -> Ta
     ensures idle { conn.new.in_transaction ≡ false }
     ensures kind { result ≢ BadStore }
     ensures memory { result ≡ Memory → error ≡ SqliteFailure OutOfMemory }
-    ensures fault { HasCleanDisk (state S.Store conn.new) → error ≡ SqliteFailure OutOfMemory → result ≡ StoreFault
-        → HasRefused (state S.Store conn.old) (state S.Store conn.new) ⊎ HasLackedMemory (state S.Store conn.old) (state S.Store conn.new) }
     ensures settled { HasCleanDisk (state S.Store conn.new) → result ≡ Memory → IsUnchanged (state S.Store conn.old) (state S.Store conn.new) }
     ensures survives { Survives (state S.Store conn.old) (state S.Store conn.new) (λ _. ⊥) }
 {
@@ -107,8 +103,6 @@ fn change<S: Alter>(
         (Brings (λ p. HasFreePlace edit p.sessions) (λ p. with_edit edit (with_notices notices.now (with_cells cells.now p))))) }
     ensures kept { HasCleanDisk (state S.Store tx.new.conn.now) → IsTrue tx.old.conn.now.in_transaction
         → KeepsCommit (state S.Store tx.old.conn.now) (state S.Store tx.new.conn.now) }
-    ensures refused { HasCleanDisk (state S.Store tx.new.conn.now) → IsTrue tx.old.conn.now.in_transaction → (e : SqlError) → result ≡ Err e
-        → IsStopped (length cells.now + length notices.now + 1) (λ p. HasFreePlace edit p.sessions) (state S.Store tx.old.conn.now) (state S.Store tx.new.conn.now) e }
     ensures opened { HasCleanDisk (state S.Store tx.new.conn.now) → OnOk result (IsTrue (state S.Store tx.old.conn.now).is_open) }
     ensures survives { Survives (state S.Store tx.old.conn.now) (state S.Store tx.new.conn.now) (λ _. ⊥) }
 {
@@ -134,9 +128,6 @@ pub(crate) fn write<S: Alter>(
     ensures done { HasCleanDisk (state S.Store conn.new)
         → OnOk result (HasCommitted (state S.Store conn.old) (state S.Store conn.new) (Turns (Takes edit) (changed cells.now notices.now edit))) }
     ensures kind { result ≢ Err BadStore }
-    ensures fault { HasCleanDisk (state S.Store conn.new) → result ≡ Err StoreFault
-        → HasRefused (state S.Store conn.old) (state S.Store conn.new) ⊎ (HasLackedTwice S.Store conn.old conn.new
-        ⊎ ((it : _) → Takes edit it → IsStoreOf (state S.Store conn.old).now it → has_room (length cells.now + length notices.now + 1) (state S.Store conn.old).now.trees ≡ true → ⊥)) }
     ensures undone { result ≡ Err Memory → Survives (state S.Store conn.old) (state S.Store conn.new) (λ _. ⊥) }
     ensures survives { Survives (state S.Store conn.old) (state S.Store conn.new)
         (MayCommit (state S.Store conn.old) (Turns (Takes edit) (changed cells.now notices.now edit))) }

@@ -1,5 +1,5 @@
 //! What a connection keeps, over each transaction.
-ghost use Rattle.std.specs.Prelude.{◌≡◌, ◌≢◌, ◌⊎◌, ◌+◌, ◌<◌, ◌^◌, ⊤, false, length, All, None, Some, Ok, Err, IsTrue, IfOk, OnOk};
+ghost use Rattle.std.specs.Prelude.{◌≡◌, ◌≢◌, ◌⊎◌, ◌<◌, ◌^◌, ⊤, false, All, None, Some, Ok, Err, IsTrue, IfOk, OnOk};
 ghost use Rattle.sqlite.specs.State.{HasCleanDisk, Survives};
 ghost use Rattle.sqlite.specs.Held.{state};
 ghost use Rattle.store_schema.specs.Tables.{no_schema, IsSchemaOf};
@@ -10,9 +10,8 @@ ghost use Rattle.store_rows.specs.Holding.{Keeps, KeepsBeside, KeepsEither, Keep
 ghost use Rattle.store_rows.specs.Steps.{IsStorable};
 ghost use Rattle.store_tables.specs.Transacts.{Takes, made};
 ghost use Rattle.store_tables.specs.Reads.{IsInRange, KeepsAny};
-ghost use Rattle.store_tables.specs.Refusals.{HasRefused, HasLackedTwice};
-ghost use Rattle.store_rows.specs.Rowids.{has_room};
-ghost use Rattle.store_tables.specs.declared.error.TableError.TheVariants.{BadStore, Memory, StoreFault};
+ghost use Rattle.store_rows.specs.Refusals.{HasRefused};
+ghost use Rattle.store_tables.specs.declared.error.TableError.TheVariants.{BadStore, Memory};
 ghost use Rattle.store_tables.specs.declared.reads.Unread.TheVariants.{Bad, Failed};
 
 use crate::commits::{check_open, write};
@@ -41,9 +40,6 @@ pub(crate) fn write_kept<S: Alter>(
     ensures either { (it : _) → Takes edit it → Keeps S.Store conn.old it → KeepsEither S.Store conn.new it (changed cells.now notices.now edit it) }
     ensures memory { (it : _) → Keeps S.Store conn.old it → result ≡ Err Memory → Keeps S.Store conn.new it }
     ensures kind { result ≢ Err BadStore }
-    ensures fault { (it : _) → Takes edit it → Keeps S.Store conn.old it → HasCleanDisk (state S.Store conn.new) → result ≡ Err StoreFault
-        → HasRefused (state S.Store conn.old) (state S.Store conn.new) ⊎ (HasLackedTwice S.Store conn.old conn.new
-        ⊎ (has_room (length cells.now + length notices.now + 1) (state S.Store conn.old).now.trees ≡ false)) }
     ensures beside { (it : _) → (others : _) → Takes edit it → Keeps S.Store conn.old it → KeepsBeside S.Store conn.old others → KeepsBeside S.Store conn.new others }
 {
     // what these two ensure of a connection, the transaction is proved with

@@ -9,9 +9,11 @@ mod commits;
 mod error;
 mod keeping;
 mod making;
+mod marking;
 mod reads;
 pub mod restart;
 mod tables;
 
+pub use commits::check_connection;
 pub use error::TableError;
 pub use tables::Tables;

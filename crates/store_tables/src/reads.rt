@@ -7,11 +7,12 @@ ghost use Rattle.sqlite.specs.State.{HasCleanDisk, Survives};
 ghost use Rattle.sqlite.specs.Held.{state};
 ghost use Rattle.sqlite.specs.declared.error.Error.TheVariants.{SqliteFailure};
 ghost use Rattle.sqlite.specs.declared.error.ErrorCode.TheVariants.{OutOfMemory};
-ghost use Rattle.store_schema.specs.Tables.{IsSchemaOf};
+ghost use Rattle.store_schema.specs.Tables.{IsSchemaOf, meta_tree};
 ghost use Rattle.store_rows.specs.Rows.{cell_row, session_row, notice_row, cell_before, session_before, notice_before};
 ghost use Rattle.store_rows.specs.Holding.{HoldsParts, IsStoreOf, mark};
 ghost use Rattle.std.specs.List.{AllByRecursion};
-ghost use Rattle.store_tables.specs.Refusals.{HasRefused};
+ghost use Rattle.store_tables.specs.Marking.{ShowsNames};
+ghost use Rattle.store_rows.specs.Refusals.{HasRefused};
 ghost use Rattle.store_tables.specs.Reads.{is_chain, TellsMark, IsCellInRange, IsSessionInRange, IsNoticeInRange, IsInRange};
 ghost use Rattle.store_tables.specs.declared.reads.Unread.TheVariants.{Bad, Memory, Failed};
 
@@ -284,7 +285,7 @@ fn read_notices<S: Alter>(
 }
 
 /// Whether the first column of a row is this text.
-fn is_named(row: &Row, name: &[u8]) -> bool
+pub(crate) fn is_named(row: &Row, name: &[u8]) -> bool
     ensures sound { IsTrue result → column row.now 0 ≡ Text name.now }
     ensures found { column row.now 0 ≡ Text name.now → IsTrue result }
 {
@@ -331,11 +332,13 @@ fn mark_of(alloc: Global, rows: &[Row], name: &[u8]) -> Result<Vec<u8>, Unread>
 }
 
 /// The rows of `meta`.
-fn read_marks<S: Alter>(tx: &mut Transaction<'_, S>) -> Result<Vec<Row>, Unread>
+pub(crate) fn read_marks<S: Alter>(tx: &mut Transaction<'_, S>) -> Result<Vec<Row>, Unread>
     ensures same_reference { tx.new.conn.ghost_name ≡ tx.old.conn.ghost_name }
     ensures read { HasCleanDisk (state S.Store tx.new.conn.now) → (p : _) → HoldsParts p (state S.Store tx.old.conn.now).now
         → IfOk result (λ rows. AllByRecursion (TellsMark rows.items) p.marks × ((state S.Store tx.new.conn.now).now ≡ (state S.Store tx.old.conn.now).now)) }
     ensures own { result ≢ Err Bad }
+    ensures shown { HasCleanDisk (state S.Store tx.new.conn.now) → (v : Version) → IsSchemaOf v (state S.Store tx.old.conn.now).now.schema
+        → IfOk result (λ rows. ShowsNames ((state S.Store tx.old.conn.now).now.trees meta_tree) rows.items) }
     ensures same { HasCleanDisk (state S.Store tx.new.conn.now) → (v : Version) → IsSchemaOf v (state S.Store tx.old.conn.now).now.schema
         → OnOk result ((state S.Store tx.new.conn.now).now ≡ (state S.Store tx.old.conn.now).now) }
     ensures refused { HasCleanDisk (state S.Store tx.new.conn.now) → (v : Version) → IsSchemaOf v (state S.Store tx.old.conn.now).now.schema

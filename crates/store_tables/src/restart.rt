@@ -1,6 +1,6 @@
 //! A crash of both files of a store, and the store opened again.
 ghost use Rattle.std.specs.Prelude.{◌≡◌, false, IfOk};
-ghost use Rattle.store_tables.specs.Kept.{has_failed, IsHonest, KeepsStore, KeepsOneOf, KeepsBlank, KeepsBlankOr, KeepsOthers};
+ghost use Rattle.store_tables.specs.Kept.{has_failed, IsHonest, KeepsStore, KeepsOneOf, KeepsBlank, KeepsBlankOr, KeepsOthers, KeepsOutdated};
 
 use crate::tables::Tables;
 use sqlite::{Connection, FileStore, Files, Options};
@@ -19,6 +19,7 @@ pub fn restart<D: Crash + Drop>(
     ensures bare { KeepsBlank tables → IfOk result KeepsBlank }
     ensures bare_or { (it : _) → KeepsBlankOr tables it → IfOk result (λ again. KeepsBlankOr again it) }
     ensures beside { (others : _) → KeepsOthers tables others → IfOk result (λ again. KeepsOthers again others) }
+    ensures marked { KeepsOutdated tables → IfOk result KeepsOutdated }
     ensures honest { IfOk result (λ again. IsHonest again → IsHonest tables) }
     ensures sound { IfOk result (λ again. has_failed again ≡ false) }
 {

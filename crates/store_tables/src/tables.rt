@@ -3,6 +3,7 @@ ghost use Rattle.std.specs.Prelude.{◌≡◌, false};
 
 use crate::error::TableError;
 use crate::keeping::{look_kept, make_kept, renew_kept, write_kept};
+use crate::marking::{mark_kept, outdated_kept};
 use crate::reads::Unread;
 use sqlite::{Alter, Connection};
 use std::alloc::Global;
@@ -23,15 +24,16 @@ impl<S: Alter + Drop> Drop for Tables<S> {
 }
 
 impl<S: Alter> Tables<S> {
-    ghost use Rattle.std.specs.Prelude.{◌≡◌, ◌≢◌, ◌⊎◌, ◌+◌, ◌<◌, ◌^◌, ⊤, [], None, Ok, Err, false, length, All, Some, IsTrue, IfOk, OnOk, if◌then◌else◌};
+    ghost use Rattle.std.specs.Prelude.{◌≡◌, ◌≢◌, ◌⊎◌, ◌+◌, ◌<◌, ◌^◌, ⊤, [], None, Ok, Err, true, false, All, Some, IsTrue, IfOk, OnOk, if◌then◌else◌};
     ghost use Rattle.store_rows.specs.Changes.{changed, renewed};
     ghost use Rattle.store_rows.specs.Steps.{IsStorable};
     ghost use Rattle.store_schema.specs.Tables.{IsSchemaOf};
     ghost use Rattle.store_schema.specs.Found.{found_in};
+    ghost use Rattle.store_schema.specs.declared.Version.TheVariants.{Second};
     ghost use Rattle.store_schema.specs.declared.Found.TheVariants.{Blank, Store, Other};
     ghost use Rattle.store_tables.specs.Transacts.{Takes, made};
     ghost use Rattle.store_tables.specs.Reads.{IsInRange};
-    ghost use Rattle.store_tables.specs.Kept.{has_failed, connection_of, schema_of, IsBlank, IsHonest, KeepsStore, KeepsOneOf, KeepsBlank, KeepsBlankOr, KeepsOthers, KeepsSome, CommitsNothing, IsRefusal, IsRefusalOf, Settles, SettlesBlank};
+    ghost use Rattle.store_tables.specs.Kept.{has_failed, connection_of, schema_of, IsBlank, IsHonest, KeepsStore, KeepsOneOf, KeepsBlank, KeepsBlankOr, KeepsOthers, KeepsSome, KeepsOutdated, KeepsTold, CommitsNothing, IsRefusal, Settles, SettlesBlank};
     ghost use Rattle.store_tables.specs.declared.error.TableError.TheVariants.{BadStore, Memory, StoreFault};
 
     /// The tables of a database, of which the caller shows that no transaction is open. Calls no store.
@@ -129,8 +131,6 @@ impl<S: Alter> Tables<S> {
         ensures sound { result ≢ Err StoreFault → has_failed self.new ≡ false }
         ensures kind { result ≢ Err BadStore }
         ensures stopped { IsTrue (has_failed self.old) → (result ≡ Err StoreFault) × (self.new ≡ self.old) }
-        ensures refused { has_failed self.old ≡ false → (it : _) → Takes edit it → KeepsStore self.old it → IsHonest self.new → result ≡ Err StoreFault
-            → IsRefusalOf (length cells.now + length notices.now + 1) self.old self.new }
         ensures nothing { cells.now ≡ [] → notices.now ≡ [] → edit ≡ None → self.new ≡ self.old }
     {
         if self.failed {
@@ -206,5 +206,53 @@ impl<S: Alter> Tables<S> {
             }
             Err(error) => Err(error),
         }
+    }
+
+    /// Marks a store of the second version as older than what others have seen of its site: sets the row `outdated` of
+    /// `meta` to `1`, in a transaction of its own. What the store holds stays, whatever the answer.
+    pub fn mark_outdated(&mut self) -> Result<(), TableError>
+        ensures ok { (it : _) → it.version ≡ Second → KeepsStore self.old it → OnOk result (KeepsOutdated self.new) }
+        ensures kept { (it : _) → it.version ≡ Second → KeepsStore self.old it → KeepsStore self.new it }
+        ensures either { (a b : _) → a.version ≡ Second → b.version ≡ Second → KeepsOneOf self.old a b → KeepsOneOf self.new a b }
+        ensures beside { (it : _) → (others : _) → it.version ≡ Second → KeepsStore self.old it → KeepsOthers self.old others → KeepsOthers self.new others }
+        ensures memory { result ≡ Err Memory → CommitsNothing self.old self.new }
+        ensures honest { IsHonest self.new → IsHonest self.old }
+        ensures fault { result ≡ Err StoreFault → IsTrue (has_failed self.new) }
+        ensures sound { result ≢ Err StoreFault → has_failed self.new ≡ false }
+        ensures kind { result ≢ Err BadStore }
+        ensures stopped { IsTrue (has_failed self.old) → (result ≡ Err StoreFault) × (self.new ≡ self.old) }
+    {
+        if self.failed {
+            return Err(TableError::StoreFault);
+        }
+        let done = mark_kept(&mut self.conn);
+        self.failed = done == Err(TableError::StoreFault);
+        done
+    }
+
+    /// Whether the store is marked so: whether `meta` has a row of that name, with any value. At most two calls of the
+    /// store in one transaction, which changes nothing.
+    pub fn is_outdated(&mut self) -> Result<bool, TableError>
+        ensures told { (it : _) → KeepsStore self.old it → IfOk result (KeepsTold self.new) }
+        ensures marked { (it : _) → KeepsStore self.old it → KeepsOutdated self.old → IsHonest self.new → IfOk result (λ found. found ≡ true) }
+        ensures unmarked { (it : _) → KeepsStore self.old it → KeepsTold self.old false → IsHonest self.new → IfOk result (λ found. found ≡ false) }
+        ensures unwritten { CommitsNothing self.old self.new }
+        ensures honest { IsHonest self.new → IsHonest self.old }
+        ensures fault { result ≡ Err StoreFault → IsTrue (has_failed self.new) }
+        ensures sound { result ≢ Err StoreFault → has_failed self.new ≡ false }
+        ensures kind { result ≢ Err BadStore }
+        ensures stopped { IsTrue (has_failed self.old) → (result ≡ Err StoreFault) × (self.new ≡ self.old) }
+        ensures refused { has_failed self.old ≡ false → (it : _) → KeepsStore self.old it → IsHonest self.new → result ≡ Err StoreFault → IsRefusal self.old self.new }
+    {
+        if self.failed {
+            return Err(TableError::StoreFault);
+        }
+        match outdated_kept(&mut self.conn) {
+            Ok(found) => return Ok(found),
+            Err(Unread::Memory) => return Err(TableError::Memory),
+            Err(Unread::Bad | Unread::Failed) => {}
+        }
+        self.failed = true;
+        Err(TableError::StoreFault)
     }
 }

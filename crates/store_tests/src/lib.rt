@@ -34,10 +34,14 @@ mod stores;
 #[cfg(test)]
 mod stores_opened;
 #[cfg(test)]
+mod stores_served;
+#[cfg(test)]
 mod stores_stopped;
 #[cfg(test)]
 mod tables;
 #[cfg(test)]
 mod tables_judged;
+#[cfg(test)]
+mod tables_marked;
 #[cfg(test)]
 mod tables_stopped;

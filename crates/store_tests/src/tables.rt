@@ -37,6 +37,8 @@ pub enum Step {
     Leave,
     /// A store of this version gets the second, and this layout line.
     Renew(Version, &'static str),
+    /// It is marked as outdated.
+    Mark,
 }
 
 /// A store is made, rows are put, and the session is dropped.
@@ -70,12 +72,17 @@ pub fn is_renewed<S: Alter>(tables: &mut Tables<S>, version: Version, line: &str
     tables.renew(version, line).is_ok()
 }
 
+fn is_marked<S: Alter>(tables: &mut Tables<S>) -> bool {
+    tables.mark_outdated().is_ok()
+}
+
 fn is_done<S: Alter>(tables: &mut Tables<S>, step: Step) -> bool {
     match step {
         Step::Make => is_made(tables),
         Step::Put => is_put(tables),
         Step::Leave => is_left(tables),
         Step::Renew(version, line) => is_renewed(tables, version, line),
+        Step::Mark => is_marked(tables),
     }
 }
 

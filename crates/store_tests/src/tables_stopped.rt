@@ -180,7 +180,7 @@ fn played_again<D: Crash + Drop, W: Work, R: Wait>(
 }
 
 /// The same over files, which may not open.
-fn played_over<D: Crash + Drop, W: Work, R: Wait>(
+pub fn played_over<D: Crash + Drop, W: Work, R: Wait>(
     rt: &R,
     alloc: Global,
     files: Files<D>,
@@ -194,7 +194,7 @@ fn played_over<D: Crash + Drop, W: Work, R: Wait>(
 }
 
 /// Empty files after these statements; without one, no database is opened on them.
-fn files_after<D: Crash + Drop, R: Wait>(
+pub fn files_after<D: Crash + Drop, R: Wait>(
     rt: &R,
     alloc: Global,
     empty: Files<D>,

@@ -5,6 +5,7 @@ use admission_core::{Change, Durable};
 use durable_keeper::{Keeper, KeeperError, MemoryKeeper};
 use merge_core::Layout;
 use std::alloc::Global;
+use std::cell::Cell;
 use std::sync::Arc;
 use std::sync::atomic::{AtomicU64, Ordering};
 use std::thread;
@@ -32,9 +33,10 @@ pub struct Store {
     pub failed: bool,
     /// Whether a commit that waited saw the mark.
     pub saw: bool,
-    /// How often it was asked, before it failed, what it keeps, and how often to keep a change that is not empty.
+    /// How often it was asked, before it failed, what it keeps.
     pub loads: u64,
-    pub commits: u64,
+    /// How often it was asked to keep a change, be it an empty one.
+    pub commits: Cell<u64>,
 }
 
 /// A device that has this fault at the commit after so many others.
@@ -46,7 +48,7 @@ pub fn store_with(left: u64, fault: Fault) -> Store {
         failed: false,
         saw: false,
         loads: 0,
-        commits: 0,
+        commits: Cell::new(0),
     }
 }
 
@@ -102,13 +104,14 @@ impl Keeper for Fake {
     ghost faults_of = { λ k. if k.store.failed then 1 else 0 };
 
     fn commit(&mut self, change: &Change) -> Result<(), KeeperError> {
+        let commits = self.store.commits.get().saturating_add(1);
+        self.store.commits.set(commits);
         if self.store.failed {
             return Err(KeeperError::StoreFault);
         }
         if change.is_empty() {
             return Ok(());
         }
-        self.store.commits = self.store.commits.saturating_add(1);
         if self.store.left > 0 {
             self.store.left -= 1;
             return self.kept.commit(change);

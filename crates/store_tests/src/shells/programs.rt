@@ -8,11 +8,19 @@ use std::thread::Threads;
 use test_streams::NEVER;
 use test_streams::texts::{GAVE, THIRD, THREE_SITES};
 
+// The second record has no seats, and nor has the third.
+const NO_SEATS: &str = "sites = 2\nrecord = [\n{name = \"a\", seats = 2, home = 0, problem = 1},\n\
+     {name = \"b\", seats = 0, home = 0, problem = 1},\n{name = \"c\", seats = 0, home = 0, problem = 1}]\n";
+
+// The third record has the first one's name.
+const TWO_NAMES: &str = "sites = 2\nrecord = [\n{name = \"a\", seats = 2, home = 0, problem = 1},\n\
+     {name = \"b\", seats = 2, home = 0, problem = 1},\n{name = \"a\", seats = 2, home = 0, problem = 1}]\n";
+
 const FIVE_SEATS: &str = "sites = 2\n[[record]]\nname = \"a\"\nseats = 5\nhome = 0\nproblem = 1\n";
 
-// The files that there are: the second is as long as a layout file may be, the third a byte longer; a read of the
-// last two fails.
-static FILES: [(&str, Text); 6] = [
+// The files that there are: the second is as long as a layout file may be, the third a byte longer; the next three hold no
+// layout; a read of the last two fails.
+static FILES: [(&str, Text); 9] = [
     (
         "five.toml",
         Text {
@@ -34,6 +42,30 @@ static FILES: [(&str, Text); 6] = [
         Text {
             text: THREE_SITES,
             fillers: 1_048_514,
+            fails: NEVER,
+        },
+    ),
+    (
+        "seatless.toml",
+        Text {
+            text: NO_SEATS,
+            fillers: 0,
+            fails: NEVER,
+        },
+    ),
+    (
+        "names.toml",
+        Text {
+            text: TWO_NAMES,
+            fillers: 0,
+            fails: NEVER,
+        },
+    ),
+    (
+        "empty.toml",
+        Text {
+            text: "sites = 2\nrecord = []\n",
+            fillers: 0,
             fails: NEVER,
         },
     ),

@@ -1,9 +1,10 @@
 //! A runtime whose arguments, files and standard streams the test chooses.
 use exit_status::{Status, StoreRefusal};
 use line_conversation::Conversation;
-use live_databases::{Absence, LiveDatabases, Opening, ServiceEnd, serve_live_over};
-use live_site::NoLog;
+use live_databases::{Absence, LiveDatabases, Opening, Service, ServiceEnd, serve_live_over};
+use live_site::{NoLog, NoPlace};
 use merge_core::Layout;
+use site_store::Permission;
 use sqlite::Connection;
 use std::alloc::{Allocator, Global};
 use std::cell::RefCell;
@@ -320,10 +321,10 @@ impl LiveDatabases for Fake {
         if opening.path == "used.db" {
             return ServiceEnd::Absent(Absence::InUse);
         }
-        if !opening.create && opening.path != "old.db" {
+        if !opening.service.permission.create && opening.path != "old.db" {
             return ServiceEnd::Absent(Absence::NoStore);
         }
-        if opening.create && opening.path != "new.db" {
+        if opening.service.permission.create && opening.path != "new.db" {
             return ServiceEnd::Absent(Absence::Exists);
         }
         let Ok(connection) = Connection::open_in_memory(self.alloc) else {
@@ -333,10 +334,16 @@ impl LiveDatabases for Fake {
             self.alloc,
             connection,
             layout,
-            opening.site,
-            opening.group,
+            Service {
+                permission: Permission {
+                    create: true,
+                    grow: false,
+                },
+                ..opening.service
+            },
             conversation,
             &mut NoLog {},
+            &NoPlace {},
         );
         ended
     }

@@ -9,7 +9,7 @@ static WRONG: [Wrong; 5] = [
     (
         &[b"seat_cli", b"serve", b"--site=0"],
         "error: the following required arguments were not provided:\n  --store <FILE>\n\n\
-         Usage: seat_cli serve --site I --store FILE [--layout FILE] [--group NAME] [--create] [--wait SECONDS] [--log FILE]\n\nFor more information, try '--help'.\n",
+         Usage: seat_cli serve --site I --store FILE [--layout FILE] [--group NAME | --plain] [--create] [--grow] [--wait SECONDS] [--log FILE]\n\nFor more information, try '--help'.\n",
     ),
     (
         &[
@@ -24,12 +24,12 @@ static WRONG: [Wrong; 5] = [
     (
         &[b"seat_cli", b"serve", b"--site=0", b"--store=a.db", b"send"],
         "error: unexpected argument 'send' found\n\n\
-         Usage: seat_cli serve --site I --store FILE [--layout FILE] [--group NAME] [--create] [--wait SECONDS] [--log FILE]\n\nFor more information, try '--help'.\n",
+         Usage: seat_cli serve --site I --store FILE [--layout FILE] [--group NAME | --plain] [--create] [--grow] [--wait SECONDS] [--log FILE]\n\nFor more information, try '--help'.\n",
     ),
     (
         &[b"seat_cli", b"ask", b"--site=0", b"--store=a.db"],
         "error: the following required arguments were not provided:\n  <WORD>\n\n\
-         Usage: seat_cli ask --site I --store FILE [--layout FILE] [--group NAME] [--create] [--wait SECONDS] [--log FILE] WORD..\n\nFor more information, try '--help'.\n",
+         Usage: seat_cli ask --site I --store FILE [--layout FILE] [--group NAME | --plain] [--create] [--grow] [--wait SECONDS] [--log FILE] WORD..\n\nFor more information, try '--help'.\n",
     ),
     (
         &[
@@ -44,7 +44,7 @@ static WRONG: [Wrong; 5] = [
             b"3",
         ],
         "error: unexpected argument '3' found\n\n\
-         Usage: seat_cli ask --site I --store FILE [--layout FILE] [--group NAME] [--create] [--wait SECONDS] [--log FILE] WORD..\n\nFor more information, try '--help'.\n",
+         Usage: seat_cli ask --site I --store FILE [--layout FILE] [--group NAME | --plain] [--create] [--grow] [--wait SECONDS] [--log FILE] WORD..\n\nFor more information, try '--help'.\n",
     ),
 ];
 
@@ -63,10 +63,10 @@ static SERVED: [Carried; 7] = [
             b"--store=new.db",
             b"--create",
         ],
-        "read a 7\nreed a 7\nshow a\nshow b\nsessions a\nwrite a 7",
+        "read a 7\nreed a 7\nshow a\nshow b\nsessions a\nwrite a 7\nleave a 7",
         (
             0,
-            "admitted\nrefused BadWord\nrights 1 inside 1 unfinished 0\nrefused NoRecord\n1 7 reader\nrefused NotAnnounced\n",
+            "admitted\nrefused BadWord 1\nrights 1 inside 1 unfinished 0\nrefused NoRecord\n1 7 reader\nrefused NotAnnounced\nrefused BadWord\n",
             "",
             "new.db\n",
         ),
@@ -80,6 +80,7 @@ static SERVED: [Carried; 7] = [
             b"--store",
             b"old.db",
             b"--layout=three.toml",
+            b"--plain",
         ],
         "announce a 5\ntake {\"from\":2,\"rows\":[{\"ann\":2,\"fin\":0,\"out\":[0,0,0],\"r\":0,\"s\":1,\"taken\":0}],\"v\":1}\nread a 7\n",
         (
@@ -98,10 +99,13 @@ static SERVED: [Carried; 7] = [
             b"--group=payroll",
             b"--create",
         ],
-        "send\ntake {\"from\":1,\"rows\":[],\"v\":1}\ntake payroll {\"from\":1,\"rows\":[],\"v\":1}\ntake payroll x\ntake stock x\ntake\n",
+        "send\ntake {\"from\":1,\"rows\":[],\"v\":1}\ntake payroll d6a41a2b6edb4b8d 974d99c4 {\"from\":1,\"rows\":[],\"v\":1}\n\
+         take payroll d6a41a2b6edb4b8d 2d711642 x\ntake stock d6a41a2b6edb4b8d 2d711642 x\ntake payroll 50b3e8c44fe0750a 2d711642 x\n\
+         take payroll d6a41a2b6edb4b8d 2d711642 y\ntake\n",
         (
             0,
-            "payroll {\"from\":0,\"rows\":[],\"v\":1}\nrefused WrongGroup\nmerged 0\nrefused NotJson\nrefused WrongGroup\nrefused BadWord\n",
+            "payroll d6a41a2b6edb4b8d 49d0174c {\"from\":0,\"rows\":[],\"v\":1}\nrefused NoMark\nmerged 0\nrefused NotJson\n\
+             refused WrongGroup\nrefused OtherRecords\nrefused Damaged\nrefused BadWord 2\n",
             "",
             "new.db\n",
         ),
@@ -151,8 +155,138 @@ fn each_line_of_a_service_is_answered(rt: HostRuntime) {
     assert_eq!(rt; wrongly_carried(&rt, rt.alloc(), &SERVED), None);
 }
 
+// Layout files that are refused: `serve` and `ask` name the record at fault, if it is one, and the other commands do not.
+static REFUSED: [Carried; 12] = [
+    (
+        &[
+            b"seat_cli",
+            b"serve",
+            b"--site=0",
+            b"--store=old.db",
+            b"--layout=seatless.toml",
+        ],
+        "read a 7\n",
+        (
+            3,
+            "",
+            "layout refused BadSeats\nrecord 2\n",
+            "seatless.toml\n",
+        ),
+    ),
+    (
+        &[
+            b"seat_cli",
+            b"ask",
+            b"--site=0",
+            b"--store=old.db",
+            b"--layout=seatless.toml",
+            b"send",
+        ],
+        "",
+        (
+            3,
+            "",
+            "layout refused BadSeats\nrecord 2\n",
+            "seatless.toml\n",
+        ),
+    ),
+    (
+        &[
+            b"seat_cli",
+            b"serve",
+            b"--site=0",
+            b"--store=old.db",
+            b"--layout=names.toml",
+        ],
+        "",
+        (3, "", "layout refused SameName\nrecord 3\n", "names.toml\n"),
+    ),
+    (
+        &[
+            b"seat_cli",
+            b"ask",
+            b"--site=0",
+            b"--store=old.db",
+            b"--layout=names.toml",
+            b"send",
+        ],
+        "",
+        (3, "", "layout refused SameName\nrecord 3\n", "names.toml\n"),
+    ),
+    (
+        &[
+            b"seat_cli",
+            b"serve",
+            b"--site=0",
+            b"--store=old.db",
+            b"--layout=empty.toml",
+        ],
+        "",
+        (3, "", "layout refused NoRecords\n", "empty.toml\n"),
+    ),
+    (
+        &[
+            b"seat_cli",
+            b"ask",
+            b"--site=0",
+            b"--store=old.db",
+            b"--layout=no.toml",
+            b"send",
+        ],
+        "",
+        (3, "", "layout refused NotRead\n", "no.toml\n"),
+    ),
+    (
+        &[
+            b"seat_cli",
+            b"site",
+            b"--site=0",
+            b"--store=old.db",
+            b"--layout=seatless.toml",
+        ],
+        "",
+        (3, "", "layout refused BadSeats\n", "seatless.toml\n"),
+    ),
+    (
+        &[
+            b"seat_cli",
+            b"site",
+            b"--site=0",
+            b"--store=old.db",
+            b"--layout=names.toml",
+        ],
+        "",
+        (3, "", "layout refused SameName\n", "names.toml\n"),
+    ),
+    (
+        &[b"seat_cli", b"join", b"--layout=seatless.toml"],
+        "",
+        (3, "", "layout refused BadSeats\n", "seatless.toml\n"),
+    ),
+    (
+        &[b"seat_cli", b"play", b"--layout=names.toml"],
+        "",
+        (3, "", "layout refused SameName\n", "names.toml\n"),
+    ),
+    (
+        &[b"seat_cli", b"judge", b"--layout=seatless.toml"],
+        "",
+        (3, "", "layout refused BadSeats\n", "seatless.toml\n"),
+    ),
+    (
+        &[b"seat_cli", b"run", b"--layout=names.toml"],
+        "",
+        (3, "", "layout refused SameName\n", "names.toml\n"),
+    ),
+];
+
+#[test]
+fn a_record_at_fault_is_named_where_a_site_is_to_be_served(rt: HostRuntime) {
+    assert_eq!(rt; wrongly_carried(&rt, rt.alloc(), &REFUSED), None);
+}
+
 // The same of `ask`: its words are one call, and no input is read.
-static ASKED: [Carried; 9] = [
+static ASKED: [Carried; 12] = [
     (
         &[
             b"seat_cli",
@@ -189,7 +323,7 @@ static ASKED: [Carried; 9] = [
             b"read a 7\nwrite a 8",
         ],
         "",
-        (1, "refused BadWord\n", "", "old.db\n"),
+        (1, "refused BadWord 3\n", "", "old.db\n"),
     ),
     (
         &[
@@ -228,7 +362,7 @@ static ASKED: [Carried; 9] = [
         "",
         (
             0,
-            "z234567890-34567890123456789012z {\"from\":0,\"rows\":[],\"v\":1}\n",
+            "z234567890-34567890123456789012z d6a41a2b6edb4b8d 49d0174c {\"from\":0,\"rows\":[],\"v\":1}\n",
             "",
             "old.db\n",
         ),
@@ -257,6 +391,43 @@ static ASKED: [Carried; 9] = [
         ],
         "",
         (2, "", "group refused BadWord\n", ""),
+    ),
+    (
+        &[
+            b"seat_cli",
+            b"ask",
+            b"--site=0",
+            b"--store=old.db",
+            b"--group=gave",
+            b"send",
+        ],
+        "",
+        (2, "", "group refused BadWord\n", ""),
+    ),
+    (
+        &[
+            b"seat_cli",
+            b"ask",
+            b"--site=0",
+            b"--store=old.db",
+            b"--group=east",
+            b"--plain",
+            b"send",
+        ],
+        "",
+        (2, "", "group refused Plain\n", ""),
+    ),
+    (
+        &[
+            b"seat_cli",
+            b"ask",
+            b"--site=0",
+            b"--store=old.db",
+            b"--plain",
+            b"send",
+        ],
+        "",
+        (0, "{\"from\":0,\"rows\":[],\"v\":1}\n", "", "old.db\n"),
     ),
     (
         &[b"seat_cli", b"ask", b"--site=2", b"--store=old.db", b"send"],

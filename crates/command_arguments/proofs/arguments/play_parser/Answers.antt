@@ -2,7 +2,7 @@ use Rattle.command_arguments.proofs.arguments.play_parser.Goals as goal
 
 pub returns : goal.returns
 returns c =
-    let tables = c.tables_flag.ensures in
+    let tables = c.flag.ensures in
     let first = c.number_option.ensures in
     let layout = c.layout_option.ensures in
     let bare = c.bare_command.ensures in

@@ -1,9 +1,9 @@
-use Rattle.std.proofs.Common.{◌≡◌, true, false, inl, sym, ap, subst, ◌∙◌}
+use Rattle.std.proofs.Common.{◌≡◌, true, false, inl, [], None, sym, ap, subst, ◌∙◌}
 use Rattle.admission_core.specs.Core.{is_memory}
 use Rattle.std.specs.Prelude.{Err}
 use Rattle.admission_core.specs.Kept.{ChangeState}
 use Rattle.desk_log.specs.Desk.{HasKept, KeepsChange}
-use Rattle.desk_log.proofs.StepLemmas.{unserved, not_memory, may_be_told, carried_out, not_kept}
+use Rattle.desk_log.proofs.StepLemmas.{unserved, not_memory, may_be_told, left_alone, carried_out, not_kept}
 use Rattle.desk_log.proofs.step.step.Goals as goal
 
 pub returns-in_default-clause-step : goal.returns-in_default-clause-step
@@ -64,3 +64,21 @@ returns-clause-step g c =
     subst (λ (x : ChangeState). HasKept g.K.Keeper c.args.keeper.now c.keep.new.keeper x) c.change.ensures c.in_default-keep.ensures.kept in
     λ a stands. inl (carried_out old c.prepare-prepared.new.self c.args.call.now p c.requires.core e.content e.ready e.change g.K.Keeper c.args.keeper.now c.keep.new.keeper
     c.apply-reply.new.self c.apply-reply.result there kept c.apply-reply.ensures.reply c.apply-reply.ensures.account c.apply-reply.ensures.unchanged a stands)
+
+pub returns-in-Err-clause-idle : goal.returns-in-Err-clause-idle
+returns-in-Err-clause-idle g c =
+    let old = c.args.core.now in
+    let p = c.prepare-prepared.result in
+    let e = c.prepare-prepared.ensures in
+    let there : is_memory p.reply ≡ false = sym (ap is_memory (c.in-Ok.ensures.copy ∙ c.reply.ensures)) ∙ (sym c.is_memory.ensures ∙ c.if-is_memory.false) in
+    left_alone old c.prepare-prepared.new.self c.args.call.now p c.requires.core e.content e.ready e.change c.args.keeper.now c.keep.new.keeper there
+    (subst (λ (x : ChangeState). x.cells ≡ [] → x.session ≡ None → c.keep.new.keeper ≡ c.args.keeper.now) c.change.ensures c.keep.ensures.idle)
+
+pub returns-clause-idle : goal.returns-clause-idle
+returns-clause-idle g c =
+    let old = c.args.core.now in
+    let p = c.prepare-prepared.result in
+    let e = c.prepare-prepared.ensures in
+    let there : is_memory p.reply ≡ false = sym (ap is_memory (c.in-Ok.ensures.copy ∙ c.reply.ensures)) ∙ (sym c.is_memory.ensures ∙ c.if-is_memory.false) in
+    left_alone old c.prepare-prepared.new.self c.args.call.now p c.requires.core e.content e.ready e.change c.args.keeper.now c.keep.new.keeper there
+    (subst (λ (x : ChangeState). x.cells ≡ [] → x.session ≡ None → c.keep.new.keeper ≡ c.args.keeper.now) c.change.ensures c.keep.ensures.idle)

@@ -1,7 +1,7 @@
 use Rattle.std.proofs.Common.{◌≤◌, ◌∙◌, refl, sym, subst, arith}
 use Rattle.line_conversation.specs.Stream.{HeldState, ReadsSoFar}
 use Rattle.line_conversation.proofs.AheadLemmas.{case_true, case_false}
-use Rattle.line_conversation.proofs.LineSteps.{line_begins, line_ends, more_came, last_line, read_more, uncounted}
+use Rattle.line_conversation.proofs.LineSteps.{line_begins, line_ends, more_came, input_ends, read_more, uncounted}
 use Rattle.line_conversation.proofs.reading.read_line.Goals as goal
 
 pub loop-reads-init : goal.loop-reads-init
@@ -18,13 +18,13 @@ returns-then-take_ahead-clause-read g c =
     line_ends c.args.source.now l.source c.args.ahead.now l.ahead l.held c.args.ended.now l.ended l.reads l.invariant.0 t.0 c.take_ahead.new.ahead c.take_ahead.new.held c.told.result
     t.1 t.2 t.3 c.told.ensures
 
-pub returns-else-is_empty-clause-read : goal.returns-else-is_empty-clause-read
-returns-else-is_empty-clause-read g c =
+pub returns-then-ended-clause-read : goal.returns-then-ended-clause-read
+returns-then-ended-clause-read g c =
     let l = c.loop-reads in
     let t = case_false _ _ _ c.if-take_ahead.false c.take_ahead.ensures.taken in
     let now = more_came c.args.source.now l.source c.args.ahead.now l.ahead l.held c.args.ended.now l.ended l.reads l.invariant.0 c.take_ahead.new.ahead c.take_ahead.new.held t.0 t.1 t.2 in
-    last_line c.args.source.now l.source c.args.ahead.now c.take_ahead.new.ahead c.take_ahead.new.held c.args.ended.now l.ended l.reads now t.1 c.is_empty.result c.told-else-is_empty.result
-    c.if-ended.true c.is_empty.ensures c.if-is_empty.false c.told-else-is_empty.ensures
+    input_ends c.args.source.now l.source c.args.ahead.now c.take_ahead.new.ahead c.take_ahead.new.held c.args.ended.now l.ended l.reads now t.1 c.end_input.new.self c.end_input.result
+    c.if-ended.true c.end_input.ensures.dropped (c.end_input.ensures.told now.line now.holds)
 
 pub loop-reads-preserved : goal.loop-reads-preserved
 loop-reads-preserved g c =

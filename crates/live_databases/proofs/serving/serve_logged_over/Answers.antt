@@ -2,21 +2,49 @@ use Rattle.std.proofs.Common.{rules, inl, inr, refl}
 use Rattle.live_databases.proofs.LiveLemmas.{found_one}
 use Rattle.live_databases.proofs.serving.serve_logged_over.Goals as goal
 
+pub returns-in-Err : goal.returns-in-Err
+returns-in-Err g c = inr (inr (inr (record {
+  error = c.in-Err.error;
+  opened = record {
+    stored = c.in-Err.ensures.store;
+    blank = c.in-Err.ensures.blank;
+    by_schema = c.in-Err.ensures.schema;
+    created = c.in-Err.ensures.created;
+    judged = c.in-Err.ensures.judged;
+    marked = c.in-Err.ensures.marked;
+    unmarked = c.in-Err.ensures.unmarked;
+    settles = c.in-Err.ensures.settles;
+    own = c.in-Err.ensures.own;
+    settles_or = c.in-Err.ensures.settles_or;
+    left = c.in-Err.ensures.left;
+    left_or = c.in-Err.ensures.left_or;
+    fault = c.in-Err.ensures.fault;
+    current = c.in-Err.ensures.current;
+    beside = c.in-Err.ensures.beside;
+  };
+  silent = refl;
+  is_refused = c.refused_store.ensures;
+  unmade = refl;
+})))
+
 pub returns-in-Err-load : goal.returns-in-Err-load
 returns-in-Err-load g c = inr (inr (inl (record {
-  keeper = c.in-Ok.keeper;
+  keeper = c.in-Ok.opened.0;
   keeper_now = c.load.new.self;
   opened = record {
     stored = c.in-Ok.ensures.store;
     blank = c.in-Ok.ensures.blank;
+    by_schema = c.in-Ok.ensures.schema;
+    created = c.in-Ok.ensures.created;
+    judged = c.in-Ok.ensures.judged;
+    marked = c.in-Ok.ensures.marked;
+    unmarked = c.in-Ok.ensures.unmarked;
     settles = c.in-Ok.ensures.settles;
     own = c.in-Ok.ensures.own;
     settles_or = c.in-Ok.ensures.settles_or;
-    own_or = c.in-Ok.ensures.own_or;
     left = c.in-Ok.ensures.left;
     left_or = c.in-Ok.ensures.left_or;
     fault = c.in-Ok.ensures.fault;
-    judged = c.in-Ok.ensures.judged;
     current = c.in-Ok.ensures.current;
     beside = c.in-Ok.ensures.beside;
   };
@@ -31,19 +59,22 @@ returns-in-Err-load g c = inr (inr (inl (record {
 
 pub returns-in-Err-open_log : goal.returns-in-Err-open_log
 returns-in-Err-open_log g c = inr (inl (record {
-  keeper = c.in-Ok.keeper;
+  keeper = c.in-Ok.opened.0;
   keeper_now = c.load.new.self;
   opened = record {
     stored = c.in-Ok.ensures.store;
     blank = c.in-Ok.ensures.blank;
+    by_schema = c.in-Ok.ensures.schema;
+    created = c.in-Ok.ensures.created;
+    judged = c.in-Ok.ensures.judged;
+    marked = c.in-Ok.ensures.marked;
+    unmarked = c.in-Ok.ensures.unmarked;
     settles = c.in-Ok.ensures.settles;
     own = c.in-Ok.ensures.own;
     settles_or = c.in-Ok.ensures.settles_or;
-    own_or = c.in-Ok.ensures.own_or;
     left = c.in-Ok.ensures.left;
     left_or = c.in-Ok.ensures.left_or;
     fault = c.in-Ok.ensures.fault;
-    judged = c.in-Ok.ensures.judged;
     current = c.in-Ok.ensures.current;
     beside = c.in-Ok.ensures.beside;
   };
@@ -59,20 +90,23 @@ returns-in-Err-open_log g c = inr (inl (record {
 
 pub returns : goal.returns
 returns g c = inl (record {
-  keeper = c.in-Ok.keeper;
+  keeper = c.in-Ok.opened.0;
   keeper_now = c.load.new.self;
   keeper_after = c.serve_engine-status.result.1;
   opened = record {
     stored = c.in-Ok.ensures.store;
     blank = c.in-Ok.ensures.blank;
+    by_schema = c.in-Ok.ensures.schema;
+    created = c.in-Ok.ensures.created;
+    judged = c.in-Ok.ensures.judged;
+    marked = c.in-Ok.ensures.marked;
+    unmarked = c.in-Ok.ensures.unmarked;
     settles = c.in-Ok.ensures.settles;
     own = c.in-Ok.ensures.own;
     settles_or = c.in-Ok.ensures.settles_or;
-    own_or = c.in-Ok.ensures.own_or;
     left = c.in-Ok.ensures.left;
     left_or = c.in-Ok.ensures.left_or;
     fault = c.in-Ok.ensures.fault;
-    judged = c.in-Ok.ensures.judged;
     current = c.in-Ok.ensures.current;
     beside = c.in-Ok.ensures.beside;
   };

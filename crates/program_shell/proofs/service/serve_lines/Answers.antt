@@ -4,7 +4,7 @@ use Rattle.program_shell.proofs.service.serve_lines.Goals as goal
 
 pub returns : goal.returns
 returns g c =
-    let begins : c.new-talk.result ≡ stream_between (option_copied c.args.opening.group) c.args.source c.args.sink = search rules in
+    let begins : c.new-talk.result ≡ stream_between (option_copied c.args.opening.service.group) c.args.opening.service.marking c.args.source c.args.sink = search rules in
     inl (record {
       after = c.serve_live-ended.new.conversation;
       ended = c.serve_live-ended.result;

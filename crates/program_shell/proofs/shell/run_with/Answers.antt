@@ -8,9 +8,10 @@ returns-in-Err-layout_at g c =
       lengths = c.in-Ok-cut_of.cut;
       cut_found = search rules;
       group_fits = search rules;
-      layout = Err c.in-Err-layout_at.fault;
+      marked = search rules;
+      layout = Err c.in-Err-layout_at.refusal;
       found = search rules;
-      carried_out = search rules;
+      carried_out = (search rules, search rules, rw (sym c.in-Ok.ensures.command) c.end_without_layout-code.ensures);
     })
 
 pub returns : goal.returns
@@ -20,6 +21,7 @@ returns g c =
       lengths = c.in-Ok-cut_of.cut;
       cut_found = search rules;
       group_fits = search rules;
+      marked = search rules;
       layout = Ok c.in-Ok-layout_at.layout;
       found = search rules;
       carried_out = rw (sym c.in-Ok.ensures.command, sym c.in-Ok.ensures.out, sym c.in-Ok.ensures.group, sym c.in-Ok.ensures.words) c.carry_out.ensures;

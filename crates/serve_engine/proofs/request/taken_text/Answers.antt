@@ -16,4 +16,5 @@ returns-in-None c = λ records. record {
   says_nothing = subst (λ (o : Option Said). Says records (codes "take " ++ c.args.text.now) o) c.in-None.is (c.in_ok-call.ensures records);
   no_show = refl;
   no_sessions = refl;
+  no_fence = refl;
 }

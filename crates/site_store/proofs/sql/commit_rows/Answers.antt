@@ -1,14 +1,12 @@
-use Rattle.std.proofs.Common.{◌≡◌, inl, inr, length, ◌+◌, Option, IfSome, Result, Err, ap, sym, subst, arith}
-use Rattle.std.proofs.lemmas.Bool.{both_ways}
+use Rattle.std.proofs.Common.{◌≡◌, Option, IfSome, Result, Err, ap, sym, subst, arith}
 use Rattle.sqlite.specs.Held.{Held}
 use Rattle.store_rows.specs.Holding.{Keeps, KeepsBeside}
 use Rattle.store_tables.specs.declared.error.TableError.{TableError}
-use Rattle.store_tables.specs.Kept.{connection_of, IsRefusalOf}
+use Rattle.store_tables.specs.Kept.{connection_of}
 use Rattle.store_content.specs.Plan.{IsPlan, IsPlanned, RowsState, Makes}
 use Rattle.site_store.specs.Errors.{keeper_error}
 use Rattle.durable_keeper.specs.declared.error.KeeperError.TheVariants.{StoreFault}
 use Rattle.site_store.proofs.SqlLemmas.{fault_is, unchanged, takes_rows, in_doubt, made_change}
-use Rattle.site_store.specs.Sql.{row_count}
 use Rattle.site_store.proofs.sql.commit_rows.Goals as goal
 
 abbrev error : TableError → Result (Unit {0}) TableError
@@ -71,26 +69,3 @@ returns-clause-beside g c layout site it others stores beside =
     c.put.ensures.beside it others (takes_rows layout site it c.args.change.now c.in-Some.rows stores.own makes) stores.kept beside
 
 -- ---- why it is refused
-
-pub returns-in_default-clause-refused : goal.returns-in_default-clause-refused
-returns-in_default-clause-refused g c layout site it stores clean fault =
-    inl (subst (λ (o : Option RowsState). IsPlanned c.args.change.now it o) c.in_default.is (c.in_ok-rows.ensures.rows it stores.known c.requires.tellable))
-
-pub returns-then-not-are_rows-clause-refused : goal.returns-then-not-are_rows-clause-refused
-returns-then-not-are_rows-clause-refused g c layout site it stores clean fault =
-    let makes : Makes c.args.change.now it c.in-Some.rows =
-    subst (λ (o : Option RowsState). IfSome o (Makes c.args.change.now it)) c.in-Some.is (c.in_ok-rows.ensures.law it stores.known stores.own.content c.requires.tellable) in
-    absurd (both_ways _ c.if-not-are_rows.true (c.are_rows.ensures.all makes.cells makes.notices makes.edit))
-
-pub returns-clause-refused : goal.returns-clause-refused
-returns-clause-refused g c layout site it stores clean fault =
-    let told : keeper_error c.in-Err.refusal ≡ StoreFault = grind (arith, fault, c.keeper_error.ensures) in
-    let is = fault_is c.in-Err.refusal (λ e. c.in-Err.ensures.kind (ap error e)) told in
-    let rows = c.in-Some.rows in
-    let makes : Makes c.args.change.now it rows =
-    subst (λ (o : Option RowsState). IfSome o (Makes c.args.change.now it)) c.in-Some.is (c.in_ok-rows.ensures.law it stores.known stores.own.content c.requires.tellable) in
-    let plan : IsPlan c.args.change.now it rows =
-    subst (λ (o : Option RowsState). IsPlanned c.args.change.now it o) c.in-Some.is (c.in_ok-rows.ensures.rows it stores.known c.requires.tellable) in
-    let count : length rows.cells + length rows.notices + 1 ≡ row_count c.args.change.now it = omega (arith, ap length plan.cells, ap length plan.notices) in
-    inr (subst (λ n. IsRefusalOf n c.args.tables.now c.put.new.tables) count
-    (c.in-Err.ensures.refused c.requires.sound it (takes_rows layout site it c.args.change.now rows stores.own makes) stores.kept clean (ap error is)))

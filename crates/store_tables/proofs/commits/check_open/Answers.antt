@@ -4,7 +4,7 @@ use Rattle.sqlite.specs.declared.error.Error.{Error}
 use Rattle.sqlite.specs.declared.error.Error.TheVariants.{SqliteFailure}
 use Rattle.sqlite.specs.declared.error.ErrorCode.TheVariants.{OutOfMemory}
 use Rattle.sqlite.specs.State.{IsNotRun}
-use Rattle.store_tables.specs.Refusals.{HasRefused, HasLackedMemory}
+use Rattle.store_rows.specs.Refusals.{HasRefused, HasLackedMemory}
 use Rattle.sqlite.specs.Held.{state}
 use Rattle.store_rows.proofs.RefusalLemmas.{two_bare, two_text}
 use Rattle.store_tables.proofs.RefusalLemmas.{same_error, two_refused, two_refused_either, two_same}

@@ -1,13 +1,8 @@
-use Rattle.std.proofs.Common.{◌⊎◌, inl, inr, length, ◌+◌, arith}
-use Rattle.std.proofs.Math.Logic.{∥∥₁_elim}
-use Rattle.std.proofs.lemmas.Bool.{cases_Bool}
-use Rattle.sqlite.specs.State.{HasCleanDisk}
-use Rattle.sqlite.specs.Held.{state}
-use Rattle.store_rows.specs.Rowids.{has_room}
+use Rattle.std.proofs.Common.{arith}
 use Rattle.store_rows.specs.Changes.{changed}
 use Rattle.store_rows.specs.Holding.{Holds, HoldsBeside}
 use Rattle.store_tables.specs.Transacts.{Takes, Turns}
-use Rattle.store_tables.proofs.KeepLemmas.{seen_is, store_of, HoldsBoth, turned, turned_beside, leaves_beside, leaves_both, leaves_done, leaves_either, leaves_still, on_ok_under}
+use Rattle.store_tables.proofs.KeepLemmas.{HoldsBoth, turned, turned_beside, leaves_beside, leaves_both, leaves_done, leaves_either, leaves_still, on_ok_under}
 use Rattle.store_tables.proofs.keeping.write_kept.Goals as goal
 
 pub returns-clause-done : goal.returns-clause-done
@@ -33,23 +28,3 @@ returns-clause-beside g c it others fits keeps beside =
 
 pub returns-clause-memory : goal.returns-clause-memory
 returns-clause-memory g c it keeps memory = leaves_still g.S.Store c.args.conn.now c.write.new.conn (Holds it) (c.write.ensures.undone memory) keeps
-
-pub returns-clause-fault : goal.returns-clause-fault
-returns-clause-fault g c it fits keeps clean fault =
-    let old = c.args.conn.now in
-    let now = (state g.S.Store old).now in
-    let early : HasCleanDisk (state g.S.Store old) = omega (arith, c.write.ensures.survives.clean, clean) in
-    let idle = c.is_autocommit-is_idle.ensures.settled (rw (c.is_autocommit-is_idle.ensures.value, c.requires.idle)) in
-    elim (cases_Bool (state g.S.Store old).is_open) [
-      | inl up ↦ elim (c.write.ensures.fault clean fault) [
-        | inl why ↦ inl why
-        | inr (inl lacked) ↦ inr (inl lacked)
-        | inr (inr unfit) ↦ elim (cases_Bool (has_room (length c.args.cells.now + length c.args.notices.now + 1) now.trees)) [
-          | inl room ↦
-              let seen = seen_is g.S.Store g.met.S.Store.settled g.met.S.Store.stays old (Holds it) keeps c.schema-schema.ensures.live idle early up in
-              absurd (∥∥₁_elim seen.1 (λ a b. absurd a) (λ holds. unfit it fits (store_of now it seen.0 holds) room))
-          | inr none ↦ inr (inr none)
-        ]
-      ]
-      | inr down ↦ inl (inr (inl down))
-    ]

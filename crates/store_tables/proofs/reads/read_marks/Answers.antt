@@ -1,6 +1,6 @@
 use Rattle.std.proofs.Common.{[], refl}
 use Rattle.sqlite.specs.Held.{state}
-use Rattle.store_tables.proofs.LookLemmas.{marks_shown}
+use Rattle.store_tables.proofs.LookLemmas.{marks_shown, names_shown}
 use Rattle.std.proofs.lemmas.Result.{err_from_is_err_and}
 use Rattle.store_rows.specs.Texts.{read_marks_text}
 use Rattle.store_rows.proofs.RefusalLemmas.{marks_whole}
@@ -27,3 +27,7 @@ pub returns-in_err-rows-clause-own : goal.returns-in_err-rows-clause-own
 returns-in_err-rows-clause-own g c bad =
     let p = err_from_is_err_and c.from_residual.result c.from_residual.ensures.1 in
     p.2.1 (one_error _ p.0 _ p.1 bad)
+
+pub returns-clause-shown : goal.returns-clause-shown
+returns-clause-shown g c clean v has =
+    names_shown (state g.S.Store c.args.tx.now.conn.now) (state g.S.Store c.query_all.new.self.conn.now) v has c.in_ok-rows.rows.items (c.in_ok-rows.ensures.ok clean)

@@ -3,6 +3,7 @@ use Rattle.sqlite.specs.State.{HasCleanDisk}
 use Rattle.sqlite.specs.Held.{state}
 use Rattle.sqlite.specs.Files.{over_files}
 use Rattle.store_rows.specs.Holding.{Holds, HoldsBeside, HoldsNothing, Leaves}
+use Rattle.store_tables.specs.Marking.{HasOutdatedMark}
 use Rattle.store_tables.proofs.RestartLemmas.{leaves_again, was_honest}
 use Rattle.store_tables.proofs.restart.restart.Goals as goal
 
@@ -46,3 +47,10 @@ returns-in-Ok-clause-honest g c clean =
     subst (λ h. HasCleanDisk (state over_files h)) c.into_connection.ensures
     (was_honest g.met.D.Disk.seen_may_stay c.into_connection.result c.into_store.result c.close-left.result (record { log = c.crash.new.self; db = c.crash-2.new.self }) c.in-Ok.conn c.into_store.ensures.numbered c.into_store.ensures.sound c.into_store.ensures.quiet
     c.close-left.ensures c.crash.ensures.left c.crash-2.ensures.left c.crash.ensures.clean c.crash-2.ensures.clean c.in-Ok.ensures.opened c.in-Ok.ensures.found (subst (λ h. HasCleanDisk (state over_files h)) c.over.ensures.connection clean))
+
+pub returns-in-Ok-clause-marked : goal.returns-in-Ok-clause-marked
+returns-in-Ok-clause-marked g c keeps =
+    let was = subst (λ h. Leaves over_files h HasOutdatedMark) (sym c.into_connection.ensures) keeps in
+    subst (λ h. Leaves over_files h HasOutdatedMark) (sym c.over.ensures.connection)
+    (leaves_again g.met.D.Disk.seen_may_stay c.into_connection.result c.into_store.result c.close-left.result (record { log = c.crash.new.self; db = c.crash-2.new.self }) c.in-Ok.conn c.into_store.ensures.numbered c.into_store.ensures.sound c.into_store.ensures.quiet
+    c.close-left.ensures c.crash.ensures.left c.crash-2.ensures.left c.crash.ensures.clean c.crash-2.ensures.clean c.in-Ok.ensures.opened c.in-Ok.ensures.found HasOutdatedMark was)

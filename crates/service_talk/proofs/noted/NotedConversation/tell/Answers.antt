@@ -1,4 +1,4 @@
-use Rattle.std.proofs.Common.{refl, sym, subst}
+use Rattle.std.proofs.Common.{sym, subst}
 use Rattle.service_talk.specs.Notes.{NotedState, TookPlace}
 use Rattle.service_talk.proofs.TalkLemmas.{noted_told}
 use Rattle.service_talk.proofs.noted.NotedConversation.tell.Goals as goal

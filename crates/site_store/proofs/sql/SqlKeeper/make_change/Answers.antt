@@ -95,11 +95,3 @@ returns-clause-beside g c d others keeps beside =
     (λ clean. let found = keeps (c.commit_rows.ensures.honest clean) in c.commit_rows.ensures.beside k.layout (row_of k) found.0 others found.1.0 beside)
 
 -- ---- why it is refused
-
-pub returns-clause-refused : goal.returns-clause-refused
-returns-clause-refused g c none it keeps clean fault =
-    let k = c.args.self.now in
-    c.commit_rows.ensures.refused k.layout (row_of k) it keeps clean fault
-
-pub returns-then-faults-gt0-clause-refused : goal.returns-then-faults-gt0-clause-refused
-returns-then-faults-gt0-clause-refused g c none it keeps clean fault = absurd (omega (arith, c.faults.ensures, c.if-faults-gt0.true, none))

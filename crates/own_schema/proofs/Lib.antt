@@ -1,0 +1,3 @@
+pub mod ExampleLemmas
+pub mod OriginLemmas
+pub mod TermLemmas

@@ -1,0 +1,3 @@
+pub mod Examples
+pub mod Made
+pub mod Parts

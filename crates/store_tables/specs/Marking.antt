@@ -1,0 +1,42 @@
+-- The mark of a store that is older than what others have seen of its site (this project's own): a row of the table meta.
+use Rattle.std.specs.Prelude.{◌≡◌, ℕ, Bool, true, false, List, drop, codes}
+use Rattle.sqlite_value.specs.declared.value.Value.TheVariants.{Text}
+use Rattle.sqlite_value.specs.Order.{Row, column}
+use Rattle.sqlite_trees.specs.Tree.{Trees}
+use Rattle.sqlite_rules.specs.Lists.{Has}
+use Rattle.sqlite.specs.Effect.{Database}
+use Rattle.store_schema.specs.declared.Version.TheVariants.{Second}
+use Rattle.store_schema.specs.Tables.{meta_tree}
+use Rattle.store_rows.specs.Rows.{Stored}
+use Rattle.store_rows.specs.Holding.{Mark, HasMark, IsStoreOf, mark}
+use Rattle.store_rows.specs.Steps.{SparesBeside}
+
+abbrev pub outdated_name : List ℕ
+outdated_name = codes "outdated"
+
+abbrev pub outdated_mark : Mark
+outdated_mark = mark outdated_name (codes "1")
+
+-- trees have the mark
+abbrev pub HasOutdatedMark : Trees → Type 0
+HasOutdatedMark db = HasMark (db meta_tree) outdated_mark
+
+-- trees have a row of its name, whatever its value
+pub record NamesOutdated (db : Trees) : Type 0 where
+  pub row : Row
+  pub there : Has (db meta_tree) row
+  pub named : column (drop 1 row) 0 ≡ Text outdated_name
+
+-- whether they have one is told
+abbrev pub TellsOutdated : Bool → Trees → Type 0
+TellsOutdated true db = NamesOutdated db
+TellsOutdated false db = ¬ NamesOutdated db
+
+-- a store of the second version gets the mark; what it holds stays, and so does what stands behind its tables
+abbrev pub MarksOutdated : Database → Database → Type 0
+MarksOutdated a b = (it : Stored) → it.version ≡ Second → IsStoreOf a it → IsStoreOf b it × (HasOutdatedMark b.trees × SparesBeside a b)
+
+-- rows that a look at meta shows have the names of its rows, and no others
+pub record ShowsNames (rows shown : List Row) : Type 0 where
+  pub from : (y : Row) → Has shown y → (name : List ℕ) → column y 0 ≡ Text name → (r : Row) × Has rows r × (column (drop 1 r) 0 ≡ Text name)
+  pub each : (r : Row) → Has rows r → (name : List ℕ) → column (drop 1 r) 0 ≡ Text name → (y : Row) × Has shown y × (column y 0 ≡ Text name)
