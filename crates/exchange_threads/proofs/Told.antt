@@ -20,7 +20,7 @@ use Rattle.exchange_threads.specs.declared.turn.Turn.{Turn}
 use Rattle.exchange_threads.specs.declared.turn.Turn.TheVariants.{GoesOn, IsOver, EndsRun}
 use Rattle.exchange_threads.specs.declared.telling.Telling.{Telling}
 use Rattle.exchange_threads.specs.Turns.{turn_after, stops_at, lacks_at, IsMarked}
-use Rattle.exchange_threads.specs.Outbox.{OutTurn, no_help, gate_shut, no_snapshot, no_text, text_sent, OutStop, at_help, at_snapshot, at_channel, help_receipt, shown_receipt, turn_receipts, stop_receipts, went_receipts, told_receipts, stops_in, stop_opens, stop_lost, is_sent_turn, is_lacking_turn, is_open_turn, is_snapshot, is_gift, IsTold, IsOutStop, HasTold, HasAsked, HasShown, IsShowing, after_help}
+use Rattle.exchange_threads.specs.Outbox.{OutTurn, no_help, gate_shut, no_snapshot, no_text, text_sent, OutStop, at_help, at_snapshot, at_channel, help_receipt, shown_receipt, turn_receipts, stop_receipts, went_receipts, told_receipts, stops_in, stop_lost, is_sent_turn, is_lacking_turn, GateAtTurn, GateAtStop, GateOverTurns, is_snapshot, is_gift, IsTold, IsOutStop, HasTold, HasAsked, HasShown, IsShowing, after_help}
 use Rattle.exchange_threads.proofs.Replies.{IsPlain, reply_kind, unshown_kind}
 
 count_one : {X : Type 0} (p : X → Bool) (x : X) → count_by p (x ∷ []) ≡ cond (p x) 1 0
@@ -58,8 +58,8 @@ told_plain n t went stop is =
     ∙ append-nil (went_receipts n t went)
 
 -- nothing was done
-pub told_same : (n : ℕ) (p : PassState) (r : OutReport) (from : ℕ) → HasTold n p p r r from from GoesOn
-told_same n p r from = record {
+pub told_same : {G : Type 0} (answers : G → ℕ → Bool → G → Type 0) (n : ℕ) (p : PassState) (gate : G) (r : OutReport) → HasTold answers n p p gate gate r r GoesOn
+told_same answers n p gate r = record {
   went = [];
   stop = None;
   number = refl;
@@ -68,15 +68,22 @@ told_same n p r from = record {
   helped = omega arith;
   sent = omega arith;
   memory = omega arith;
-  gate = omega arith;
+  gate = (gate, refl, refl);
   why = refl;
 }
 
+-- the gate over turns after turns
+gates_append : {G : Type 0} (answers : G → ℕ → Bool → G → Type 0) (t u : ℕ) (xs ys : List OutTurn) (a b c : G) → u ≡ t + length xs → GateOverTurns answers t xs a b → GateOverTurns answers u ys b c
+    → GateOverTurns answers t (xs ++ ys) a c
+gates_append {G} answers t u [] ys a b c is first second =
+    subst (λ (k : ℕ). GateOverTurns answers k ys a c) (omega (arith, is)) (subst (λ (x : G). GateOverTurns answers u ys x c) first second)
+gates_append answers t u (x ∷ xs) ys a b c is first second = (first.0, first.1, gates_append answers (t + 1) u xs ys first.0 b c (omega (arith, is)) first.2 second)
+
 -- a turn that did not end the run
-told_one : (n : ℕ) (old new : PassState) (x : OutTurn) (before now : OutReport) (from to : ℕ) (turn : Turn) → new.number ≡ old.number → new.receipts ≡ old.receipts ++ turn_receipts (before.turns % n) x
+told_one : {G : Type 0} (answers : G → ℕ → Bool → G → Type 0) (n : ℕ) (old new : PassState) (x : OutTurn) (a b : G) (before now : OutReport) (turn : Turn) → new.number ≡ old.number → new.receipts ≡ old.receipts ++ turn_receipts (before.turns % n) x
     → now.turns ≡ before.turns + 1 → now.helped ≡ before.helped + count_by is_gift (turn_receipts (before.turns % n) x) → now.sent ≡ before.sent + cond (is_sent_turn x) 1 0
-    → now.memory ≡ before.memory + cond (is_lacking_turn x) 1 0 → to ≡ from + cond (is_open_turn x) 1 0 → IsOutStop turn new None → HasTold n old new before now from to turn
-told_one n old new x before now from to turn number grows turns helped sent memory gate why =
+    → now.memory ≡ before.memory + cond (is_lacking_turn x) 1 0 → GateAtTurn answers before.turns x a b → IsOutStop turn new None → HasTold answers n old new a b before now turn
+told_one answers n old new x a b before now turn number grows turns helped sent memory gate why =
     let one : told_receipts n before.turns (x ∷ []) None ≡ turn_receipts (before.turns % n) x =
     append-nil (turn_receipts (before.turns % n) x ++ []) ∙ append-nil (turn_receipts (before.turns % n) x) in
     record {
@@ -88,15 +95,15 @@ told_one n old new x before now from to turn number grows turns helped sent memo
       helped = omega (arith, helped, ap (count_by is_gift) one);
       sent = omega (arith, sent, count_one is_sent_turn x);
       memory = omega (arith, memory, count_one is_lacking_turn x);
-      gate = omega (arith, gate, count_one is_open_turn x);
+      gate = (b, (b, gate, refl), refl);
       why = why;
     }
 
 -- the turn that ended the run
-told_end : (n : ℕ) (old new : PassState) (s : OutStop) (before now : OutReport) (from to : ℕ) → new.number ≡ old.number → new.receipts ≡ old.receipts ++ stop_receipts (before.turns % n) (Some s)
+told_end : {G : Type 0} (answers : G → ℕ → Bool → G → Type 0) (n : ℕ) (old new : PassState) (s : OutStop) (a b : G) (before now : OutReport) → new.number ≡ old.number → new.receipts ≡ old.receipts ++ stop_receipts (before.turns % n) (Some s)
     → now.turns ≡ before.turns + 1 → now.helped ≡ before.helped + count_by is_gift (stop_receipts (before.turns % n) (Some s)) → now.sent ≡ before.sent → now.memory ≡ before.memory
-    → to ≡ from + stop_opens (Some s) → IsOutStop EndsRun new (Some s) → HasTold n old new before now from to EndsRun
-told_end n old new s before now from to number grows turns helped sent memory gate why =
+    → GateAtStop answers before.turns (Some s) a b → IsOutStop EndsRun new (Some s) → HasTold answers n old new a b before now EndsRun
+told_end answers n old new s a b before now number grows turns helped sent memory gate why =
     let one : told_receipts n before.turns [] (Some s) ≡ stop_receipts (before.turns % n) (Some s) =
     ap (λ (k : ℕ). stop_receipts (k % n) (Some s)) (omega arith) in
     record {
@@ -108,18 +115,21 @@ told_end n old new s before now from to number grows turns helped sent memory ga
       helped = omega (arith, helped, ap (count_by is_gift) one);
       sent = omega (arith, sent);
       memory = omega (arith, memory);
-      gate = omega (arith, gate);
+      gate = (a, refl, subst (λ (k : ℕ). GateAtStop answers k (Some s) a b) (omega arith) gate);
       why = why;
     }
 
 -- turns after turns of which none ended the run
-pub told_both : (n : ℕ) (a b c : PassState) (r s t : OutReport) (i j k : ℕ) (x y : Turn) → stops_at x ≡ 0 → HasTold n a b r s i j x → HasTold n b c s t j k y → HasTold n a c r t i k y
-told_both n a b c r s t i j k x y goes_on first second =
+pub told_both : {G : Type 0} (answers : G → ℕ → Bool → G → Type 0) (n : ℕ) (a b c : PassState) (i j k : G) (r s t : OutReport) (x y : Turn) → stops_at x ≡ 0
+    → HasTold answers n a b i j r s x → HasTold answers n b c j k s t y → HasTold answers n a c i k r t y
+told_both {G} answers n a b c i j k r s t x y goes_on first second =
     let none : first.stop ≡ None = unstopped x b first.stop goes_on first.why in
     let plain : told_receipts n r.turns first.went first.stop ≡ went_receipts n r.turns first.went = told_plain n r.turns first.went first.stop none in
     let place : s.turns ≡ r.turns + length first.went = omega (arith, first.turns, ap stops_in none) in
     let all : told_receipts n r.turns (first.went ++ second.went) second.stop ≡ went_receipts n r.turns first.went ++ told_receipts n s.turns second.went second.stop =
     told_append n r.turns s.turns first.went second.went second.stop place in
+    let same : j ≡ first.gate.0 = subst (λ (o : Option OutStop). GateAtStop answers (r.turns + length first.went) o first.gate.0 j) none first.gate.2 in
+    let behind : GateOverTurns answers s.turns second.went first.gate.0 second.gate.0 = subst (λ (g : G). GateOverTurns answers s.turns second.went g second.gate.0) same second.gate.1 in
     record {
       went = first.went ++ second.went;
       stop = second.stop;
@@ -133,7 +143,11 @@ told_both n a b c r s t i j k x y goes_on first second =
       helped = omega (arith, first.helped, second.helped, ap (count_by is_gift) plain, ap (count_by is_gift) all, count_append is_gift (went_receipts n r.turns first.went) (told_receipts n s.turns second.went second.stop));
       sent = omega (arith, first.sent, second.sent, count_append is_sent_turn first.went second.went);
       memory = omega (arith, first.memory, second.memory, count_append is_lacking_turn first.went second.went);
-      gate = omega (arith, first.gate, second.gate, ap stop_opens none, count_append is_open_turn first.went second.went);
+      gate = (
+        second.gate.0,
+        gates_append answers r.turns s.turns first.went second.went i first.gate.0 second.gate.0 place first.gate.1 behind,
+        subst (λ (m : ℕ). GateAtStop answers m second.stop second.gate.0 k) (omega (arith, place, length-append first.went second.went)) second.gate.2,
+      );
       why = second.why;
     }
 
@@ -152,15 +166,15 @@ going_plain reply goes_on = by_kind (reply_kind reply)
     by_kind (inr (inr (inr is))) = let other : EndsRun ≡ GoesOn = sym (ap turn_after is) ∙ goes_on in cc
 
 -- a turn that ended as the site was asked to help
-ended_as : (n : ℕ) (old : PassState) (before : OutReport) (from : ℕ) (reply : Reply) → (turn_after reply ≡ GoesOn → ⊥)
-    → HasTold n old (pass_after old (AskCall (Help (before.turns % n))) reply) before (after_help before reply) from from (turn_after reply)
-ended_as n old before from reply over = by_kind (reply_kind reply)
+ended_as : {G : Type 0} (answers : G → ℕ → Bool → G → Type 0) (n : ℕ) (old : PassState) (gate : G) (before : OutReport) (reply : Reply) → (turn_after reply ≡ GoesOn → ⊥)
+    → HasTold answers n old (pass_after old (AskCall (Help (before.turns % n))) reply) gate gate before (after_help before reply) (turn_after reply)
+ended_as answers n old gate before reply over = by_kind (reply_kind reply)
   where
     call : Call
     call = AskCall (Help (before.turns % n))
 
     Goal : Reply → Type 0
-    Goal x = HasTold n old (pass_after old call x) before (after_help before x) from from (turn_after x)
+    Goal x = HasTold answers n old (pass_after old call x) gate gate before (after_help before x) (turn_after x)
 
     same : old.receipts ≡ old.receipts ++ []
     same = sym (append-nil old.receipts)
@@ -168,18 +182,19 @@ ended_as n old before from reply over = by_kind (reply_kind reply)
     by_kind : IsPlain reply ⊎ ((reply ≡ Refused Memory) ⊎ ((reply ≡ Refused Frozen) ⊎ (reply ≡ Refused LogFull))) → Goal reply
     by_kind (inl is) = absurd (over is.turn)
     by_kind (inr (inl is)) = subst Goal (sym is)
-        (told_one n old (pass_after old call (Refused Memory)) no_help before (after_help before (Refused Memory)) from from IsOver refl same refl (omega arith) (omega arith) refl (omega arith) refl)
+        (told_one answers n old (pass_after old call (Refused Memory)) no_help gate gate before (after_help before (Refused Memory)) IsOver refl same refl (omega arith) (omega arith) refl refl refl)
     by_kind (inr (inr (inl is))) = subst Goal (sym is)
-        (told_end n old (pass_after old call (Refused Frozen)) at_help before (after_help before (Refused Frozen)) from from refl same refl (omega arith) refl (omega arith) (omega arith) (inl (or_true old.frozen)))
+        (told_end answers n old (pass_after old call (Refused Frozen)) at_help gate gate before (after_help before (Refused Frozen)) refl same refl (omega arith) refl (omega arith) refl (inl (or_true old.frozen)))
     by_kind (inr (inr (inr is))) = subst Goal (sym is)
-        (told_end n old (pass_after old call (Refused LogFull)) at_help before (after_help before (Refused LogFull)) from from refl same refl (omega arith) refl (omega arith) (omega arith) (inr (or_true old.log_full)))
+        (told_end answers n old (pass_after old call (Refused LogFull)) at_help gate gate before (after_help before (Refused LogFull)) refl same refl (omega arith) refl (omega arith) refl (inr (or_true old.log_full)))
 
-pub told_ended : (n : ℕ) (old new : PassState) (before now : OutReport) (from : ℕ) (turn : Turn) → (turn ≡ GoesOn → ⊥) → HasAsked n old new before now turn → HasTold n old new before now from from turn
-told_ended n old new before now from turn over asked =
-    subst (λ (x : Turn). HasTold n old new before now from from x) (sym asked.went)
-    (subst (λ (x : OutReport). HasTold n old new before x from from (turn_after asked.reply)) (sym asked.report)
-    (subst (λ (x : PassState). HasTold n old x before (after_help before asked.reply) from from (turn_after asked.reply)) (sym asked.pass)
-    (ended_as n old before from asked.reply (λ goes_on. over (asked.went ∙ goes_on)))))
+pub told_ended : {G : Type 0} (answers : G → ℕ → Bool → G → Type 0) (n : ℕ) (old new : PassState) (gate : G) (before now : OutReport) (turn : Turn) → (turn ≡ GoesOn → ⊥) → HasAsked n old new before now turn
+    → HasTold answers n old new gate gate before now turn
+told_ended answers n old new gate before now turn over asked =
+    subst (λ (x : Turn). HasTold answers n old new gate gate before now x) (sym asked.went)
+    (subst (λ (x : OutReport). HasTold answers n old new gate gate before x (turn_after asked.reply)) (sym asked.report)
+    (subst (λ (x : PassState). HasTold answers n old x gate gate before (after_help before asked.reply) (turn_after asked.reply)) (sym asked.pass)
+    (ended_as answers n old gate before asked.reply (λ goes_on. over (asked.went ∙ goes_on)))))
 
 -- The site answered as it was asked to help, and the turn goes on.
 record IsHelped (n : ℕ) (old new : PassState) (before now : OutReport) (reply : Reply) : Type 0 where
@@ -203,20 +218,21 @@ is_helped n old new before now asked =
     }
 
 -- the gate was shut
-pub told_shut : (n : ℕ) (old new : PassState) (before now : OutReport) (from : ℕ) → HasAsked n old new before now GoesOn → HasTold n old new before now from from GoesOn
-told_shut n old new before now from asked =
+pub told_shut : {G : Type 0} (answers : G → ℕ → Bool → G → Type 0) (n : ℕ) (old new : PassState) (a b : G) (before now : OutReport) → answers a before.turns false b → HasAsked n old new before now GoesOn
+    → HasTold answers n old new a b before now GoesOn
+told_shut answers n old new a b before now shut asked =
     let is : IsHelped n old new before now asked.reply = is_helped n old new before now asked in
-    told_one n old new (gate_shut asked.reply) before now from from GoesOn is.number is.grows is.turns
-    (omega (arith, is.helped, count_one is_gift (help_receipt (before.turns % n) asked.reply))) (omega (arith, is.sent)) (omega (arith, is.memory)) (omega arith) refl
+    told_one answers n old new (gate_shut asked.reply) a b before now GoesOn is.number is.grows is.turns
+    (omega (arith, is.helped, count_one is_gift (help_receipt (before.turns % n) asked.reply))) (omega (arith, is.sent)) (omega (arith, is.memory)) shut refl
 
 -- what a gift and a snapshot count
 gifts_two : (r : ℕ) (reply : Reply) (d : DeltaState) → count_by is_gift (help_receipt r reply ∷ (shown_receipt d ∷ [])) ≡ cond (is_gift (help_receipt r reply)) 1 0
 gifts_two r reply d = omega (arith, sum_by-cons (λ (x : Receipt). cond (is_gift x) 1 0) (help_receipt r reply) (shown_receipt d ∷ []), count_one is_gift (shown_receipt d))
 
 -- the gate was open, and a snapshot was asked for
-pub told_shown : (n : ℕ) (old mid new : PassState) (before : OutReport) (told now : Telling) (from : ℕ) (turn : Turn)
-    → HasAsked n old mid before told.report GoesOn → HasShown mid new told now turn → HasTold n old new before now.report from (from + 1) turn
-told_shown n old mid new before told now from turn asked shown = by_reply shown.follows
+pub told_shown : {G : Type 0} (answers : G → ℕ → Bool → G → Type 0) (n : ℕ) (old mid new : PassState) (a b : G) (before : OutReport) (told now : Telling) (turn : Turn) → answers a before.turns true b
+    → HasAsked n old mid before told.report GoesOn → HasShown mid new told now turn → HasTold answers n old new a b before now.report turn
+told_shown answers n old mid new a b before told now turn opens asked shown = by_reply shown.follows
   where
     is : IsHelped n old mid before told.report asked.reply
     is = is_helped n old mid before told.report asked
@@ -234,7 +250,7 @@ told_shown n old mid new before told now from turn asked shown = by_reply shown.
     IsReply x = (new ≡ pass_after mid SnapshotCall x) × IsShowing x told now turn
 
     -- a snapshot was taken
-    with_snapshot : (d : DeltaState) → IsReply (Snapshot d) → HasTold n old new before now.report from (from + 1) turn
+    with_snapshot : (d : DeltaState) → IsReply (Snapshot d) → HasTold answers n old new a b before now.report turn
     with_snapshot d has = by_turn turn has.1
       where
         both : new.receipts ≡ old.receipts ++ help_receipt r asked.reply ∷ (shown_receipt d ∷ [])
@@ -246,50 +262,50 @@ told_shown n old mid new before told now from turn asked shown = by_reply shown.
         gifts : count_by is_gift (help_receipt r asked.reply ∷ (shown_receipt d ∷ [])) ≡ cond (is_gift (help_receipt r asked.reply)) 1 0
         gifts = gifts_two r asked.reply d
 
-        by_turn : (x : Turn) → IsShowing (Snapshot d) told now x → HasTold n old new before now.report from (from + 1) x
+        by_turn : (x : Turn) → IsShowing (Snapshot d) told now x → HasTold answers n old new a b before now.report x
         by_turn GoesOn same =
-            told_one n old new (text_sent asked.reply d) before now.report from (from + 1) GoesOn number both
+            told_one answers n old new (text_sent asked.reply d) a b before now.report GoesOn number both
             (ap (λ (x : Telling). x.report.turns) same ∙ is.turns)
             (omega (arith, ap (λ (x : Telling). x.report.helped) same, is.helped, gifts))
             (omega (arith, ap (λ (x : Telling). x.report.sent) same, is.sent))
-            (omega (arith, ap (λ (x : Telling). x.report.memory) same, is.memory)) (omega arith) refl
+            (omega (arith, ap (λ (x : Telling). x.report.memory) same, is.memory)) opens refl
         by_turn IsOver same =
-            told_one n old new (no_text asked.reply d) before now.report from (from + 1) IsOver number both
+            told_one answers n old new (no_text asked.reply d) a b before now.report IsOver number both
             (ap (λ (x : Telling). x.report.turns) same ∙ is.turns)
             (omega (arith, ap (λ (x : Telling). x.report.helped) same, is.helped, gifts))
             (omega (arith, ap (λ (x : Telling). x.report.sent) same, is.sent))
-            (omega (arith, ap (λ (x : Telling). x.report.memory) same, is.memory)) (omega arith) refl
+            (omega (arith, ap (λ (x : Telling). x.report.memory) same, is.memory)) opens refl
         by_turn EndsRun same =
-            told_end n old new (at_channel asked.reply d) before now.report from (from + 1) number both
+            told_end answers n old new (at_channel asked.reply d) a b before now.report number both
             (ap (λ (x : Telling). x.report.turns) same ∙ is.turns)
             (omega (arith, ap (λ (x : Telling). x.report.helped) same, is.helped, gifts))
             (ap (λ (x : Telling). x.report.sent) same ∙ is.sent)
-            (ap (λ (x : Telling). x.report.memory) same ∙ is.memory) (omega arith) tt
+            (ap (λ (x : Telling). x.report.memory) same ∙ is.memory) opens tt
 
     IsWhy : Refusal → Type 0
     IsWhy why = (why ≡ Memory) ⊎ ((why ≡ Frozen) ⊎ (why ≡ LogFull))
 
-    lacking : IsReply (Refused Memory) → HasTold n old new before now.report from (from + 1) turn
+    lacking : IsReply (Refused Memory) → HasTold answers n old new a b before now.report turn
     lacking has =
-        subst (λ (x : Turn). HasTold n old new before now.report from (from + 1) x) (sym has.1.1)
-        (told_one n old new (no_snapshot asked.reply) before now.report from (from + 1) IsOver number
+        subst (λ (x : Turn). HasTold answers n old new a b before now.report x) (sym has.1.1)
+        (told_one answers n old new (no_snapshot asked.reply) a b before now.report IsOver number
         (ap (λ (x : PassState). x.receipts) has.0 ∙ is.grows)
         (ap (λ (x : Telling). x.report.turns) has.1.0 ∙ is.turns)
         (omega (arith, ap (λ (x : Telling). x.report.helped) has.1.0, is.helped, gift))
         (omega (arith, ap (λ (x : Telling). x.report.sent) has.1.0, is.sent))
-        (omega (arith, ap (λ (x : Telling). x.report.memory) has.1.0, is.memory)) (omega arith) refl)
+        (omega (arith, ap (λ (x : Telling). x.report.memory) has.1.0, is.memory)) opens refl)
 
     stopped : (new.receipts ≡ mid.receipts) → IsMarked new → (now ≡ record { report = record told.report { memory = told.report.memory + 0 }; last = told.last }) → turn ≡ EndsRun
-        → HasTold n old new before now.report from (from + 1) turn
+        → HasTold answers n old new a b before now.report turn
     stopped grows marked same ends =
-        subst (λ (x : Turn). HasTold n old new before now.report from (from + 1) x) (sym ends)
-        (told_end n old new (at_snapshot asked.reply) before now.report from (from + 1) number (grows ∙ is.grows)
+        subst (λ (x : Turn). HasTold answers n old new a b before now.report x) (sym ends)
+        (told_end answers n old new (at_snapshot asked.reply) a b before now.report number (grows ∙ is.grows)
         (ap (λ (x : Telling). x.report.turns) same ∙ is.turns)
         (omega (arith, ap (λ (x : Telling). x.report.helped) same, is.helped, gift))
         (ap (λ (x : Telling). x.report.sent) same ∙ is.sent)
-        (omega (arith, ap (λ (x : Telling). x.report.memory) same, is.memory)) (omega arith) marked)
+        (omega (arith, ap (λ (x : Telling). x.report.memory) same, is.memory)) opens marked)
 
-    by_why : (why : Refusal) → IsWhy why → IsReply (Refused why) → HasTold n old new before now.report from (from + 1) turn
+    by_why : (why : Refusal) → IsWhy why → IsReply (Refused why) → HasTold answers n old new a b before now.report turn
     by_why why (inl at) has = lacking (subst (λ (x : Refusal). IsReply (Refused x)) at has)
     by_why why (inr (inl at)) has =
         let here : IsReply (Refused Frozen) = subst (λ (x : Refusal). IsReply (Refused x)) at has in
@@ -298,14 +314,15 @@ told_shown n old mid new before told now from turn asked shown = by_reply shown.
         let here : IsReply (Refused LogFull) = subst (λ (x : Refusal). IsReply (Refused x)) at has in
         stopped (ap (λ (x : PassState). x.receipts) here.0) (inr (ap (λ (x : PassState). x.log_full) here.0 ∙ or_true mid.log_full)) here.1.0 here.1.1
 
-    by_reply : CanFollow SnapshotCall shown.reply → HasTold n old new before now.report from (from + 1) turn
+    by_reply : CanFollow SnapshotCall shown.reply → HasTold answers n old new a b before now.report turn
     by_reply (inl (d, at)) = with_snapshot d (subst IsReply at (shown.pass, shown.showing))
     by_reply (inr (why, (at, may))) = by_why why (unshown_kind why may) (subst IsReply at (shown.pass, shown.showing))
 
 -- a turn that did not end the run is like any other
-pub told_on : (n : ℕ) (a b : PassState) (r s : OutReport) (from to : ℕ) (turn : Turn) → (turn ≡ EndsRun → ⊥) → HasTold n a b r s from to turn → HasTold n a b r s from to GoesOn
-told_on n a b r s from to GoesOn other told = told
-told_on n a b r s from to IsOver other told = record {
+pub told_on : {G : Type 0} (answers : G → ℕ → Bool → G → Type 0) (n : ℕ) (a b : PassState) (i j : G) (r s : OutReport) (turn : Turn) → (turn ≡ EndsRun → ⊥) → HasTold answers n a b i j r s turn
+    → HasTold answers n a b i j r s GoesOn
+told_on answers n a b i j r s GoesOn other told = told
+told_on answers n a b i j r s IsOver other told = record {
   went = told.went;
   stop = told.stop;
   number = told.number;
@@ -317,7 +334,7 @@ told_on n a b r s from to IsOver other told = record {
   gate = told.gate;
   why = told.why;
 }
-told_on n a b r s from to EndsRun other told = absurd (other refl)
+told_on answers n a b i j r s EndsRun other told = absurd (other refl)
 
 -- the site was asked for help and for snapshots alone
 kind_help : (r : ℕ) (reply : Reply) → IsTold (help_receipt r reply)

@@ -1,5 +1,5 @@
 -- What the refusals that an inbox counts are called (this project's own).
-use Rattle.std.specs.Prelude.{ℕ, ◌==◌, Bool, List, codes, Option, Some, None}
+use Rattle.std.specs.Prelude.{ℕ, ◌==◌, Bool, Option, Some, None}
 use Rattle.delta_codec.specs.declared.fault.DecodeError.{DecodeError}
 use Rattle.delta_codec.specs.declared.fault.DecodeError.TheVariants as Fault
 use Rattle.admission_model.specs.declared.reply.Refusal.TheVariants as Why
@@ -7,17 +7,6 @@ use Rattle.admission_model.specs.declared.reply.Reply.{Reply}
 use Rattle.admission_model.specs.declared.reply.Reply.TheVariants.{Refused}
 use Rattle.exchange_threads.specs.declared.names.RefusalName.{RefusalName}
 use Rattle.exchange_threads.specs.declared.names.RefusalName.TheVariants.{TooLong, NotUtf8, NotJson, NotCanonical, OtherLayout, BadRow, OwnRowAhead, StoreFault}
-
--- the name as reports write it
-abbrev pub name_text : RefusalName → List ℕ
-name_text TooLong = codes "TooLong"
-name_text NotUtf8 = codes "NotUtf8"
-name_text NotJson = codes "NotJson"
-name_text NotCanonical = codes "NotCanonical"
-name_text OtherLayout = codes "OtherLayout"
-name_text BadRow = codes "BadRow"
-name_text OwnRowAhead = codes "OwnRowAhead"
-name_text StoreFault = codes "StoreFault"
 
 -- the place of a name among all
 abbrev pub name_number : RefusalName → ℕ

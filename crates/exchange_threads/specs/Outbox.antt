@@ -115,13 +115,6 @@ abbrev pub stops_in : Option OutStop → ℕ
 stops_in None = 0
 stops_in (Some s) = 1
 
--- in how many of them the gate was open
-abbrev pub stop_opens : Option OutStop → ℕ
-stop_opens None = 0
-stop_opens (Some at_help) = 0
-stop_opens (Some (at_snapshot reply)) = 1
-stop_opens (Some (at_channel reply d)) = 1
-
 -- how many snapshots it lost: that whose text found the channel closed, which is the last receipt
 abbrev pub stop_lost : Option OutStop → ℕ
 stop_lost None = 0
@@ -144,13 +137,30 @@ is_lacking_turn (no_snapshot reply) = true
 is_lacking_turn (no_text reply d) = true
 is_lacking_turn (text_sent reply d) = false
 
--- the gate was asked, and was open
-abbrev pub is_open_turn : OutTurn → Bool
-is_open_turn no_help = false
-is_open_turn (gate_shut reply) = false
-is_open_turn (no_snapshot reply) = true
-is_open_turn (no_text reply d) = true
-is_open_turn (text_sent reply d) = true
+-- how a gate came out of a turn, which has this number: it was asked once, at this turn, and the turn went by its answer; or
+-- the turn did not get so far
+abbrev pub GateAtTurn : {G : Type 0} → (G → ℕ → Bool → G → Type 0) → ℕ → OutTurn → G → G → Type 0
+GateAtTurn answers t no_help old new = new ≡ old
+GateAtTurn answers t (gate_shut reply) old new = answers old t false new
+GateAtTurn answers t (no_snapshot reply) old new = answers old t true new
+GateAtTurn answers t (no_text reply d) old new = answers old t true new
+GateAtTurn answers t (text_sent reply d) old new = answers old t true new
+
+-- .. of the turn that ended the run, if one did
+abbrev pub GateAtStop : {G : Type 0} → (G → ℕ → Bool → G → Type 0) → ℕ → Option OutStop → G → G → Type 0
+GateAtStop answers t None old new = new ≡ old
+GateAtStop answers t (Some at_help) old new = new ≡ old
+GateAtStop answers t (Some (at_snapshot reply)) old new = answers old t true new
+GateAtStop answers t (Some (at_channel reply d)) old new = answers old t true new
+
+-- .. of turns from number t on, one after another
+abbrev pub GateOverTurns : {G : Type 0} → (G → ℕ → Bool → G → Type 0) → ℕ → List OutTurn → G → G → Type 0
+GateOverTurns answers t [] old new = new ≡ old
+GateOverTurns {G} answers t (x ∷ xs) old new = (next : G) × GateAtTurn answers t x old next × GateOverTurns answers (t + 1) xs next new
+
+-- .. and then of the one that ended the run
+abbrev pub GateOverRun : {G : Type 0} → (G → ℕ → Bool → G → Type 0) → ℕ → List OutTurn → Option OutStop → G → G → Type 0
+GateOverRun {G} answers t went stop old new = (last : G) × GateOverTurns answers t went old last × GateAtStop answers (t + length went) stop last new
 
 -- A turn ends the run where the pass was told that the site has stopped or that its log is full, or the channel was closed.
 abbrev pub IsOutStop : Turn → PassState → Option OutStop → Type 0
@@ -162,9 +172,9 @@ IsOutStop GoesOn p stop = stop ≡ None
 IsOutStop IsOver p stop = stop ≡ None
 
 -- Turns of an outbox went so and left these receipts in its pass, and its report counts them: the turns, the gifts of the
--- site, the texts that were sent, and the turns that met want of memory. Before, the gate had been open `from` times, and
--- now `to` times.
-pub record HasTold (records : ℕ) (old new : PassState) (before now : OutReport) (from to : ℕ) (last : Turn) : Type 0 where
+-- site, the texts that were sent, and the turns that met want of memory. The gate is what it became as it was asked in these
+-- turns, and they went by its answers.
+pub record HasTold {G : Type 0} (answers : G → ℕ → Bool → G → Type 0) (records : ℕ) (old new : PassState) (gate_old gate_new : G) (before now : OutReport) (last : Turn) : Type 0 where
   pub went : List OutTurn
   pub stop : Option OutStop
   pub number : new.number ≡ old.number
@@ -173,7 +183,7 @@ pub record HasTold (records : ℕ) (old new : PassState) (before now : OutReport
   pub helped : now.helped ≡ before.helped + count_by is_gift (told_receipts records before.turns went stop)
   pub sent : now.sent ≡ before.sent + count_by is_sent_turn went
   pub memory : now.memory ≡ before.memory + count_by is_lacking_turn went
-  pub gate : to ≡ from + (count_by is_open_turn went + stop_opens stop)
+  pub gate : GateOverRun answers before.turns went stop gate_old gate_new
   pub why : IsOutStop last new stop
 
 -- in each turn the site was helped at most once, and at most one text was sent, or the turn met want of memory
@@ -228,11 +238,10 @@ IsOutEnd _ asked r = r.turns ≡ asked
 
 -- A whole run of an outbox of a site with so many records, and how its last turn went. It asked for help and for snapshots
 -- alone, sent no more texts than it took snapshots, and sent the text of each snapshot but for those turns that met want of
--- memory, and the last snapshot where the channel was closed.
-pub record HasRunOut (records : ℕ) (old new : PassState) (asked : ℕ) (r : OutReport) : Type 0 where
+-- memory, and the last snapshot where the channel was closed. Each turn went by the answer of the gate that was handed in.
+pub record HasRunOut {G : Type 0} (answers : G → ℕ → Bool → G → Type 0) (records : ℕ) (old new : PassState) (gate_old gate_new : G) (asked : ℕ) (r : OutReport) : Type 0 where
   pub last : Turn
-  pub opened : ℕ
-  pub told : HasTold records old new nothing_told r 0 opened last
+  pub told : HasTold answers records old new gate_old gate_new nothing_told r last
   pub kinds : All IsTold (told_receipts records 0 told.went told.stop)
   pub shown : r.sent ≤ count_by is_snapshot (told_receipts records 0 told.went told.stop)
   pub unsent : count_by is_snapshot (told_receipts records 0 told.went told.stop) ≤ r.sent + r.memory + stop_lost told.stop
@@ -241,6 +250,6 @@ pub record HasRunOut (records : ℕ) (old new : PassState) (asked : ℕ) (r : Ou
 
 -- .. at an outlet that is closed or not now: a run that ended early found the site stopped or its log full, or the outlet
 -- closed
-pub record HasRunOutAt (closed : Type 0) (records : ℕ) (old new : PassState) (asked : ℕ) (r : OutReport) : Type 0 where
-  pub ran : HasRunOut records old new asked r
+pub record HasRunOutAt {G : Type 0} (answers : G → ℕ → Bool → G → Type 0) (closed : Type 0) (records : ℕ) (old new : PassState) (gate_old gate_new : G) (asked : ℕ) (r : OutReport) : Type 0 where
+  pub ran : HasRunOut answers records old new gate_old gate_new asked r
   pub early : ran.last ≡ EndsRun → closed ⊎ IsMarked new

@@ -11,7 +11,7 @@ pub use inlet::{Inlet, TakeError};
 pub use link::{LINK_CAPACITY, make_link};
 pub use names::RefusalName;
 pub use outbox::{run_outbox, run_outbox_at};
-pub use outlet::{Outlet, PutError};
+pub use outlet::{Outlet, PlainOutlet, PutError};
 pub use port::{End, Port, Report, run_links, run_port};
 pub use report::{InReport, MOST_TURNS, OutReport};
 

@@ -1,12 +1,12 @@
-ghost use Rattle.std.specs.Prelude.{◌≡◌, ◌≢◌, ◌⊎◌, Bool, if◌then◌else◌, ◌+◌, ◌<◌, ◌≤◌, List, ◌∷◌, ◌++◌, [], Option, None, length};
+ghost use Rattle.std.specs.Prelude.{◌≡◌, ◌⊎◌, ◌+◌, ◌<◌, ◌≤◌, List, ◌∷◌, ◌++◌, [], Option, None, length};
 ghost use Rattle.merge_core.specs.Delta.{DeltaState};
 ghost use Rattle.session_book.specs.declared.pass.Receipt.{Receipt};
 ghost use Rattle.exchange_threads.specs.declared.turn.Turn.TheVariants.{GoesOn, EndsRun};
 ghost use Rattle.exchange_threads.specs.Turns.{IsMarked};
 ghost use Rattle.exchange_threads.specs.Outbox.{HasAsked, HasShown, HasTold, HasRunOut, HasRunOutAt, IsOutAt, IsSending, shown_receipt};
 
-use crate::gate::{Gate, is_open};
-use crate::outlet::{Outlet, PutError};
+use crate::gate::Gate;
+use crate::outlet::{Outlet, PlainOutlet, PutError};
 use crate::report::OutReport;
 use crate::telling::Telling;
 use crate::turn::Turn;
@@ -105,19 +105,14 @@ fn out_turn<K: Keeper, L: Opening, G: Gate, O: Outlet, R: Wait>(
     site: &Site<K, L>,
     pass: &mut Pass<L>,
     gate: &mut G,
-    opened: &mut u64,
     outlet: &mut O,
     told: &mut Telling,
 ) -> Turn
     requires at { IsOutAt told.old.report.turns told.old.report }
     requires few { told.old.report.turns < 1000000000 }
-    requires opened { opened.old ≤ told.old.report.turns }
     requires accounts { O.accounts outlet.old pass.old.receipts told.old.report.sent told.old.last }
-    ensures told { HasTold (length site.now.layout.records) pass.old pass.new told.old.report told.new.report opened.old opened.new result }
+    ensures told { HasTold G.answers (length site.now.layout.records) pass.old pass.new gate.old gate.new told.old.report told.new.report result }
     ensures at { IsOutAt (told.old.report.turns + 1) told.new.report }
-    ensures opened { opened.new ≤ told.old.report.turns + 1 }
-    ensures asked { ((gate.new ≡ gate.old) × (opened.new ≡ opened.old) × (result ≢ GoesOn))
-        ⊎ ((b : Bool) × (G.answers gate.old told.old.report.turns b gate.new) × (opened.new ≡ opened.old + (if b then 1 else 0))) }
     ensures accounts { O.accounts outlet.new pass.new.receipts told.new.report.sent told.new.last }
     ensures early { result ≡ EndsRun → O.closed outlet.new ⊎ IsMarked pass.new }
     ensures same { O.same outlet.old outlet.new }
@@ -128,7 +123,7 @@ fn out_turn<K: Keeper, L: Opening, G: Gate, O: Outlet, R: Wait>(
         Turn::IsOver => return Turn::IsOver,
         Turn::EndsRun => return Turn::EndsRun,
     }
-    if !is_open(gate, opened, number) {
+    if !gate.open(number) {
         return Turn::GoesOn;
     }
     tell(rt, alloc, site, pass, outlet, told)
@@ -136,7 +131,8 @@ fn out_turn<K: Keeper, L: Opening, G: Gate, O: Outlet, R: Wait>(
 
 /// Runs an outbox of a site for so many turns, of which there are at most 10^9, at any outlet. As [`run_outbox`] does,
 /// whose channel is one. The caller shows that the outlet's account begins with the pass's receipts; afterwards it is
-/// right of what was put. A put that is refused as `Closed` ends the run, and one refused as `Memory` the turn.
+/// right of what was put. The gate is asked in each turn that gets so far, and each turn goes by its answer. A put that is
+/// refused as `Closed` ends the run, and one refused as `Memory` the turn.
 pub fn run_outbox_at<K: Keeper, L: Opening, G: Gate, O: Outlet, R: Wait>(
     rt: &R,
     alloc: Global,
@@ -148,14 +144,13 @@ pub fn run_outbox_at<K: Keeper, L: Opening, G: Gate, O: Outlet, R: Wait>(
 ) -> OutReport
     requires few { turns ≤ 1000000000 }
     requires accounts { O.accounts outlet.old pass.old.receipts 0 None }
-    ensures ran { HasRunOutAt (O.closed outlet.new) (length site.now.layout.records) pass.old pass.new turns result }
+    ensures ran { HasRunOutAt G.answers (O.closed outlet.new) (length site.now.layout.records) pass.old pass.new gate.old gate.new turns result }
     ensures accounts { (last : Option DeltaState) × O.accounts outlet.new pass.new.receipts result.sent last }
     ensures same { O.same outlet.old outlet.new }
 {
     let mut told = Telling::new();
-    let mut opened = 0;
     'turns: for _ in 0..turns {
-        let turn = out_turn(rt, alloc, site, pass, gate, &mut opened, outlet, &mut told);
+        let turn = out_turn(rt, alloc, site, pass, gate, outlet, &mut told);
         if let Turn::EndsRun = turn {
             return told.report;
         }
@@ -185,9 +180,12 @@ pub fn run_outbox<K: Keeper, L: Opening, G: Gate + Drop, R: Wait>(
     turns: u64,
 ) -> OutReport
     requires few { turns ≤ 1000000000 }
-    ensures { HasRunOut (length site.now.layout.records) pass.old pass.new turns result }
+    ensures { (gate_after : _) × HasRunOut G.answers (length site.now.layout.records) pass.old pass.new gate gate_after turns result }
 {
     let mut gate = gate;
-    let mut outlet = sender;
+    let mut outlet = PlainOutlet {
+        sender,
+        refused: None,
+    };
     run_outbox_at(rt, alloc, site, pass, &mut gate, &mut outlet, turns)
 }

@@ -3,6 +3,7 @@ ghost use Rattle.exchange_threads.specs.declared.outlet.PutError.TheVariants.{Cl
 ghost use Rattle.merge_core.specs.Delta.{DeltaState};
 ghost use Rattle.session_book.specs.declared.pass.Receipt.{Receipt};
 ghost use Rattle.exchange_threads.specs.Outbox.{sent_text, shown_receipt};
+ghost use Rattle.exchange_threads.specs.Links.{put_error, without_text};
 
 use crossbeam_channel::{SendError, Sender};
 use std::sync::Wait;
@@ -27,7 +28,7 @@ pub trait Outlet {
     /// Nobody will take a text any more.
     ghost closed: { Self → Type 0 };
 
-    /// It is as it was, its room aside.
+    /// It is as it was, its room aside, or has met want of memory.
     ghost rests: { Self → Self → Type 0 };
 
     /// It is the same outlet, perhaps later.
@@ -51,21 +52,55 @@ pub trait Outlet {
     ghost grows: { (e : Self) (rs more : List Receipt) (n : ℕ) (last : Option DeltaState) → accounts e rs n last → accounts e (rs ++ more) n last };
 }
 
-/// A channel keeps no account.
-impl Outlet for Sender<String> {
+// The error of a channel's send, without its text.
+fn without_text(error: SendError<String>) -> SendError<()>
+    ensures { result ≡ without_text error }
+{
+    match error {
+        SendError::Disconnected(_) => SendError::Disconnected(()),
+        SendError::OutOfMemory(_) => SendError::OutOfMemory(()),
+    }
+}
+
+// Why a text was not put, by that error.
+fn put_error(error: &SendError<()>) -> PutError
+    ensures { result ≡ put_error error.now }
+{
+    match error {
+        SendError::Disconnected(()) => PutError::Closed,
+        SendError::OutOfMemory(()) => PutError::Memory,
+    }
+}
+
+/// A channel's end. It keeps no account of its texts, but the last error that the channel gave, since no contract of a channel
+/// tells when a text is refused.
+#[derive(Drop)]
+pub struct PlainOutlet {
+    pub sender: Sender<String>,
+    pub refused: Option<SendError<()>>,
+}
+
+impl Outlet for PlainOutlet {
+    ghost use Rattle.std.specs.Prelude.{⊤};
+    ghost use Rattle.exchange_threads.specs.Links.{IsDisconnected, IsLacking};
+
     ghost accounts = { λ _ _ _ _. ⊤ };
 
-    ghost closed = { λ _. ⊤ };
+    ghost closed = { λ e. IsDisconnected e.refused };
 
-    ghost rests = { λ _ _. ⊤ };
+    ghost rests = { λ _ e. IsLacking e.refused };
 
     ghost same = { λ _ _. ⊤ };
 
     fn put<R: Wait>(&mut self, rt: &R, _place: u64, text: String) -> Result<(), PutError> {
-        match self.send(rt, text) {
+        match self.sender.send(rt, text) {
             Ok(()) => Ok(()),
-            Err(SendError::OutOfMemory(_)) => Err(PutError::Memory),
-            Err(SendError::Disconnected(_)) => Err(PutError::Closed),
+            Err(error) => {
+                let error = without_text(error);
+                let told = put_error(&error);
+                self.refused = Some(error);
+                Err(told)
+            }
         }
     }
 

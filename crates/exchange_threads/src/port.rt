@@ -49,7 +49,7 @@ pub fn run_port<K: Keeper, L: Opening, G: Gate + Drop, R: Wait>(
 )
     requires few { turns ≤ 1000000000 }
     requires there { IsSome port.old.link }
-    ensures { HasRunPort (length site.now.layout.records) turns port.old port.new }
+    ensures { HasRunPort G.answers (length site.now.layout.records) turns port.old port.new }
 {
     let Port { pass, link, report } = port;
     match link.take() {
@@ -76,7 +76,7 @@ pub fn run_links<
 >(rt: &R, alloc: Global, site: &Site<K, L>, ports: &mut [Port<L, G>], turns: u64)
     requires few { turns ≤ 1000000000 }
     requires there { All (λ p. IsSome p.link) ports.old }
-    ensures { (i : ℕ) (d : _) → i < length ports.old → HasRunPort (length site.now.layout.records) turns (slice_index_or ports.old i d) (slice_index_or ports.new i d) }
+    ensures { (i : ℕ) (d : _) → i < length ports.old → HasRunPort G.answers (length site.now.layout.records) turns (slice_index_or ports.old i d) (slice_index_or ports.new i d) }
 {
     let count = ports.len();
     if count == 0 {

@@ -1,28 +1,10 @@
 // What the refusals that an inbox meets are called.
 ghost use Rattle.std.specs.Prelude.{◌≡◌};
-ghost use Rattle.exchange_threads.specs.Names.{name_text, unread_name, merge_name};
+ghost use Rattle.exchange_threads.specs.Names.{unread_name, merge_name};
 
 use crate::names::RefusalName;
 use admission_core::{Refusal, Reply};
 use delta_codec::DecodeError;
-
-impl RefusalName {
-    /// The name as reports write it.
-    pub fn text(&self) -> &'static str
-        ensures { result.now ≡ name_text self.now }
-    {
-        match self {
-            RefusalName::TooLong => "TooLong",
-            RefusalName::NotUtf8 => "NotUtf8",
-            RefusalName::NotJson => "NotJson",
-            RefusalName::NotCanonical => "NotCanonical",
-            RefusalName::OtherLayout => "OtherLayout",
-            RefusalName::BadRow => "BadRow",
-            RefusalName::OwnRowAhead => "OwnRowAhead",
-            RefusalName::StoreFault => "StoreFault",
-        }
-    }
-}
 
 /// The name of what is wrong with a text that is no delta's, if it is not want of memory.
 pub fn unread_name(error: DecodeError) -> Option<RefusalName>

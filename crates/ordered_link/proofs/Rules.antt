@@ -1,5 +1,5 @@
 -- Each step on a link keeps its rule.
-use Rattle.std.proofs.Common.{◌≡◌, ◌≢◌, ◌≤◌, ℕ, zero, suc, true, false, true≢false, List, [], ◌∷◌, ◌++◌, length, set, sym, refl, ap, ◌∙◌, subst, ⊎_elim, append_assoc, append-nil, arith, length-append, Bool, String, Global}
+use Rattle.std.proofs.Common.{◌≡◌, ◌≢◌, ◌≤◌, ℕ, zero, suc, true, false, true≢false, List, [], ◌∷◌, ◌++◌, length, set, sym, refl, ap, ◌∙◌, subst, ⊎_elim, append_assoc, append-nil, arith, length-append, Bool}
 use mathlib.Core.Option.{some, some-ne-none}
 use lib.ListN.{get_elem?}
 use Rattle.crossbeam_channel.specs.Fifo.{Pushes, Pops, Forks, Merges, Learns}
@@ -9,7 +9,7 @@ use Rattle.ordered_link.specs.declared.rule.Parcel.{Parcel}
 use Rattle.ordered_link.specs.declared.rule.Parcel.TheVariants.{Text, Last}
 use Rattle.ordered_link.specs.declared.rule.Log.{Log}
 use Rattle.ordered_link.specs.Rule.{log, link_capacity, Fits, InOrder}
-use Rattle.ordered_link.specs.Ends.{texts_of, is_finished}
+use Rattle.ordered_link.specs.Ends.{texts_of, is_finished, late_texts}
 
 at_end : (l : List Log) (a b : Log) (j : ℕ) → get_elem? l j ≢ some b → get_elem? (l ++ a ∷ []) j ≡ some b → j ≡ length l
 at_end [] a b zero n e = refl
@@ -162,16 +162,52 @@ pub put_back : (v w : Log) (x : Parcel) (done : Bool) → done ≡ false → w �
 put_back v w x true is step = absurd (true≢false is)
 put_back v w x false is step = ap (λ (l : Log). texts_of l.put) step
 
--- a text that was taken is the last one
-pub took_text : (v w : Log) (x : Parcel) (t : String Global) (before : List (List ℕ)) → texts_of v.taken ≡ before → x ≡ Text t → w ≡ log v.puts v.takes v.put (v.taken ++ x ∷ [])
-    → texts_of w.taken ≡ before ++ string_bytes t ∷ []
-took_text v w x t before was is step =
-    ap (λ (l : Log). texts_of l.taken) step ∙ (texts_append v.taken (x ∷ [])
-    ∙ (ap (λ (y : Parcel). texts_of v.taken ++ texts_of (y ∷ [])) is ∙ ap (λ (ts : List (List ℕ)). ts ++ string_bytes t ∷ []) was))
+-- no text stands behind a word that is not there
+none_late : (ps : List Parcel) → is_finished ps ≡ false → late_texts ps ≡ []
+none_late [] none = refl
+none_late (Text s ∷ ps) none = none_late ps none
+none_late (Last ∷ ps) none = absurd (true≢false none)
 
--- the last parcel is no text
-pub took_last : (v w : Log) (x : Parcel) (before : List (List ℕ)) → texts_of v.taken ≡ before → x ≡ Last → w ≡ log v.puts v.takes v.put (v.taken ++ x ∷ [])
-    → texts_of w.taken ≡ before
-took_last v w x before was is step =
-    ap (λ (l : Log). texts_of l.taken) step ∙ (texts_append v.taken (x ∷ [])
-    ∙ (ap (λ (y : Parcel). texts_of v.taken ++ texts_of (y ∷ [])) is ∙ (append-nil (texts_of v.taken) ∙ was)))
+late_after : (ps qs : List Parcel) → is_finished ps ≡ true → late_texts (ps ++ qs) ≡ late_texts ps ++ texts_of qs
+late_after [] qs told = absurd (true≢false (sym told))
+late_after (Text s ∷ ps) qs told = late_after ps qs told
+late_after (Last ∷ ps) qs told = texts_append ps qs
+
+late_before : (ps : List Parcel) (x : Parcel) → is_finished ps ≡ false → late_texts (ps ++ x ∷ []) ≡ []
+late_before [] (Text s) none = refl
+late_before [] Last none = refl
+late_before (Text s ∷ ps) x none = late_before ps x none
+late_before (Last ∷ ps) x none = absurd (true≢false none)
+
+-- a parcel that was put behind that word is late
+late_one : (ps : List Parcel) (x : Parcel) (told : Bool) → is_finished ps ≡ told → late_texts (ps ++ x ∷ []) ≡ late_texts ps ++ (if told then texts_of (x ∷ []) else [])
+late_one ps x true is = late_after ps (x ∷ []) is
+late_one ps x false is = late_before ps x is ∙ (sym (none_late ps is) ∙ sym (append-nil (late_texts ps)))
+
+pub late_on : (v w : Log) (x : Parcel) (done : Bool) → done ≡ true → w ≡ log v.puts v.takes (v.put ++ x ∷ []) v.taken
+    → late_texts w.put ≡ (if done then late_texts v.put ++ (if is_finished v.put then texts_of (x ∷ []) else []) else late_texts v.put)
+late_on v w x true is step = ap (λ (l : Log). late_texts l.put) step ∙ late_one v.put x (is_finished v.put) refl
+late_on v w x false is step = absurd (true≢false (sym is))
+
+pub late_back : (v w : Log) (x : Parcel) (done : Bool) → done ≡ false → w ≡ v
+    → late_texts w.put ≡ (if done then late_texts v.put ++ (if is_finished v.put then texts_of (x ∷ []) else []) else late_texts v.put)
+late_back v w x true is step = absurd (true≢false is)
+late_back v w x false is step = ap (λ (l : Log). late_texts l.put) step
+
+-- where that word was taken, it was put, and all texts were taken that were put before it
+pub all_taken : (put taken items : List Parcel) → put ≡ taken ++ items → is_finished taken ≡ true → (is_finished put ≡ true) × (late_texts put ≡ [] → texts_of items ≡ [])
+all_taken put taken items is told = (
+  ap is_finished is ∙ (finished_append taken items ∙ ap (λ (b : Bool). b || is_finished items) told),
+  λ none. none_behind (late_texts taken) (texts_of items) (sym (late_after taken items told) ∙ (ap late_texts (sym is) ∙ none)),
+)
+  where
+    none_behind : (xs ys : List (List ℕ)) → xs ++ ys ≡ [] → ys ≡ []
+    none_behind [] ys none = none
+    none_behind (x ∷ xs) ys none = cc
+
+-- a parcel that was taken is the last one
+pub took_texts : (v w : Log) (x : Parcel) → w ≡ log v.puts v.takes v.put (v.taken ++ x ∷ []) → texts_of w.taken ≡ texts_of v.taken ++ texts_of (x ∷ [])
+took_texts v w x step = ap (λ (l : Log). texts_of l.taken) step ∙ texts_append v.taken (x ∷ [])
+
+pub took_word : (v w : Log) (x : Parcel) → w ≡ log v.puts v.takes v.put (v.taken ++ x ∷ []) → is_finished w.taken ≡ (is_finished v.taken || is_finished (x ∷ []))
+took_word v w x step = ap (λ (l : Log). is_finished l.taken) step ∙ finished_append v.taken (x ∷ [])

@@ -20,6 +20,12 @@ is_finished [] = false
 is_finished (Text s ∷ ps) = is_finished ps
 is_finished (Last ∷ ps) = true
 
+-- the texts behind the first word that no text will follow
+abbrev pub late_texts : List Parcel → List (List ℕ)
+late_texts [] = []
+late_texts (Text s ∷ ps) = late_texts ps
+late_texts (Last ∷ ps) = texts_of ps
+
 -- what tells one link from another
 abbrev pub LinkId : Type 0
 LinkId = TableId × Badge (Key Parcel)
@@ -39,8 +45,16 @@ put_by p = texts_of (view p).put
 abbrev pub finished_by : LinkPass → Bool
 finished_by p = is_finished (view p).put
 
+-- the texts that it has put behind that word
+abbrev pub late_by : LinkPass → List (List ℕ)
+late_by p = late_texts (view p).put
+
 abbrev pub taken_by : LinkPass → List (List ℕ)
 taken_by p = texts_of (view p).taken
+
+-- the pass has taken that word
+abbrev pub ended_by : LinkPass → Bool
+ended_by p = is_finished (view p).taken
 
 -- the pass is the one that puts, or the one that takes
 abbrev pub MayPut : LinkPass → Type 0
@@ -57,6 +71,8 @@ pub record PutterState : Type 0 where
   pub put : List (List ℕ)
   -- the word that no text will follow was put
   pub finished : Bool
+  -- the texts that were put behind it
+  pub late : List (List ℕ)
   -- a put was refused, since the other end is closed
   pub closed : Bool
 
@@ -64,6 +80,8 @@ pub record PutterState : Type 0 where
 pub record TakerState : Type 0 where
   pub link : LinkId
   pub taken : List (List ℕ)
+  -- the word that no text will follow was taken
+  pub finished : Bool
   -- a take found that no text will come
   pub ended : Bool
   -- it has a receiver, since it has not been closed

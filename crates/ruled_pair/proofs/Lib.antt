@@ -1,2 +1,4 @@
 pub mod Sending
 pub mod Hearing
+pub mod Ending
+pub mod Reporting

@@ -1,6 +1,7 @@
 -- How the reports of both ends grow. The proofs stand here since the laws of the ends cite them.
-use Rattle.std.specs.Prelude.{◌≡◌, ℕ, ◌+◌, ◌<◌, Bool, List, [], ◌∷◌, ◌++◌, length, Option, Some, slice_get}
-use Rattle.std.proofs.Common.{ap, ◌∙◌, arith, length-append}
+use Rattle.std.specs.Prelude.{◌≡◌, ℕ, ◌+◌, ◌<◌, ◌≤◌, Bool, List, [], ◌∷◌, ◌++◌, length, Option, Some, slice_get}
+use Rattle.std.proofs.Common.{ap, sym, subst, ◌∙◌, length-append}
+use Rattle.std.proofs.Math.Nat.{le_trans, lt_of_lt_of_le, le-add_right}
 use Rattle.std.proofs.lemmas.Option.{slice_get_within, slice_get-get_or, get_or_from_slice_get}
 use Rattle.std.proofs.lemmas.List.{get_or_append_left}
 use Rattle.merge_core.specs.Delta.{DeltaState}
@@ -14,7 +15,7 @@ use Rattle.ruled_pair.specs.Heard.{AreHeard}
 pub get_append : {X : Type 0} (xs more : List X) (at : ℕ) (x : X) → slice_get xs at ≡ Some x → slice_get (xs ++ more) at ≡ Some x
 get_append xs more at x is =
     let within : at < length xs = slice_get_within xs at x is in
-    slice_get-get_or (xs ++ more) at x (omega (arith, within, length-append xs more))
+    slice_get-get_or (xs ++ more) at x (subst (λ (n : ℕ). at < n) (sym (length-append xs more)) (lt_of_lt_of_le within (le-add_right (length xs) (length more))))
     ∙ (ap Some (get_or_append_left xs more x at within) ∙ ap Some (get_or_from_slice_get xs at x x is))
 
 shown_grows : (rs more : List Receipt) (first : ℕ) (ats : List ℕ) (ds : List DeltaState) → AreShownAt rs first ats ds → AreShownAt (rs ++ more) first ats ds
@@ -26,7 +27,7 @@ shown_grows rs more first (at ∷ ats) (d ∷ ds) shown = (shown.0, get_append r
 pub sent_grows : {first : ℕ} {ats : List ℕ} {texts : List (List ℕ)} {n : ℕ} {last : Option DeltaState} (rs more : List Receipt) → AreSent rs first ats texts n last
     → AreSent (rs ++ more) first ats texts n last
 sent_grows {first} {ats} rs more sent = record {
-  begun = omega (arith, sent.begun, length-append rs more);
+  begun = subst (λ (n : ℕ). first ≤ n) (sym (length-append rs more)) (le_trans sent.begun (le-add_right (length rs) (length more)));
   snapshots = sent.snapshots;
   shown = shown_grows rs more first ats sent.snapshots sent.shown;
   texts_are = sent.texts_are;
@@ -39,6 +40,6 @@ pub heard_lacks : {first : ℕ} {texts : List (List ℕ)} {fates : List Fate} (r
 heard_lacks rs m k ended heard = record {
   begun = heard.begun;
   fated = heard.fated;
-  lacking = omega (arith, heard.lacking);
+  lacking = le_trans heard.lacking (le-add_right m k);
   ends = heard.ends;
 }

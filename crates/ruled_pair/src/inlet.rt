@@ -49,7 +49,7 @@ impl RuledInlet {
 }
 
 impl Inlet for RuledInlet {
-    ghost use Rattle.std.specs.Prelude.{◌≡◌, true, false, ◌<◌, ◌∷◌, ◌++◌, [], map, string_bytes, vec_len, vec_capacity};
+    ghost use Rattle.std.specs.Prelude.{◌≡◌, ◌⊎◌, true, false, ◌<◌, ◌∷◌, ◌++◌, [], map, string_bytes, vec_len, vec_capacity};
     ghost use Rattle.ruled_pair.specs.Heard.{AreHeard};
     ghost use Rattle.std.proofs.Common.{refl, ◌∙◌};
     ghost use Rattle.ruled_pair.specs.Growing.{heard_lacks};
@@ -61,9 +61,9 @@ impl Inlet for RuledInlet {
         × (e.taker.taken ≡ map string_bytes e.taken.items ++ text ∷ []) × (texts ≡ map string_bytes e.taken.items)
         × (vec_len e.taken < vec_capacity e.taken) × (vec_len e.fates < vec_capacity e.fates) };
 
-    ghost closed = { λ e. e.taker.ended ≡ true };
+    ghost closed = { λ e. e.taker.finished ≡ true };
 
-    ghost rests = { λ a b. b.taker ≡ a.taker };
+    ghost rests = { λ a b. (b.taker ≡ a.taker) ⊎ (b.taker ≡ record a.taker { ended = true; receives = false }) };
 
     ghost same = { λ a b. (b.first ≡ a.first) × (b.taker.link ≡ a.taker.link) };
 
@@ -73,7 +73,9 @@ impl Inlet for RuledInlet {
         }
         match self.taker.take(rt) {
             Some(text) => Ok(text),
-            None => Err(TakeError::Closed),
+            None if self.taker.is_finished() => Err(TakeError::Closed),
+            // This never happens, since the other end stays until this runner has ended, but no clause can say so.
+            None => Err(TakeError::Memory),
         }
     }
 

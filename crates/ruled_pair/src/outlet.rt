@@ -51,12 +51,13 @@ impl RuledOutlet {
 }
 
 impl Outlet for RuledOutlet {
-    ghost use Rattle.std.specs.Prelude.{◌≡◌, true, map, string_bytes};
+    ghost use Rattle.std.specs.Prelude.{◌≡◌, true, false, [], map, string_bytes};
     ghost use Rattle.ruled_pair.specs.Sent.{AreSent};
     ghost use Rattle.std.proofs.Common.{refl, ◌∙◌};
     ghost use Rattle.ruled_pair.specs.Growing.{sent_grows};
 
-    ghost accounts = { λ e rs n last. AreSent rs e.first e.sent_at.items (map string_bytes e.put.items) n last × (e.putter.put ≡ map string_bytes e.put.items) };
+    ghost accounts = { λ e rs n last. AreSent rs e.first e.sent_at.items (map string_bytes e.put.items) n last × (e.putter.put ≡ map string_bytes e.put.items)
+        × (e.putter.finished ≡ false) × (e.putter.late ≡ []) };
 
     ghost closed = { λ e. e.putter.closed ≡ true };
 
@@ -80,5 +81,5 @@ impl Outlet for RuledOutlet {
 
     ghost same_later = { λ a b c first then. (then.0 ∙ first.0, then.1 ∙ first.1) };
 
-    ghost grows = { λ e rs more n last right. (sent_grows rs more right.0, right.1) };
+    ghost grows = { λ e rs more n last right. (sent_grows rs more right.0, right.1, right.2, right.3) };
 }

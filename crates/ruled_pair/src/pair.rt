@@ -1,9 +1,8 @@
-ghost use Rattle.std.specs.Prelude.{◌≡◌, ◌≢◌, ◌≤◌, ℕ, List, ◌++◌, length, map, string_bytes, IfOk, IfErr, OnOk, OnErr};
+ghost use Rattle.std.specs.Prelude.{◌≡◌, ◌≢◌, ◌≤◌, length, map, string_bytes, IfOk, IfErr, OnOk, OnErr};
 ghost use denote.Param.Send.{IsSend, IsSync};
-ghost use Rattle.ordered_link.specs.Rule.{link_capacity};
 ghost use Rattle.exchange_threads.specs.Outbox.{HasRunOut};
 ghost use Rattle.exchange_threads.specs.Inbox.{HasRunIn};
-ghost use Rattle.ruled_pair.specs.Pairs.{HasRunBoth, HasSent, HasTaken, IsFresh, IsFreshInlet, IsFreshOutlet, IsPairReport, IsRefusal};
+ghost use Rattle.ruled_pair.specs.Pairs.{HasRunBoth, HasSent, HasTaken, IsFresh, IsFreshInlet, IsFreshOutlet, IsPairReport, IsRefusal, IsReportOf, MayEndIn, MayEndOut};
 
 use crate::inlet::RuledInlet;
 use crate::outlet::RuledOutlet;
@@ -83,8 +82,9 @@ fn send_texts<K: Keeper, L: Opening, G: Gate, R: Wait>(
 ) -> OutReport
     requires few { turns ≤ 1000000000 }
     requires fresh { IsFreshOutlet outlet.old (length pass.old.receipts) }
-    ensures ran { HasRunOut (length site.now.layout.records) pass.old pass.new turns result }
+    ensures ran { HasRunOut G.answers (length site.now.layout.records) pass.old pass.new gate.old gate.new turns result }
     ensures sent { HasSent outlet.old outlet.new pass.new.receipts result.sent }
+    ensures ending { MayEndOut turns pass.new outlet.new result }
 {
     let report = run_outbox_at(rt, alloc, site, pass, gate, outlet, turns);
     outlet.putter.finish(rt);
@@ -104,6 +104,7 @@ fn take_texts<K: Keeper, L: Opening, R: Wait>(
     requires fresh { IsFreshInlet inlet.old (length pass.old.receipts) }
     ensures ran { HasRunIn (map string_bytes inlet.new.taken.items) pass.old pass.new turns result }
     ensures taken { HasTaken inlet.old inlet.new pass.new result.memory }
+    ensures ending { MayEndIn turns pass.new inlet.new result }
 {
     let report = run_inbox_at(rt, alloc, site, pass, inlet, turns);
     inlet.taker.close();
@@ -131,7 +132,8 @@ fn run_direction<
 ) -> (OutReport, InReport)
     requires few { turns ≤ 1000000000 }
     requires fresh { IsFresh direction.old (length out_pass.old.receipts) (length in_pass.old.receipts) }
-    ensures { HasRunBoth (length from.now.layout.records) turns out_pass.old out_pass.new in_pass.old in_pass.new direction.old direction.new result.0 result.1 }
+    ensures { HasRunBoth G.answers (length from.now.layout.records) turns
+        out_pass.old out_pass.new in_pass.old in_pass.new gate.old gate.new direction.old direction.new result.0 result.1 }
 {
     let Direction { outlet, inlet } = direction;
     // if no thread can be started, the sender runs first: up to 15 texts and the closing word fit the link
@@ -146,13 +148,7 @@ fn run_direction<
 // The report of a direction whose runners have ended.
 fn report_of(direction: Direction, out: OutReport, got: InReport) -> PairReport
     requires link { direction.outlet.putter.link ≡ direction.inlet.taker.link }
-    ensures link { (rest : List (List ℕ)) × (direction.outlet.putter.put ≡ direction.inlet.taker.taken ++ rest) × (length rest ≤ link_capacity) }
-    ensures put { result.put ≡ direction.outlet.put }
-    ensures taken { result.taken ≡ direction.inlet.taken }
-    ensures sent_at { result.sent_at ≡ direction.outlet.sent_at }
-    ensures fates { result.fates ≡ direction.inlet.fates }
-    ensures out { result.out ≡ out }
-    ensures got { result.got ≡ got }
+    ensures { IsReportOf direction out got result }
 {
     let Direction { outlet, inlet } = direction;
     let RuledOutlet {
@@ -185,7 +181,9 @@ fn report_of(direction: Direction, out: OutReport, got: InReport) -> PairReport
 /// Refused, before any runner starts, in this order: `NoLink`; `Memory`. Where a thread can't be
 /// started, runners run in turn, and then may wait for ever for one another. May wait.
 ///
-/// That what is taken is a prefix of what was put goes by a rule that the channel keeps under every schedule.
+/// That what is taken is a prefix of what was put goes by a rule that the channel keeps under every schedule. Each outbox goes
+/// by its own site's gate. Where one made fewer turns, a site of the link had stopped or its log was full, or the inbox met
+/// want of memory.
 ///
 /// The reports keep each text twice, once as put and once as taken, until they are dropped: so memory grows with the turns,
 /// linearly in the sum of the lengths of all texts. Each put copies its text.
@@ -208,10 +206,10 @@ pub fn run_ruled_pair<
 ) -> Result<(PairReport, PairReport), PairError>
     requires few { turns ≤ 1000000000 }
     ensures ran { IfOk result (λ reports.
-        IsPairReport (length first.now.layout.records) turns
-        first_end.old.out_pass first_end.new.out_pass second_end.old.in_pass second_end.new.in_pass reports.0
-        × IsPairReport (length second.now.layout.records) turns
-        second_end.old.out_pass second_end.new.out_pass first_end.old.in_pass first_end.new.in_pass reports.1) }
+        IsPairReport G.answers (length first.now.layout.records) turns
+        first_end.old.out_pass first_end.new.out_pass second_end.old.in_pass second_end.new.in_pass first_end.old.gate first_end.new.gate reports.0
+        × IsPairReport H.answers (length second.now.layout.records) turns
+        second_end.old.out_pass second_end.new.out_pass first_end.old.in_pass first_end.new.in_pass second_end.old.gate second_end.new.gate reports.1) }
     ensures apart { OnOk result (first.now.site ≢ second.now.site) }
     ensures refused { IfErr result (IsRefusal first.now.site second.now.site) }
     ensures first_stays { OnErr result (first_end.new ≡ first_end.old) }
@@ -266,10 +264,12 @@ fn run_both<
     requires few { turns ≤ 1000000000 }
     requires there { IsFresh there.old (length first_end.old.out_pass.receipts) (length second_end.old.in_pass.receipts) }
     requires back { IsFresh back.old (length second_end.old.out_pass.receipts) (length first_end.old.in_pass.receipts) }
-    ensures there { HasRunBoth (length first.now.layout.records) turns
-        first_end.old.out_pass first_end.new.out_pass second_end.old.in_pass second_end.new.in_pass there.old there.new result.0.0 result.0.1 }
-    ensures back { HasRunBoth (length second.now.layout.records) turns
-        second_end.old.out_pass second_end.new.out_pass first_end.old.in_pass first_end.new.in_pass back.old back.new result.1.0 result.1.1 }
+    ensures there { HasRunBoth G.answers (length first.now.layout.records) turns
+        first_end.old.out_pass first_end.new.out_pass second_end.old.in_pass second_end.new.in_pass first_end.old.gate first_end.new.gate
+        there.old there.new result.0.0 result.0.1 }
+    ensures back { HasRunBoth H.answers (length second.now.layout.records) turns
+        second_end.old.out_pass second_end.new.out_pass first_end.old.in_pass first_end.new.in_pass second_end.old.gate second_end.new.gate
+        back.old back.new result.1.0 result.1.1 }
 {
     let RuledEnd {
         out_pass: first_out,
@@ -286,6 +286,8 @@ fn run_both<
         &mut || -> (OutReport, InReport)
             requires { IsSend K.row × IsSend L.row × IsSync L.row × IsSend G.row × IsSend N.row × IsSend M.row × IsSync M.row × IsSync R.row
                 × (turns ≤ 1000000000) × IsFresh there.now (length first_out.now.receipts) (length second_in.now.receipts) }
+            ensures { HasRunBoth G.answers (length first.entry.now.layout.records) turns first_out.entry.now first_out.exit.now second_in.entry.now second_in.exit.now
+                first_gate.entry.now first_gate.exit.now there.entry.now there.exit.now result.0 result.1 }
         {
             run_direction(
                 rt, alloc, first, first_out, first_gate, second, second_in, there, turns,
@@ -294,6 +296,8 @@ fn run_both<
         &mut || -> (OutReport, InReport)
             requires { IsSend K.row × IsSend L.row × IsSync L.row × IsSend H.row × IsSend N.row × IsSend M.row × IsSync M.row × IsSync R.row
                 × (turns ≤ 1000000000) × IsFresh back.now (length second_out.now.receipts) (length first_in.now.receipts) }
+            ensures { HasRunBoth H.answers (length second.entry.now.layout.records) turns second_out.entry.now second_out.exit.now first_in.entry.now first_in.exit.now
+                second_gate.entry.now second_gate.exit.now back.entry.now back.exit.now result.0 result.1 }
         {
             run_direction(
                 rt,

@@ -1,5 +1,6 @@
 pub mod Scripts
 pub mod Callers
+pub mod Gates
 pub mod Tasks
 pub mod Threads
 pub mod Runs

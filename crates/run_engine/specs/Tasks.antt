@@ -7,6 +7,7 @@ use Rattle.run_engine.specs.declared.tasks.Caller.{Caller}
 use Rattle.run_engine.specs.declared.tasks.Task.{Task}
 use Rattle.run_engine.specs.declared.tasks.Task.TheVariants.{Calls, Link}
 use Rattle.run_engine.specs.Callers.{HasAsked}
+use Rattle.run_engine.specs.Gates.{always_answers}
 
 -- a runner of a link has its end
 abbrev pub IsReady : {L : Type 0} → Task L → Type 0
@@ -20,7 +21,7 @@ pub record HasCalled {L : Type 0} (old new : Caller L) : Type 0 where
 -- a task was carried out at a site with so many records
 abbrev pub HasRunTask : {L : Type 0} → ℕ → ℕ → Task L → Task L → Type 0
 HasRunTask records turns (Calls old) (Calls new) = HasCalled old new
-HasRunTask records turns (Link old) (Link new) = HasRunPort records turns old new
+HasRunTask records turns (Link old) (Link new) = HasRunPort always_answers records turns old new
 HasRunTask records turns old new = ⊥
 
 -- each task was carried out, and they are in order

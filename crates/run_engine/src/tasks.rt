@@ -1,6 +1,7 @@
 //! What the threads of one site do: its caller, and a runner for each end of its links.
 ghost use Rattle.std.specs.Prelude.{◌≡◌, ◌≤◌, true, [], All, IfOk, IfSome, length};
 ghost use denote.Param.Send.{IsSend, IsSync};
+ghost use Rattle.run_engine.specs.Gates.{always_answers};
 ghost use Rattle.run_engine.specs.Tasks.{HasCalled, HasRunTask, HaveRun, IsReady};
 ghost use Rattle.run_engine.specs.Threads.{AreTaskThreads, IsTaskThread};
 
@@ -22,7 +23,7 @@ use std::thread::{Promise, PromisedHandle, Scope, Threads};
 pub struct AlwaysOpen;
 
 impl Gate for AlwaysOpen {
-    ghost answers = { λ old turn answer new. (answer ≡ true) × (new ≡ old) };
+    ghost answers = { always_answers };
 
     fn open(&mut self, _turn: u64) -> bool {
         true

@@ -1,5 +1,9 @@
 -- What a lock guards, after an opening, after a call, and when it is given up.
-use Rattle.std.proofs.Common.{◌≡◌, ℕ, ◌+◌, Bool, true, false, [], ◌∷◌, ◌++◌, length, refl, sym, ap, subst, ◌∙◌, arith, length-append}
+use mathlib.Core.HLevel.{is_prop→PathP}
+use Rattle.std.proofs.Common.{◌≡◌, ℕ, ◌+◌, ◌≤◌, Bool, true, false, List, [], ◌∷◌, ◌++◌, Vec, length, refl, sym, ap, subst, ◌∙◌, arith, length-append}
+use Rattle.std.proofs.lemmas.List.{with_items_is}
+use Rattle.std.proofs.Props.{props}
+use Rattle.std.specs.Vec.{with_items}
 use Rattle.std.specs.Prelude.{if◌then◌else◌, Option, Some, None}
 use Rattle.std.specs.Option.{is_some}
 use Rattle.merge_core.specs.Layout.{LayoutState}
@@ -54,3 +58,17 @@ module _ {K : Type 0} (g : Ghosts K) (was_kept : DurableState → Type 0) where
     kept = λ was. kept (is.held d.log.first was);
     found = λ e was still. is.found e was (honest still);
   }
+
+-- a vector whose elements were written as they were
+pub same_vec : {X Z : Type 0} (v : Vec X Z) (ws : List X) → ws ≡ v.items → with_items v ws ≡ v
+same_vec v ws e =
+    let items : (with_items v ws).items ≡ v.items = with_items_is v ws (ap length e ∙ sym v.ok.0) ∙ e in
+    λ i. record {
+      ptr = v.ptr;
+      len = v.len;
+      cap = v.cap;
+      alloc = v.alloc;
+      items = items i;
+      ok = is_prop→PathP (λ j. (v.len ≡ length (items j)) × (v.len ≤ v.cap)) (λ j. Prim.hlevel props) (with_items v ws).ok v.ok i;
+      small = v.small;
+    }

@@ -12,7 +12,7 @@ use Rattle.desk_log.specs.Log.{begun, account_after, account_tried, ends_in_faul
 use Rattle.desk_log.specs.Desk.{DeskState, IsFresh, IsMadeFor, Leaves, first_account}
 use Rattle.session_book.specs.declared.error.CloseError.{CloseError}
 use Rattle.session_book.specs.declared.error.CloseError.TheVariants.{PassMissing, Mismatch, Memory}
-use Rattle.session_book.specs.Passes.{PassState}
+use Rattle.session_book.specs.Passes.{PassState, receipts_in}
 use Rattle.session_book.specs.Sites.{SiteState, IsSite, IsNewSite, IsSameOpening, IsDeskAstray, IsRunOf, KeepsOf, AreAll, BearsOut, IsClosed, IsCloseFault}
 
 -- the site of a desk that was opened
@@ -78,19 +78,22 @@ pub some_missing : (b : Bool) (n m : ℕ) (xs ys : List PassState) → (IsTrue b
 some_missing b n m xs ys told same_count same is = λ all.
     let both : false ≡ true = sym is ∙ told.1 (subst (λ (k : ℕ). AreAll k xs) (sym same_count) (subst (AreAll m) (sym same) all)) in cc
 
-mismatched : {K : Type 0} (s : SiteState) (ps : List PassState) (d : DeskState K) (pass at : ℕ) → AreAll s.passes ps → IsDeskAstray d s.layout s.site s.first s.limit ps pass at → IsCloseFault s ps (Mismatch pass at)
-mismatched s ps d pass at all found = (
+mismatched : {K : Type 0} (s : SiteState) (ps : List PassState) (d : DeskState K) (pass at : ℕ) → AreAll s.passes ps → length d.log.entries ≡ receipts_in ps → IsDeskAstray d s.layout s.site s.first s.limit ps pass at
+    → IsCloseFault s ps (Mismatch pass at)
+mismatched s ps d pass at all count found = (
   all,
   record {
     entries = d.log.entries;
     legal = subst (λ (a : Account). IsLegal a d.log.entries) (λ k. begun (found.opening.of_layout k) (found.opening.of_site k) (found.opening.began k)) found.legal;
     within = found.within;
+    count = count;
     astray = found.astray;
   },
 )
 
 -- a refusal that came after the passes were counted
-pub refused : {K : Type 0} (s : SiteState) (ps : List PassState) (d : DeskState K) (e : CloseError) → e ≢ PassMissing → ((pass at : ℕ) → e ≡ Mismatch pass at → IsDeskAstray d s.layout s.site s.first s.limit ps pass at) → AreAll s.passes ps → IsCloseFault s ps e
-refused s ps d PassMissing other told all = absurd (other refl)
-refused s ps d (Mismatch pass at) other told all = mismatched s ps d pass at all (told pass at refl)
-refused s ps d Memory other told all = all
+pub refused : {K : Type 0} (s : SiteState) (ps : List PassState) (d : DeskState K) (e : CloseError) → e ≢ PassMissing → ((pass at : ℕ) → e ≡ Mismatch pass at → IsDeskAstray d s.layout s.site s.first s.limit ps pass at)
+    → length d.log.entries ≡ receipts_in ps → AreAll s.passes ps → IsCloseFault s ps e
+refused s ps d PassMissing other told count all = absurd (other refl)
+refused s ps d (Mismatch pass at) other told count all = mismatched s ps d pass at all count (told pass at refl)
+refused s ps d Memory other told count all = all

@@ -161,15 +161,17 @@ pub record IsClosed {K : Type 0} (g : Ghosts K) (was_kept : DurableState → Typ
   pub kept : was_kept s.first → Leaves g (ends_in_fault false run.entries) k (account_after (begun s.layout s.site s.first) run.entries) (account_tried (begun s.layout s.site s.first) run.entries)
   pub found : (e : DurableState) → was_kept e → g.is_honest k → s.first ≡ e
 
--- a legal log of the opening, within its limit, does not bear out the pass with this number, from this place on
+-- A legal log of the opening, within its limit and with as many entries as all passes have receipts, does not bear out the
+-- pass with this number, from this place on.
 pub record IsLogAstray (s : SiteState) (ps : List PassState) (pass at : ℕ) : Type 0 where
   pub entries : List Entry
   pub legal : IsLegal (begun s.layout s.site s.first) entries
   pub within : length entries ≤ s.limit
+  pub count : length entries ≡ receipts_in ps
   pub astray : IsAstray s.limit entries ps pass at
 
--- What is wrong with a closing: a pass is missing; or all are there, and a legal log of the opening does not bear out the
--- pass that is named; or memory ran out.
+-- What is wrong with a closing: a pass is missing; or all are there, and a legal log of the opening, which is as long as
+-- their receipts are many, does not bear out the pass that is named; or memory ran out.
 abbrev pub IsCloseFault : SiteState → List PassState → CloseError → Type 0
 IsCloseFault s ps PassMissing = ¬ AreAll s.passes ps
 IsCloseFault s ps (Mismatch pass at) = AreAll s.passes ps × IsLogAstray s ps pass at

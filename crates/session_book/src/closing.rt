@@ -14,7 +14,7 @@ use desk_log::{Desk, Entry, Run, Runs, Transcript};
 use durable_keeper::Keeper;
 use merge_core::Layout;
 use std::alloc::Global;
-use std::sync::ledger::{Ledger, Share};
+use std::sync::ledger::{Book, Ledger, Share};
 
 // Whether each number below the count stands at one of as many passes.
 pub(crate) fn are_all<L: Ledger>(passes: &[Pass<L>], count: u16) -> bool
@@ -150,6 +150,34 @@ fn is_receipt(entry: &Entry, receipt: &Receipt) -> bool
     ensures { IsTrue result ↔ (receipt.now ≡ record { call = entry.now.call; reply = entry.now.reply }) }
 {
     same_call(&receipt.call, &entry.call) && same_reply(&receipt.reply, &entry.reply)
+}
+
+// Learns that a book's total is what passes and the rest of its shares have counted, and changes nothing. The caller shows
+// that these are all shares, or else nothing is learned.
+pub(crate) fn audit_all<L: Ledger>(
+    counted: &mut Book<L>,
+    all: &mut Share<L>,
+    passes: &mut [Pass<L>],
+)
+    requires backed { all.old.parts ≡ 0 → all.old.amount ≡ 0 }
+    ensures total { counted.new.total ≡ counted.old.total }
+    ensures parts { all.new.parts ≡ all.old.parts }
+    ensures amount { all.new.amount ≡ all.old.amount }
+    ensures passes { passes.new ≡ passes.old }
+    ensures whole { all.old.parts + length passes.old ≡ L.parts → all.old.amount + receipts_in passes.old ≡ counted.old.total }
+{
+    if passes.is_empty() {
+        counted.audit(all);
+        return;
+    }
+    let (front, back) = passes.split_at_mut(1);
+    let Some(first) = front.first_mut() else {
+        return;
+    };
+    let amount = first.count();
+    first.share.give(all, 1, amount);
+    audit_all(counted, all, back);
+    all.give(&mut first.share, 1, amount);
 }
 
 // The shares of all passes as one, which has counted all receipts.

@@ -1,4 +1,4 @@
-use crate::closing::gathered;
+use crate::closing::{audit_all, gathered};
 use crate::opening::Opening;
 use crate::pass::Pass;
 use admission_core::{Call, Reply};
@@ -33,6 +33,7 @@ impl<K: Keeper, L: Opening> Locked<K, L> {
     ghost use Rattle.desk_log.specs.Log.{is_logged};
     ghost use Rattle.desk_log.specs.Desk.{IsServing, IsMadeFor, receipt_of};
     ghost use Rattle.desk_log.specs.Following.{CanFollow};
+    ghost use Rattle.session_book.specs.Passes.{receipts_in};
     ghost use Rattle.session_book.specs.Sites.{IsLocked, IsRunOf, KeepsOf};
 
     /// A desk that was opened goes under the lock, with a ledger that has counted nothing.
@@ -74,6 +75,20 @@ impl<K: Keeper, L: Opening> Locked<K, L> {
             counted.add(share, 1);
         }
         (reply, receipt)
+    }
+
+    /// Learns that the log has as many entries as the passes have receipts, and changes nothing. The caller shows that these
+    /// are all passes. Linear in the passes.
+    pub(crate) fn audit(&mut self, passes: Vec<Pass<L>>) -> Vec<Pass<L>>
+        requires { length passes.items ≡ L.parts }
+        ensures same { self.new ≡ self.old }
+        ensures passes { result ≡ passes }
+        ensures count { length self.old.log.entries ≡ receipts_in passes.items }
+    {
+        let Locked { counted, rest, .. } = self;
+        let mut passes = passes;
+        audit_all(counted, rest, passes.as_mut_slice());
+        passes
     }
 
     /// The run that the desk leaves, which has as many entries as the passes have receipts, and the keeper. The caller

@@ -181,7 +181,8 @@ impl<K: Keeper, L: Opening> Site<K, L> {
             passes: count,
             locked,
         } = self;
-        let locked = locked.into_inner();
+        let mut locked = locked.into_inner();
+        let passes = locked.audit(passes);
         let runs = match checked(
             alloc,
             locked.desk(),

@@ -1,5 +1,5 @@
 use Rattle.crossbeam_channel.specs.Claims.{view}
-use Rattle.ordered_link.proofs.Rules.{puts, put_on, put_back, finished_on, finished_back}
+use Rattle.ordered_link.proofs.Rules.{puts, put_on, put_back, finished_on, finished_back, late_on, late_back}
 use Rattle.ordered_link.proofs.ends.send.Goals as goal
 use Rattle.ordered_link.proofs.ends.send.Goals.{in-Ok, in-Err}
 
@@ -16,4 +16,10 @@ pub returns-clause-finished : goal.returns-clause-finished
 returns-clause-finished g c = elim c.match-send_as.branch [
   | in-Ok w ↦ finished_on (view c.args.pass.now) (view c.send_as.new.pass) c.args.parcel c.match-send_as.result w.result-is w.in-Ok.ensures.rule
   | in-Err w ↦ finished_back (view c.args.pass.now) (view c.send_as.new.pass) c.args.parcel c.match-send_as.result w.result-is w.in-Err.ensures.rule.1
+]
+
+pub returns-clause-late : goal.returns-clause-late
+returns-clause-late g c = elim c.match-send_as.branch [
+  | in-Ok w ↦ late_on (view c.args.pass.now) (view c.send_as.new.pass) c.args.parcel c.match-send_as.result w.result-is w.in-Ok.ensures.rule
+  | in-Err w ↦ late_back (view c.args.pass.now) (view c.send_as.new.pass) c.args.parcel c.match-send_as.result w.result-is w.in-Err.ensures.rule.1
 ]

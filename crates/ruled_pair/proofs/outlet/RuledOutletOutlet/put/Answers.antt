@@ -16,8 +16,11 @@ returns-clause-put g c = λ rs n last d right at is.
     let places : c.push_reserved-2.new.self.items ≡ c.args.self.now.sent_at.items ++ c.args.place ∷ [] =
     c.push_reserved-2.ensures.items ∙ ap (λ (ps : List ℕ). ps ++ c.args.place ∷ []) c.in-Ok.ensures.sent_at in
     let put : c.put.new.self.put ≡ texts ++ string_bytes c.args.text ∷ [] =
-    c.if-not-put.ensures.put ∙ ap (λ (ts : List (List ℕ)). ts ++ string_bytes c.args.text ∷ []) (ap (λ (p : PutterState). p.put) c.in-Ok.ensures.putter ∙ right.1) in (
+    c.if-not-put.ensures.put ∙ ap (λ (ts : List (List ℕ)). ts ++ string_bytes c.args.text ∷ []) (ap (λ (p : PutterState). p.put) c.in-Ok.ensures.putter ∙ right.1) in
+    let unfinished = ap (λ (p : PutterState). p.finished) c.in-Ok.ensures.putter ∙ right.2 in (
       subst (λ (k : ℕ). AreSent (rs ++ shown_receipt d ∷ []) k c.push_reserved-2.new.self.items now (n + 1) (Some d)) (sym c.in-Ok.ensures.first)
           (sent_put rs c.args.self.now.first c.args.self.now.sent_at.items c.push_reserved-2.new.self.items c.args.place texts now (string_bytes c.args.text) n last d right.0 at is places more),
       put ∙ sym more,
+      c.if-not-put.ensures.finished ∙ unfinished,
+      c.if-not-put.ensures.late unfinished ∙ (ap (λ (p : PutterState). p.late) c.in-Ok.ensures.putter ∙ right.3),
     )
