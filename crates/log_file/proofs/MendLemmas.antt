@@ -118,7 +118,7 @@ unfit_with layout i whole first ts (Some text) unfit some = record {
 
 no_runs : (layout : LayoutState) (lines : List (List ℕ)) (rs : List SiteRun) → lines ≡ [] → AreLines layout lines rs → rs ≡ []
 no_runs layout lines [] none are = refl
-no_runs layout lines (r ∷ rs) none are = absurd (some (sym none ∙ are.2.1.0))
+no_runs layout lines (r ∷ rs) none are = absurd (some (sym none ∙ are.2.1.1.0))
   where
     some : [] ≡ are.0 ∷ (map (entry_text layout.records) r.run.entries ++ are.1) → ⊥
     some e = cc

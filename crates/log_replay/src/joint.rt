@@ -15,17 +15,23 @@ use desk_log::{Entry, Run};
 use merge_core::Layout;
 use std::alloc::{AllocError, Global};
 
-// The layout of a run at a site, if the site may know so many sites.
+// The layout of a run at a site, if the site may know so many sites. The same records at some number of sites are known to be
+// a layout; only another number is judged anew, which compares each pair of names.
 fn layout_of_run(
     alloc: Global,
     layout: &Layout,
+    known: &Layout,
     site: u16,
     sites: u16,
 ) -> Result<Option<Layout>, AllocError>
+    requires { known.now.records ≡ layout.now.records }
     ensures { IfOk result (λ found. MatchOption found (¬ FitsSites layout.now site sites) (λ l. FitsSites layout.now site sites × (l ≡ at_sites sites layout.now))) }
 {
     if site >= sites || sites > layout.sites() {
         return Ok(None);
+    }
+    if sites == known.sites() {
+        return Ok(Some(known.try_copy(alloc)?));
     }
     layout.at_sites(alloc, sites)
 }
@@ -66,12 +72,13 @@ fn layout_of_next(
     core: &SiteCore,
     sites: u16,
 ) -> Result<Option<Layout>, AllocError>
+    requires { core.now.layout.records ≡ layout.now.records }
     ensures { IfOk result (λ found. MatchOption found (¬ FitsNext layout.now core.now sites) (λ l. FitsNext layout.now core.now sites × (l ≡ at_sites sites layout.now))) }
 {
     if sites < core.layout().sites() {
         return Ok(None);
     }
-    layout_of_run(alloc, layout, core.site(), sites)
+    layout_of_run(alloc, layout, core.layout(), core.site(), sites)
 }
 
 // Whether a call in doubt was carried out, by the durable part that stands afterwards; `None` where that is neither what the
@@ -129,7 +136,7 @@ pub(crate) fn first_core(
         let core = SiteCore::new(alloc, layout.try_copy(alloc)?, site)?;
         return Ok(Some(core));
     };
-    let Some(first) = layout_of_run(alloc, layout, site, run.sites)? else {
+    let Some(first) = layout_of_run(alloc, layout, layout, site, run.sites)? else {
         return Ok(None);
     };
     let start = SiteCore::new(alloc, first, site)?;

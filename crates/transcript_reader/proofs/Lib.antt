@@ -5,7 +5,10 @@ pub mod WordLemmas
 pub mod EntryLemmas
 pub mod CallLemmas
 pub mod ReplyLemmas
+pub mod FitLemmas
 pub mod ReadingLemmas
 pub mod OpeningLemmas
 pub mod PartLemmas
 pub mod BeginLemmas
+pub mod OnceLemmas
+pub mod LawLemmas

@@ -161,6 +161,20 @@ module _ (layout : LayoutState) (i sites : ℕ) (first : DurableState) (there : 
   pub told_checked : IsChecked (shape_of under) told.rows
   told_checked = subst (λ (rows : List Row). IsChecked (shape_of under) rows) (sym rows_are) (checked_from under counters beyond fits)
 
+  -- what the site tells has the cells that the run begins with
+  pub cells_told : kept_cells (at_slot sites i (start_counter (shape_of under))) (at_slot sites i (shown_by (shape_of under) told.rows)) (places under) ≡ first.cells
+  cells_told =
+      ap (λ (f : ℕ → ℕ → Cell → ℕ). kept_cells (at_slot sites i (start_counter (shape_of under))) (at_slot sites i f) (places under)) same
+      ∙ ap (λ (d : DurableState). d.cells) (durable_begun under i first may.site_there there.few_sites may.cells may.sessions)
+    where
+      shown : (r s : ℕ) (cell : Cell) → shown_by (shape_of under) told.rows r s cell ≡ counters r s cell
+      shown r s cell =
+          ap (λ (rows : List Row). shown_by (shape_of under) rows r s cell) rows_are
+          ∙ shown_counter under counters beyond r s cell
+
+      same : shown_by (shape_of under) told.rows ≡ known (begun under i first)
+      same = (λ k r s cell. shown r s cell k) ∙ sym known_is
+
   -- the book of the start that joins it keeps the cells that the run begins with
   pub cells_again : (old new : BookState) → book_shape old ≡ shape_of under
       → ((r s : ℕ) (cell : Cell) → counter_of old r s cell ≡ start_counter (shape_of under) r s cell)

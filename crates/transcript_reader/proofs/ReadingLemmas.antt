@@ -1,5 +1,6 @@
 -- The lines of runs, one run after another.
 use Rattle.std.proofs.Common.{◌≡◌, ℕ, zero, suc, ◌+◌, ◌<◌, ◌≤◌, cond, Bool, true, false, eqb, List, [], ◌∷◌, ◌++◌, length, get_or, map, set, refl, sym, ap, subst, ◌∙◌, append_assoc, append-nil, length-append, ◌⊎◌, inl, inr, arith}
+use Rattle.std.specs.List.{All}
 use Rattle.std.proofs.lemmas.Bool.{eq-eqb, ne_eqb, cases_eq}
 use Rattle.std.proofs.lemmas.List.{length-map, get_or_append_left, get_or_push}
 use Rattle.merge_core.specs.Layout.{LayoutState}
@@ -7,6 +8,7 @@ use Rattle.desk_log.specs.declared.transcript.Run.{Run}
 use Rattle.desk_log.specs.declared.transcript.Transcript.{Transcript}
 use Rattle.transcript_reader.specs.declared.runs.SiteRun.{SiteRun}
 use Rattle.transcript_text.specs.Texts.{entry_text}
+use Rattle.transcript_reader.specs.Fits.{FitsEntry}
 use Rattle.transcript_reader.specs.Reading.{BeginsRun, AreLines, IsRefusedAt, opening_of, runs_of, transcripts_below}
 use Rattle.transcript_reader.specs.Lines.{StopsAt, HasRun, HasNoRun, AreReadUpTo}
 
@@ -104,14 +106,14 @@ added_at rs r n i ts old new is below told read made =
 -- ---- lines
 
 lines_push : (layout : LayoutState) (front : List (List ℕ)) (rs : List SiteRun) (r : SiteRun) (line : List ℕ) → AreLines layout front rs
-    → BeginsRun layout line (opening_of r) → AreLines layout (front ++ line ∷ map (entry_text layout.records) r.run.entries) (rs ++ r ∷ [])
-lines_push layout front [] r line are begins =
+    → BeginsRun layout line (opening_of r) → All FitsEntry r.run.entries → AreLines layout (front ++ line ∷ map (entry_text layout.records) r.run.entries) (rs ++ r ∷ [])
+lines_push layout front [] r line are begins fit =
     let es = map (entry_text layout.records) r.run.entries in (
       line,
       [],
-      (begins, (ap (λ (xs : List (List ℕ)). xs ++ line ∷ es) are ∙ ap (λ (xs : List (List ℕ)). line ∷ xs) (sym (append-nil es)), refl)),
+      (begins, (fit, (ap (λ (xs : List (List ℕ)). xs ++ line ∷ es) are ∙ ap (λ (xs : List (List ℕ)). line ∷ xs) (sym (append-nil es)), refl))),
     )
-lines_push layout front (q ∷ qs) r line are begins =
+lines_push layout front (q ∷ qs) r line are begins fit =
     let es = map (entry_text layout.records) q.run.entries in
     let more = line ∷ map (entry_text layout.records) r.run.entries in (
       are.0,
@@ -119,8 +121,11 @@ lines_push layout front (q ∷ qs) r line are begins =
       (
         are.2.0,
         (
-          ap (λ (xs : List (List ℕ)). xs ++ more) are.2.1.0 ∙ ap (λ (xs : List (List ℕ)). are.0 ∷ xs) (append_assoc es are.1 more),
-          lines_push layout are.1 qs r line are.2.1.1 begins,
+          are.2.1.0,
+          (
+            ap (λ (xs : List (List ℕ)). xs ++ more) are.2.1.1.0 ∙ ap (λ (xs : List (List ℕ)). are.0 ∷ xs) (append_assoc es are.1 more),
+            lines_push layout are.1 qs r line are.2.1.1.1 begins fit,
+          ),
         ),
       ),
     )
@@ -139,7 +144,7 @@ reads_on layout lines rest behind number next old new r up has stops is_next add
       front = up.front ++ has.line ∷ es;
       is_front = up.is_front ∙ (ap (λ (xs : List (List ℕ)). up.front ++ xs) has.is_front ∙ sym (append_assoc up.front (has.line ∷ es) behind));
       is_number = omega (arith, is_next, up.is_number, length-append up.front (has.line ∷ es), length-map r.run.entries (entry_text layout.records));
-      are_runs = lines_push layout up.front up.runs r has.line up.are_runs has.begins;
+      are_runs = lines_push layout up.front up.runs r has.line up.are_runs has.begins has.fit;
       stops = inr stops;
       told = adds up.runs layout.sites below up.told;
     }

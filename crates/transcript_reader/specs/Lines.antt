@@ -1,10 +1,12 @@
 -- For private clauses: the lines of one run at the front of others.
 use Rattle.std.specs.Prelude.{◌≡◌, ℕ, ◌+◌, ◌⊎◌, List, [], ◌∷◌, ◌++◌, length, map}
+use Rattle.std.specs.List.{All}
 use Rattle.merge_core.specs.declared.layout.RecordSpec.{RecordSpec}
 use Rattle.merge_core.specs.Layout.{LayoutState}
 use Rattle.desk_log.specs.declared.transcript.Transcript.{Transcript}
 use Rattle.transcript_reader.specs.declared.runs.SiteRun.{SiteRun}
 use Rattle.transcript_text.specs.Texts.{entry_text}
+use Rattle.transcript_reader.specs.Fits.{FitsEntry}
 use Rattle.transcript_reader.specs.Reading.{IsNoEntry, BeginsRun, BeginsNoRun, AreLines, opening_of, transcripts_below}
 
 -- no line is left, or the first one is no entry
@@ -16,6 +18,7 @@ StopsAt records (line ∷ lines) = IsNoEntry records line
 pub record HasRun (layout : LayoutState) (lines : List (List ℕ)) (r : SiteRun) (rest : List (List ℕ)) : Type 0 where
   pub line : List ℕ
   pub begins : BeginsRun layout line (opening_of r)
+  pub fit : All FitsEntry r.run.entries
   pub is_front : lines ≡ line ∷ (map (entry_text layout.records) r.run.entries ++ rest)
 
 -- no run begins with the first of the lines

@@ -1,5 +1,6 @@
 -- What reading lines as the runs of all sites answers.
 use Rattle.std.specs.Prelude.{◌≡◌, ◌≢◌, ℕ, zero, suc, ◌+◌, ◌==◌, ◌⊎◌, List, [], ◌∷◌, ◌++◌, length, map, if◌then◌else◌}
+use Rattle.std.specs.List.{All}
 use Rattle.merge_core.specs.declared.layout.RecordSpec.{RecordSpec}
 use Rattle.merge_core.specs.Layout.{LayoutState}
 use Rattle.text_input.specs.Lines.{lines_of}
@@ -31,12 +32,14 @@ IsNoEntry records line = (e : Entry) → FitsEntry e → line ≢ entry_text rec
 abbrev pub opening_of : SiteRun → Opening
 opening_of r = record { site = r.site; sites = r.run.sites; first = r.run.first }
 
--- the lines are those of the runs, one run after another
+-- The lines are those of the runs, one run after another. Each number of an entry is within the range of its type; those
+-- of an opening are, where a run may begin so.
 abbrev pub AreLines : LayoutState → List (List ℕ) → List SiteRun → Type 0
 AreLines layout lines [] = lines ≡ []
 AreLines layout lines (r ∷ rs) =
     (line : List ℕ) × (rest : List (List ℕ)) × (BeginsRun layout line (opening_of r)
-    × ((lines ≡ line ∷ (map (entry_text layout.records) r.run.entries ++ rest)) × AreLines layout rest rs))
+    × (All FitsEntry r.run.entries
+    × ((lines ≡ line ∷ (map (entry_text layout.records) r.run.entries ++ rest)) × AreLines layout rest rs)))
 
 -- the runs of site i, in order
 abbrev pub runs_of : ℕ → List SiteRun → List Run

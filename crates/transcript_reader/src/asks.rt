@@ -86,6 +86,7 @@ fn ask_in(layout: &Layout, line: &[u8]) -> Option<Ask>
 // The call that takes the delta of a text, which need not be written again: just one text is read as a delta.
 fn merge_in(alloc: Global, bytes: &[u8]) -> Result<Call, Unread>
     ensures sound { IfOk result (λ call. (records : List RecordSpec) → codes "take " ++ bytes.now ≡ call_text records call) }
+    ensures fits { IfOk result FitsCall }
     ensures only { (d : DeltaState) → IsDelta d → bytes.now ≡ delta_text d → (result ≡ Ok (Merge d)) ⊎ (result ≡ Err Unread.Memory) }
 {
     match decode(alloc, bytes) {
@@ -107,6 +108,7 @@ fn taken_text(line: &[u8]) -> Option<&[u8]>
 // The call for a snapshot.
 fn snapshot_in(text: &[u8]) -> Result<Call, Unread>
     ensures sound { IfOk result (λ call. (records : List RecordSpec) → text.now ≡ call_text records call) }
+    ensures fits { IfOk result FitsCall }
     ensures only { text.now ≡ codes "send" → result ≡ Ok Snapshot }
 {
     if text == b"send".as_slice() {
@@ -119,6 +121,7 @@ fn snapshot_in(text: &[u8]) -> Result<Call, Unread>
 /// [`is_call_text`] tells.
 pub(crate) fn call_in(alloc: Global, layout: &Layout, text: &[u8]) -> Result<Call, Unread>
     ensures sound { IfOk result (IsReadAs layout.now.records text.now) }
+    ensures fits { IfOk result FitsCall }
     ensures only { (call : CallThere) → FitsCall call → text.now ≡ call_text layout.now.records call → (result ≡ Ok call) ⊎ (result ≡ Err Unread.Memory) }
 {
     let _ = layout.sites(); // tells the invariant: no two records have one name

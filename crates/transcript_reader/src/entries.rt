@@ -1,5 +1,6 @@
 //! The lines of entries.
 ghost use Rattle.std.specs.Prelude.{◌≡◌, ◌++◌, ◌⊎◌, ◌≤◌, Ok, Err, length, map, IfOk};
+ghost use Rattle.std.specs.List.{All};
 ghost use Rattle.text_parts.specs.Readers.{Gives};
 ghost use Rattle.text_input.specs.Lines.{lines_of};
 ghost use Rattle.desk_log.specs.declared.entry.Entry.{Entry as EntryThere};
@@ -44,6 +45,7 @@ fn entry_parts(texts: &mut Texts, line: &[u8]) -> Result<u16, Unread>
 // The entry of a line. Linear in it. A line is refused for its reply before its ask is written.
 fn entry_in(alloc: Global, layout: &Layout, texts: &mut Texts, line: &[u8]) -> Result<Entry, Unread>
     ensures sound { IfOk result (λ e. line.now ≡ entry_text layout.now.records e) }
+    ensures fits { IfOk result FitsEntry }
     ensures only { (e : EntryThere) → FitsEntry e → line.now ≡ entry_text layout.now.records e → (result ≡ Ok e) ⊎ (result ≡ Err Unread.Memory) }
 {
     let pass = entry_parts(texts, line)?;
@@ -62,6 +64,7 @@ pub(crate) fn entries_in<'a>(
     bytes: &'a [u8],
 ) -> Result<(Vec<Entry>, &'a [u8]), AllocError>
     ensures lines { IfOk result (λ x. lines_of bytes.now ≡ map (entry_text layout.now.records) x.0.items ++ lines_of x.1.now) }
+    ensures fit { IfOk result (λ x. All FitsEntry x.0.items) }
     ensures stops { IfOk result (λ x. StopsAt layout.now.records (lines_of x.1.now)) }
     ensures shorter { IfOk result (λ x. length x.1.now ≤ length bytes.now) }
 {

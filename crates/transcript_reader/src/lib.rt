@@ -8,6 +8,7 @@ pub use runs::SiteRun;
 mod asks;
 mod cells;
 mod entries;
+pub mod laws;
 mod numbers;
 mod openings;
 mod quoted;

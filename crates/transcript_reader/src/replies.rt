@@ -212,6 +212,7 @@ fn worded_reply(text: &[u8]) -> Option<Reply>
 // The reply, if the text is its text.
 fn written_reply(written: &mut String, reply: Reply, text: &[u8]) -> Result<Reply, Unread>
     ensures sound { IfOk result (λ it. text.now ≡ reply_text it) }
+    ensures same { IfOk result (λ it. it ≡ reply) }
     ensures only { text.now ≡ reply_text reply → (result ≡ Ok reply) ⊎ (result ≡ Err Unread.Memory) }
 {
     written.clear();
@@ -225,6 +226,7 @@ fn written_reply(written: &mut String, reply: Reply, text: &[u8]) -> Result<Repl
 // A snapshot, by its delta's text, which need not be written again: just one text is read as a delta.
 fn told_reply(alloc: Global, bytes: &[u8]) -> Result<Reply, Unread>
     ensures sound { IfOk result (λ reply. bytes.now ≡ reply_text reply) }
+    ensures fits { IfOk result FitsReply }
     ensures only { (d : DeltaState) → IsDelta d → bytes.now ≡ delta_text d → (result ≡ Ok (Snapshot d)) ⊎ (result ≡ Err Unread.Memory) }
 {
     match decode(alloc, bytes) {
@@ -238,6 +240,7 @@ fn told_reply(alloc: Global, bytes: &[u8]) -> Result<Reply, Unread>
 /// text.
 pub(crate) fn reply_in(alloc: Global, written: &mut String, text: &[u8]) -> Result<Reply, Unread>
     ensures sound { IfOk result (λ reply. text.now ≡ reply_text reply) }
+    ensures fits { IfOk result FitsReply }
     ensures only { (reply : ReplyThere) → FitsReply reply → text.now ≡ reply_text reply → (result ≡ Ok reply) ⊎ (result ≡ Err Unread.Memory) }
 {
     match worded_reply(text) {

@@ -196,7 +196,7 @@ static REPLIES: [(Said, &str); 41] = [
 
 // A call, the number of a pass and a reply that are no entry: a number is one above its limit, or the spelling is
 // another one.
-static OTHER_LINES: [(&str, &str, &str); 41] = [
+static OTHER_LINES: [(&str, &str, &str); 42] = [
     ("read a 18446744073709551616", "0", "admitted"),
     ("give a 65536 1", "0", "given"),
     ("give a 1 18446744073709551616", "0", "given"),
@@ -214,6 +214,11 @@ static OTHER_LINES: [(&str, &str, &str); 41] = [
     ("restart", "0", "restarted"),
     ("take 0", "0", "merged 0"),
     ("take ", "0", "merged 0"),
+    (
+        "take {\\\"from\\\":16,\\\"rows\\\":[],\\\"v\\\":1}",
+        "0",
+        "merged 0",
+    ),
     ("send ", "0", "admitted"),
     ("", "0", "admitted"),
     ("send", "65536", "admitted"),

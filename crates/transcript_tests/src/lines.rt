@@ -13,7 +13,7 @@ const SHORT: &str =
 const ENTRY: &str = "{\"call\":\"announce a 5\",\"pass\":0,\"reply\":\"announced 1\"}\n";
 
 // A text, and the first of its lines that is refused; 0 where none is.
-static TEXTS: [(&str, &str, u64); 17] = [
+static TEXTS: [(&str, &str, u64); 20] = [
     ("", "", 0),
     (OPENING, ENTRY, 0),
     (SHORT, ENTRY, 0),
@@ -70,6 +70,22 @@ static TEXTS: [(&str, &str, u64); 17] = [
         OPENING,
         "{\"book\":\"{\\\"from\\\":1,\\\"rows\\\":[],\\\"v\\\":1}\",\"sessions\":[\"a 7 reader\"],\"site\":1,\"sites\":3}\n",
         2,
+    ),
+    // An entry with a number that its type does not have, and then a line that is none of a log.
+    (
+        OPENING,
+        "{\"call\":\"announce a 5\",\"pass\":65536,\"reply\":\"announced 1\"}\nno line\n",
+        2,
+    ),
+    (
+        OPENING,
+        "{\"call\":\"take {\\\"from\\\":16,\\\"rows\\\":[],\\\"v\\\":1}\",\"pass\":0,\"reply\":\"merged 0\"}\nno line\n",
+        2,
+    ),
+    (
+        OPENING,
+        "{\"call\":\"announce a 5\",\"pass\":65535,\"reply\":\"announced 1\"}\n{\"call\":\"send\",\"pass\":18446744073709551616,\"reply\":\"admitted\"}\n\n",
+        3,
     ),
 ];
 

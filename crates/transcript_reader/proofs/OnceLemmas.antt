@@ -1,0 +1,128 @@
+-- A text has one reading at most: a line is that of one entry, or begins one run, and not both.
+use Rattle.std.proofs.Common.{◌≡◌, ℕ, ◌<◌, List, [], ◌∷◌, ◌++◌, get_or, drop, Option, Some, None, codes, unwrap_or, refl, sym, ap, subst, ◌∙◌, ◌⊎◌, inl, inr, arith}
+use Rattle.std.proofs.lemmas.Option.{none-some, same_Some}
+use Rattle.merge_core.specs.Layout.{LayoutState, IsLayout, at_sites, shape_of}
+use Rattle.merge_core.specs.Rows.{start_counter}
+use Rattle.merge_core.specs.Delta.{DeltaState, IsDelta}
+use Rattle.merge_core.specs.declared.delta.Row.{Row}
+use Rattle.merge_core.specs.Naming.{shown_by}
+use Rattle.admission_model.specs.declared.ask.Ask.{Ask}
+use Rattle.admission_model.specs.declared.ask.Call.{Call}
+use Rattle.admission_model.specs.declared.ask.Call.TheVariants.{Ask as AskCall, Merge, Snapshot}
+use Rattle.admission_model.specs.declared.reply.Reply.{Reply}
+use Rattle.admission_model.specs.declared.reply.Reply.TheVariants.{Snapshot as SnapshotReply}
+use Rattle.admission_model.specs.Durable.{at_slot, places, kept_cells}
+use Rattle.admission_core.specs.Kept.{DurableState}
+use Rattle.delta_codec.specs.DeltaText.{delta_text}
+use Rattle.delta_codec.proofs.DeltaLaws.{one_delta}
+use Rattle.desk_log.specs.declared.entry.Entry.{Entry}
+use Rattle.script_text.specs.Words.{words_of}
+use Rattle.script_text.specs.Replies.{reply_text}
+use Rattle.transcript_text.specs.Texts.{ask_text, call_text, entry_text, front_text, book_told, MayBegin}
+use Rattle.transcript_reader.specs.declared.openings.Opening.{Opening}
+use Rattle.transcript_reader.specs.Fits.{FitsAsk, FitsCall, FitsReply, FitsEntry}
+use Rattle.transcript_reader.specs.Words.{ask_in, reply_in}
+use Rattle.transcript_reader.specs.Readers.{EntryParts, OpeningParts, entry_parts}
+use Rattle.transcript_reader.specs.Reading.{BeginsRun}
+use Rattle.transcript_reader.proofs.CallLemmas.{ask_again, take_asks_nothing}
+use Rattle.transcript_reader.proofs.ReplyLemmas.{IsTold, reply_again}
+use Rattle.transcript_reader.proofs.EntryLemmas.{entry_again, entry_same}
+use Rattle.transcript_reader.proofs.PartLemmas.{told_delta, cells_told}
+use Rattle.transcript_reader.proofs.BeginLemmas.{IsSpelled, spelled_so, layout_there, opening_same}
+
+-- ---- entries
+
+-- the ask of a text
+asked : (layout : LayoutState) → IsLayout layout → (a : Ask) (text : List ℕ) → FitsAsk a → ask_text layout.records a ≡ text → Some a ≡ ask_in layout.records (words_of text)
+asked layout is a text fits same = sym (ask_again layout is a fits) ∙ ap (λ (t : List ℕ). ask_in layout.records (words_of t)) same
+
+one_call : (layout : LayoutState) → IsLayout layout → (c d : Call) → FitsCall c → FitsCall d → call_text layout.records c ≡ call_text layout.records d → c ≡ d
+one_call layout is (AskCall a) (AskCall b) fits fits2 same =
+    ap AskCall (same_Some a b (asked layout is a (ask_text layout.records b) fits same ∙ ask_again layout is b fits2))
+one_call layout is (AskCall a) (Merge d) fits fits2 same =
+    absurd (none-some a (sym (asked layout is a (call_text layout.records (Merge d)) fits same ∙ take_asks_nothing layout.records (delta_text d))))
+one_call layout is (AskCall a) Snapshot fits fits2 same = absurd (none-some a (sym (asked layout is a (codes "send") fits same)))
+one_call layout is (Merge d) (AskCall b) fits fits2 same =
+    absurd (none-some b (sym (asked layout is b (call_text layout.records (Merge d)) fits2 (sym same) ∙ take_asks_nothing layout.records (delta_text d))))
+one_call layout is (Merge d) (Merge e) fits fits2 same = ap Merge (one_delta d e fits fits2 (ap (λ (t : List ℕ). drop 5 t) same))
+one_call layout is (Merge d) Snapshot fits fits2 same =
+    let clash : ◌≡◌ {A = ℕ} 116 115 = ap (λ (t : List ℕ). get_or t 0 0) same in absurd (omega arith)
+one_call layout is Snapshot (AskCall b) fits fits2 same = absurd (none-some b (sym (asked layout is b (codes "send") fits2 (sym same))))
+one_call layout is Snapshot (Merge e) fits fits2 same =
+    let clash : ◌≡◌ {A = ℕ} 115 116 = ap (λ (t : List ℕ). get_or t 0 0) same in absurd (omega arith)
+one_call layout is Snapshot Snapshot fits fits2 same = refl
+
+one_reply : (r q : Reply) → FitsReply r → FitsReply q → reply_text r ≡ reply_text q → r ≡ q
+one_reply r q fits fits2 same = at (reply_again r fits) (reply_again q fits2)
+  where
+    read : reply_in (words_of (reply_text r)) ≡ reply_in (words_of (reply_text q))
+    read = ap (λ (t : List ℕ). reply_in (words_of t)) same
+
+    at : (reply_in (words_of (reply_text r)) ≡ Some r) ⊎ IsTold r → (reply_in (words_of (reply_text q)) ≡ Some q) ⊎ IsTold q → r ≡ q
+    at (inl one) (inl other) = same_Some r q (sym one ∙ (read ∙ other))
+    at (inl one) (inr told) = absurd (none-some r (sym told.unread ∙ (sym read ∙ one)))
+    at (inr told) (inl other) = absurd (none-some q (sym told.unread ∙ (read ∙ other)))
+    at (inr told) (inr told2) =
+        let texts : delta_text told.delta ≡ delta_text told2.delta = sym (ap reply_text told.is) ∙ (same ∙ ap reply_text told2.is) in
+        told.is ∙ (ap SnapshotReply (one_delta told.delta told2.delta told.fits told2.fits texts) ∙ sym told2.is)
+
+pub one_entry : (layout : LayoutState) → IsLayout layout → (e f : Entry) → FitsEntry e → FitsEntry f → entry_text layout.records e ≡ entry_text layout.records f → e ≡ f
+one_entry layout is e f fits fits2 same =
+    let records = layout.records in
+    let p : EntryParts = record { call = call_text records e.call; pass = e.pass; reply = reply_text e.reply } in
+    let q : EntryParts = record { call = call_text records f.call; pass = f.pass; reply = reply_text f.reply } in
+    let parts : p ≡ q = same_Some p q (sym (entry_again records e fits.pass) ∙ (ap entry_parts same ∙ entry_again records f fits2.pass)) in
+    entry_same f e.pass e.call e.reply (ap (λ (x : EntryParts). x.pass) parts)
+    (one_call layout is e.call f.call fits.call fits2.call (ap (λ (x : EntryParts). x.call) parts))
+    (one_reply e.reply f.reply fits.reply fits2.reply (ap (λ (x : EntryParts). x.reply) parts))
+
+-- ---- openings
+
+-- a durable part is known by what the site tells and its sessions
+one_part : (layout : LayoutState) (i sites : ℕ) (first other : DurableState) → IsLayout (at_sites sites layout) → MayBegin layout i sites first → MayBegin layout i sites other
+    → book_told layout i sites first ≡ book_told layout i sites other → first.sessions ≡ other.sessions → first ≡ other
+one_part layout i sites first other there may may2 told sessions =
+    let under = at_sites sites layout in
+    let cells : first.cells ≡ other.cells =
+    sym (cells_told layout i sites first there may)
+    ∙ (ap (λ (d : DeltaState). kept_cells (at_slot sites i (start_counter (shape_of under))) (at_slot sites i (shown_by (shape_of under) d.rows)) (places under)) told
+    ∙ cells_told layout i sites other there may2) in
+    λ k. record { cells = cells k; sessions = sessions k }
+
+-- .. under other names of the site and the number of sites
+same_part : (layout : LayoutState) (it other : Opening) → IsLayout (at_sites it.sites layout) → MayBegin layout it.site it.sites it.first → MayBegin layout other.site other.sites other.first
+    → it.site ≡ other.site → it.sites ≡ other.sites → book_told layout it.site it.sites it.first ≡ book_told layout other.site other.sites other.first
+    → it.first.sessions ≡ other.first.sessions → it.first ≡ other.first
+same_part layout it other there may may2 site sites told sessions =
+    let may3 : MayBegin layout it.site it.sites other.first =
+    subst (λ (x : ℕ). MayBegin layout x it.sites other.first) (sym site) (subst (λ (x : ℕ). MayBegin layout other.site x other.first) (sym sites) may2) in
+    let told2 : book_told layout other.site other.sites other.first ≡ book_told layout it.site it.sites other.first =
+    ap (λ (x : ℕ). book_told layout x other.sites other.first) (sym site) ∙ ap (λ (x : ℕ). book_told layout it.site x other.first) (sym sites) in
+    one_part layout it.site it.sites it.first other.first there may may3 (told ∙ told2) sessions
+
+pub one_opening : (layout : LayoutState) → IsLayout layout → (line : List ℕ) (it other : Opening) → BeginsRun layout line it → BeginsRun layout line other → it ≡ other
+one_opening layout is line it other begins begins2 =
+    let s = spelled_so layout line it is begins in
+    let t = spelled_so layout line other is begins2 in
+    let told = book_told layout it.site it.sites it.first in
+    let told2 = book_told layout other.site other.sites other.first in
+    let p : OpeningParts = record { book = delta_text told; sessions = it.first.sessions; site = it.site; sites = s.sites } in
+    let q : OpeningParts = record { book = delta_text told2; sessions = other.first.sessions; site = other.site; sites = t.sites } in
+    let parts : p ≡ q = same_Some p q (sym s.read ∙ t.read) in
+    let there = layout_there layout line it is begins in
+    let there2 = layout_there layout line other is begins2 in
+    let deltas : told ≡ told2 =
+    one_delta told told2 (told_delta layout it.site it.sites it.first there begins.may_begin) (told_delta layout other.site other.sites other.first there2 begins2.may_begin)
+    (ap (λ (x : OpeningParts). x.book) parts) in
+    let site = ap (λ (x : OpeningParts). x.site) parts in
+    let sites : it.sites ≡ other.sites = sym s.stands ∙ (ap (λ (x : OpeningParts). unwrap_or x.sites layout.sites) parts ∙ t.stands) in
+    let first = same_part layout it other there begins.may_begin begins2.may_begin site sites deltas (ap (λ (x : OpeningParts). x.sessions) parts) in
+    opening_same other it.site it.sites it.first site sites first
+
+-- ---- no line is both
+
+pub begins_no_entry : (layout : LayoutState) → IsLayout layout → (line : List ℕ) (it : Opening) (e : Entry) → BeginsRun layout line it → line ≡ entry_text layout.records e → ⊥
+unfolding entry_text front_text
+begins_no_entry layout is line it e begins same =
+    let s = spelled_so layout line it is begins in
+    let clash : ◌≡◌ {A = ℕ} 98 99 = ap (λ (t : List ℕ). get_or t 2 0) (sym s.text ∙ same) in absurd (omega arith)
