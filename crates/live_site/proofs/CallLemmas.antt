@@ -46,7 +46,7 @@ module _ {K L : Type 0} (g : Ghosts K) (m : K → Type 0) (h : LogGhosts L) (a :
     core = same;
     keeper = refl;
     unlogged = refl;
-    untold = refl;
+    unwritten = refl;
   }
 
   -- the log took nothing
@@ -136,13 +136,26 @@ module _ {K L : Type 0} (g : Ghosts K) (m : K → Type 0) (h : LogGhosts L) (a :
       → (reason (core_view d) call ≡ None → overfull_in (core_view d) call ≡ None)
       → IsAnswered g a c new k l call reply → text_after ≡ text ++ line_of reply → Enters h log log_after call reply → (is_outdated reply ≡ true → g.keeps k (durable_of a) → m l)
       → WasAnswered g m h a c new k l log log_after call text text_after
-  call_done d new k l log log_after text text_after reply same fits answered told logged marked = record {
+  call_done d new k l log log_after text text_after reply same fits answered written logged marked = record {
     answered = subst (λ (r : Reply). IsAnswered g a c new k l call r) answered.model answered;
     fits = fits_told d same fits;
-    told = told ∙ ap (λ (r : Reply). text ++ line_of r) answered.model;
+    written = written ∙ ap (λ (r : Reply). text ++ line_of r) answered.model;
     logged = subst (λ (r : Reply). Enters h log log_after call r) answered.model logged;
     marked = λ is. marked (ap is_outdated answered.model ∙ is);
   }
+
+  -- a site that serves is not frozen before the call
+  pub not_frozen : (d : Core) (k l : K) (log log_after : L) (text text_after : List ℕ) (outcome : Outcome)
+      → IsLiveStep g m h a c d k l log log_after call text text_after outcome → outcome ≡ Frozen → ⊥
+  not_frozen d k l log log_after text text_after Frozen it is = it
+  not_frozen d k l log log_after text text_after other it is = absurd (cc)
+
+  -- the store's fault is told where the keeper told one
+  pub fault_told : (d : Core) (k l : K) (log log_after : L) (text text_after : List ℕ) (outcome : Outcome)
+      → IsLiveStep g m h a c d k l log log_after call text text_after outcome → outcome ≡ StoreFault → g.faults_of l ≡ 1
+  fault_told d k l log log_after text text_after StoreFault (inl it) is = it.doubted.told
+  fault_told d k l log log_after text text_after StoreFault (inr it) is = it.told
+  fault_told d k l log log_after text text_after other it is = absurd (cc)
 
 -- a site at work stays one, of its layout and its number
 module _ {K L : Type 0} (g : Ghosts K) (m : K → Type 0) (h : LogGhosts L) (call : Call) where

@@ -1,5 +1,5 @@
 -- What is kept of a call whose reply shows that the store is outdated.
-use Rattle.std.proofs.Common.{◌≡◌, Bool, true, false, [], Some, None, Ok, refl, sym, ap, subst, ◌∙◌}
+use Rattle.std.proofs.Common.{◌≡◌, Bool, true, false, [], None, Ok, refl, sym, ap, subst, ◌∙◌}
 use Rattle.admission_model.specs.declared.ask.Call.{Call}
 use Rattle.admission_model.specs.declared.reply.Refusal.{Refusal}
 use Rattle.admission_model.specs.declared.reply.Refusal.TheVariants.{OwnRowAhead}

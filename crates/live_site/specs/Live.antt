@@ -105,7 +105,7 @@ module _ {K L : Type 0} where
   pub record WasAnswered (g : Ghosts K) (m : K → Type 0) (h : LogGhosts L) (a : Account) (c d : Core) (old new : K) (log log_after : L) (call : Call) (text text_after : List ℕ) : Type 0 where
     pub answered : IsAnswered g a c d old new call (reply_of (view_of a) call)
     pub fits : Fits a call
-    pub told : text_after ≡ text ++ line_of (reply_of (view_of a) call)
+    pub written : text_after ≡ text ++ line_of (reply_of (view_of a) call)
     pub marked : is_outdated (reply_of (view_of a) call) ≡ true → g.keeps old (durable_of a) → m new
     pub logged : Enters h log log_after call (reply_of (view_of a) call)
 
@@ -116,7 +116,7 @@ module _ {K L : Type 0} where
     pub core : SameContent c d
     pub keeper : new ≡ old
     pub unlogged : log_after ≡ log
-    pub untold : text_after ≡ text
+    pub unwritten : text_after ≡ text
 
   -- it found no memory: nothing changed, and the log took nothing
   pub record WasUnserved (g : Ghosts K) (h : LogGhosts L) (a : Account) (c d : Core) (old new : K) (log log_after : L) : Type 0 where
@@ -160,11 +160,11 @@ module _ {K L : Type 0} where
   -- reply does not show that the store is outdated, the keeper is as it was.
   pub record IsServingSite (g : Ghosts K) (m : K → Type 0) (h : LogGhosts L) (a : Account) (old new : LiveState K) (log log_after : L) (call : Call) (text text_after : List ℕ) (outcome : Outcome) : Type 0 where
     pub step : IsLiveStep g m h a old.core new.core old.keeper new.keeper log log_after call text text_after outcome
-    pub frozen : new.frozen ≡ freezes a call outcome
+    pub freezing : new.frozen ≡ freezes a call outcome
     pub idle : is_outdated (reply_of (view_of a) call) ≡ false → IsEmpty (change_between a (after a call)) → new.keeper ≡ old.keeper
 
   -- at one that serves no more nothing happens
-  pub record IsIdle (old new : LiveState K) (log log_after : L) (outcome : Outcome) : Type 0 where
-    pub told : outcome ≡ Frozen
+  pub record StaysFrozen (old new : LiveState K) (log log_after : L) (outcome : Outcome) : Type 0 where
+    pub answer : outcome ≡ Frozen
     pub site : new ≡ old
     pub unlogged : log_after ≡ log

@@ -49,11 +49,14 @@ impl<K: LiveKeeper> Model for LiveSite<K> {
 }
 
 impl<K: LiveKeeper> LiveSite<K> {
-    ghost use Rattle.std.specs.Prelude.{◌≡◌, ◌<◌, true, false, string_bytes};
-    ghost use Rattle.admission_model.specs.Account.{Account};
+    ghost use Rattle.std.specs.Prelude.{◌≡◌, ℕ, ◌<◌, length, true, false, string_bytes};
+    ghost use Rattle.seat_rows.specs.Seats.{inside_of};
+    ghost use Rattle.merge_core.specs.Book.{seats_at};
+    ghost use Rattle.admission_model.specs.Account.{Account, inside};
     ghost use Rattle.admission_core.specs.Core.{IsCore, Stands};
     ghost use Rattle.desk_log.specs.Desk.{IsMadeFor};
-    ghost use Rattle.live_site.specs.Live.{IsIdle, IsOpenedSite, IsServingSite};
+    ghost use Rattle.live_site.specs.declared.live_site.Outcome.TheVariants.{Frozen, StoreFault};
+    ghost use Rattle.live_site.specs.Live.{IsOpenedSite, IsServingSite, StaysFrozen};
 
     /// Opens a site of a layout from what the keeper gives back. The caller shows, where there is such a site, that the
     /// keeper was made for it with an equal layout. Refused, in this order: `BadSite`; `StoreFault`; `WrongCounters`;
@@ -86,6 +89,8 @@ impl<K: LiveKeeper> LiveSite<K> {
     pub fn core(&self) -> &SiteCore
         ensures core { result.now ≡ self.now.core }
         ensures is_core { IsCore self.now.core }
+        ensures inside { (a : Account) → Stands a self.now.core → (r : ℕ) → r < length self.now.core.book.records
+            → inside_of (seats_at self.now.core.book r) self.now.core.site ≡ inside a r }
     {
         &self.core
     }
@@ -111,7 +116,9 @@ impl<K: LiveKeeper> LiveSite<K> {
     pub fn serve<L: CallLog>(&mut self, call: &Call, text: &mut String, log: &mut L) -> Outcome
         ensures served { (a : Account) → Stands a self.old.core → self.old.frozen ≡ false → IsServingSite K.Keeper K.is_outdated L.CallLog a self.old self.new
             log.old log.new call.now (string_bytes text.old) (string_bytes text.new) result }
-        ensures idle { self.old.frozen ≡ true → IsIdle self.old self.new log.old log.new result }
+        ensures frozen { self.old.frozen ≡ true → StaysFrozen self.old self.new log.old log.new result }
+        ensures only_frozen { result ≡ Frozen → self.old.frozen ≡ true }
+        ensures told { result ≡ StoreFault → K.faults_of self.new.keeper ≡ 1 }
         ensures layout { self.new.core.layout ≡ self.old.core.layout }
         ensures site { self.new.core.site ≡ self.old.core.site }
         ensures honest { K.is_honest self.new.keeper → K.is_honest self.old.keeper }
@@ -133,6 +140,7 @@ impl<K: LiveKeeper> LiveSite<K> {
     pub fn into_keeper(self) -> K
         ensures keeper { result ≡ self.keeper }
         ensures made_for { IsMadeFor K.Keeper result self.core.layout self.core.site }
+        ensures no_fault { self.frozen ≡ false → K.faults_of result ≡ 0 }
     {
         let LiveSite {
             core: _,

@@ -153,7 +153,7 @@ pub(crate) fn step<K: LiveKeeper, L: CallLog>(
     requires running { frozen.old ≡ false }
     ensures step { (a : Account) → Stands a core.old → IsLiveStep K.Keeper K.is_outdated L.CallLog a core.old core.new keeper.old keeper.new
         log.old log.new call.now (string_bytes text.old) (string_bytes text.new) result }
-    ensures frozen { (a : Account) → Stands a core.old → frozen.new ≡ freezes a call.now result }
+    ensures freezing { (a : Account) → Stands a core.old → frozen.new ≡ freezes a call.now result }
     ensures idle { (a : Account) → Stands a core.old → is_outdated (reply_of (view_of a) call.now) ≡ false → IsEmpty (change_between a (after a call.now)) → keeper.new ≡ keeper.old }
     ensures made_for { IsMadeFor K.Keeper keeper.new core.old.layout core.old.site }
     ensures honest { K.is_honest keeper.new → K.is_honest keeper.old }

@@ -23,7 +23,7 @@ use Rattle.live_site.specs.declared.live_site.Outcome.{Outcome}
 use Rattle.live_site.specs.declared.live_site.Outcome.TheVariants as outcome
 use Rattle.live_site.specs.Entries.{entry_of}
 use Rattle.live_site.specs.Overfull.{overfull_in}
-use Rattle.live_site.specs.Live.{LiveState, IsIdle as IsIdleSite, IsServingSite, WasAnswered, WasDoubted, WasUnmarked, is_outdated, line_of}
+use Rattle.live_site.specs.Live.{LiveState, IsServingSite, StaysFrozen, WasAnswered, WasDoubted, WasUnmarked, is_outdated, line_of}
 use Rattle.serve_engine.specs.declared.answering.Told.{Told}
 use Rattle.serve_engine.specs.declared.answering.Told.TheVariants.{Text, Memory, StoreFault, Frozen, LogFailed}
 use Rattle.serve_engine.specs.declared.answering.Told.TheVariants.{Unmarked as UnmarkedTold}
@@ -154,7 +154,7 @@ module _ {K L : Type 0} (g : Ghosts K) (m : K → Type 0) (h : LogGhosts L) (ter
     Serving o = old.frozen ≡ false → IsServingSite g m h a old new log log_after call before text o
 
     abbrev Idle : Outcome → Type 0
-    Idle o = old.frozen ≡ true → IsIdleSite old new log log_after o
+    Idle o = old.frozen ≡ true → StaysFrozen old new log log_after o
 
     -- by whether the site served before
     by_frozen : (x : Exchange) → (old.frozen ≡ false → ServesOn g h terms a old new log log_after x ⊎ StopsServing g m h terms a old new log log_after x)
@@ -178,7 +178,7 @@ module _ {K L : Type 0} (g : Ghosts K) (m : K → Type 0) (h : LogGhosts L) (ter
     serves_on told sends it frozen current = record {
       entries = entry_of call reply ∷ [];
       account = after a call;
-      answers = subst (λ (t : List ℕ). Answers terms a (Whole line) t (after a call) (entry_of call reply ∷ [])) (sym (sends it.told)) (told_reply terms a line call asks it.fits current);
+      answers = subst (λ (t : List ℕ). Answers terms a (Whole line) t (after a call) (entry_of call reply ∷ [])) (sym (sends it.written)) (told_reply terms a line call asks it.fits current);
       stands = it.answered.stands;
       running = frozen ∙ current;
       kept = it.answered.kept;
@@ -194,7 +194,7 @@ module _ {K L : Type 0} (g : Ghosts K) (m : K → Type 0) (h : LogGhosts L) (ter
       entries = entry_of call reply ∷ [];
       fault = false;
       tried = a;
-      stops = subst (λ (t : List ℕ). Stops terms a line t false a (entry_of call reply ∷ [])) (sym (sends it.told)) (stops_outdated terms a line call asks it.fits old_store);
+      stops = subst (λ (t : List ℕ). Stops terms a line t false a (entry_of call reply ∷ [])) (sym (sends it.written)) (stops_outdated terms a line call asks it.fits old_store);
       stands = subst (λ (b : Account). Stands b new.core) same it.answered.stands;
       frozen = frozen ∙ old_store;
       kept = λ kept. subst (λ (b : Account). g.keeps new.keeper (durable_of b)) same (it.answered.kept kept);
@@ -206,32 +206,32 @@ module _ {K L : Type 0} (g : Ghosts K) (m : K → Type 0) (h : LogGhosts L) (ter
         same = let is = outdated_is reply old_store in refused_after a call is.0 is.1
 
     pub was_answered : (told : List ℕ) → Sends told → Serving outcome.Answered → Idle outcome.Answered → Exchanges g m h terms a old new log log_after (exchange_of line told)
-    was_answered told sends serving idle = by_frozen (exchange_of line told) (λ e. at (serving e) (cases_Bool (is_outdated reply))) (λ e. let is = (idle e).told in absurd (cc))
+    was_answered told sends serving idle = by_frozen (exchange_of line told) (λ e. at (serving e) (cases_Bool (is_outdated reply))) (λ e. let is = (idle e).answer in absurd (cc))
       where
         at : IsServingSite g m h a old new log log_after call before text outcome.Answered → (is_outdated reply ≡ true) ⊎ (is_outdated reply ≡ false)
             → ServesOn g h terms a old new log log_after (exchange_of line told) ⊎ StopsServing g m h terms a old new log log_after (exchange_of line told)
-        at it (inl old_store) = inr (stops_on told sends it.step it.frozen old_store)
-        at it (inr current) = inl (serves_on told sends it.step it.frozen current)
+        at it (inl old_store) = inr (stops_on told sends it.step it.freezing old_store)
+        at it (inr current) = inl (serves_on told sends it.step it.freezing current)
 
     pub too_many : (r : ℕ) (line_told : List ℕ) → (overfull_in (view_of a) call ≡ Some r → before ≡ []) → Serving (outcome.TooManySeats r) → Idle (outcome.TooManySeats r) → line_told ≡ text ++ too_many_line r
         → Exchanges g m h terms a old new log log_after (exchange_of line line_told)
-    too_many r line_told empty serving idle is = by_frozen (exchange_of line line_told) (λ e. inl (at (serving e))) (λ e. let clash = (idle e).told in absurd (cc))
+    too_many r line_told empty serving idle is = by_frozen (exchange_of line line_told) (λ e. inl (at (serving e))) (λ e. let clash = (idle e).answer in absurd (cc))
       where
         at : IsServingSite g m h a old new log log_after call before text (outcome.TooManySeats r) → ServesOn g h terms a old new log log_after (exchange_of line line_told)
         at it = record {
           entries = [];
           account = a;
-          answers = subst (λ (t : List ℕ). Answers terms a (Whole line) t a []) (sym (is ∙ ap (λ (t : List ℕ). t ++ too_many_line r) (it.step.untold ∙ empty it.step.overfull)))
+          answers = subst (λ (t : List ℕ). Answers terms a (Whole line) t a []) (sym (is ∙ ap (λ (t : List ℕ). t ++ too_many_line r) (it.step.unwritten ∙ empty it.step.overfull)))
               (told_too_many terms a line call r asks it.step.free it.step.overfull);
           stands = stands_along a old.core new.core it.step.core stands;
-          running = it.frozen;
+          running = it.freezing;
           kept = λ kept. subst (λ (k : K). g.keeps k (durable_of a)) (sym it.step.keeper) kept;
           handed = subst (λ (l : L). Hands h log l []) (sym it.step.unlogged) (handed_none log);
         }
 
     -- a delta of too many seats, where its answer found no memory
     pub too_many_untold : (r : ℕ) → Serving (outcome.TooManySeats r) → Idle (outcome.TooManySeats r) → Exchanges g m h terms a old new log log_after (exchange_of line memory_line)
-    too_many_untold r serving idle = by_frozen (exchange_of line memory_line) (λ e. inl (at (serving e))) (λ e. let clash = (idle e).told in absurd (cc))
+    too_many_untold r serving idle = by_frozen (exchange_of line memory_line) (λ e. inl (at (serving e))) (λ e. let clash = (idle e).answer in absurd (cc))
       where
         at : IsServingSite g m h a old new log log_after call before text (outcome.TooManySeats r) → ServesOn g h terms a old new log log_after (exchange_of line memory_line)
         at it = record {
@@ -239,13 +239,13 @@ module _ {K L : Type 0} (g : Ghosts K) (m : K → Type 0) (h : LogGhosts L) (ter
           account = a;
           answers = told_no_memory terms a line;
           stands = stands_along a old.core new.core it.step.core stands;
-          running = it.frozen;
+          running = it.freezing;
           kept = λ kept. subst (λ (k : K). g.keeps k (durable_of a)) (sym it.step.keeper) kept;
           handed = subst (λ (l : L). Hands h log l []) (sym it.step.unlogged) (handed_none log);
         }
 
     pub found_no_memory : Serving outcome.Memory → Idle outcome.Memory → Exchanges g m h terms a old new log log_after (exchange_of line memory_line)
-    found_no_memory serving idle = by_frozen (exchange_of line memory_line) (λ e. inl (at (serving e))) (λ e. let clash = (idle e).told in absurd (cc))
+    found_no_memory serving idle = by_frozen (exchange_of line memory_line) (λ e. inl (at (serving e))) (λ e. let clash = (idle e).answer in absurd (cc))
       where
         at : IsServingSite g m h a old new log log_after call before text outcome.Memory → ServesOn g h terms a old new log log_after (exchange_of line memory_line)
         at it = record {
@@ -253,13 +253,13 @@ module _ {K L : Type 0} (g : Ghosts K) (m : K → Type 0) (h : LogGhosts L) (ter
           account = a;
           answers = told_no_memory terms a line;
           stands = stands_along a old.core new.core it.step.core stands;
-          running = it.frozen;
+          running = it.freezing;
           kept = it.step.kept;
           handed = λ first before took. subst (λ (es : List Entry). h.took first es log_after) (sym (append-nil before)) (it.step.unlogged first before took);
         }
 
     pub met_fault : Serving outcome.StoreFault → Idle outcome.StoreFault → Exchanges g m h terms a old new log log_after (exchange_of line fault_line)
-    met_fault serving idle = by_frozen (exchange_of line fault_line) (λ e. inr (at (serving e))) (λ e. let clash = (idle e).told in absurd (cc))
+    met_fault serving idle = by_frozen (exchange_of line fault_line) (λ e. inr (at (serving e))) (λ e. let clash = (idle e).answer in absurd (cc))
       where
         lost : new.frozen ≡ true → WasDoubted g h a old.core new.core old.keeper new.keeper log log_after call ⊎ WasUnmarked g h a old.core new.core old.keeper new.keeper log log_after call
             → StopsServing g m h terms a old new log log_after (exchange_of line fault_line)
@@ -291,7 +291,7 @@ module _ {K L : Type 0} (g : Ghosts K) (m : K → Type 0) (h : LogGhosts L) (ter
         }
 
         at : IsServingSite g m h a old new log log_after call before text outcome.StoreFault → StopsServing g m h terms a old new log log_after (exchange_of line fault_line)
-        at it = lost it.frozen it.step
+        at it = lost it.freezing it.step
 
     pub serves_no_more : Serving outcome.Frozen → Idle outcome.Frozen → Exchanges g m h terms a old new log log_after (exchange_of line frozen_line)
     serves_no_more serving idle = by_frozen (exchange_of line frozen_line) (λ e. absurd ((serving e).step)) (λ e. record {
@@ -304,12 +304,12 @@ module _ {K L : Type 0} (g : Ghosts K) (m : K → Type 0) (h : LogGhosts L) (ter
     lost_log serving idle = at (cases_Bool old.frozen)
       where
         at : (old.frozen ≡ true) ⊎ (old.frozen ≡ false) → LosesLog g h a old new log_after
-        at (inl e) = let clash = (idle e).told in absurd (cc)
+        at (inl e) = let clash = (idle e).answer in absurd (cc)
         at (inr e) =
             let it = serving e in
             record {
               was_running = e;
-              running = it.frozen;
+              running = it.freezing;
               stands = stands_along a old.core new.core it.step.core stands;
               kept = it.step.kept;
               failed = it.step.failed;

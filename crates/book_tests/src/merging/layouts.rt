@@ -107,6 +107,18 @@ fn a_layout_tells_its_records(rt: HostRuntime) {
     assert!(rt; copy == Some((16, 1, 1)));
 }
 
+// Whether a name of this text gives the text back.
+fn is_given_back(alloc: Global, text: &str) -> Option<bool> {
+    let name = RecordName::from_string(String::from_str(alloc, text).ok()?);
+    Some(name.into_string().as_str() == text)
+}
+
+#[test]
+fn a_name_gives_its_text_back(rt: HostRuntime) {
+    assert!(rt; is_given_back(rt.alloc(), "a") == Some(true));
+    assert!(rt; is_given_back(rt.alloc(), "a-23456789012345") == Some(true));
+}
+
 fn sites_when_cut(alloc: Global, sites: u16) -> Option<Option<u16>> {
     let layout = layout(alloc, 3, &[("a", 2, 1, 1)])?.ok()?;
     let cut = layout.at_sites(alloc, sites).ok()?;
