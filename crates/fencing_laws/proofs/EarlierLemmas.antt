@@ -32,10 +32,12 @@ use Rattle.admission_model.proofs.ThinLemmas.{all_thin}
 use Rattle.multi_site_world.specs.declared.event.Event.{Event}
 use Rattle.multi_site_world.specs.declared.event.Event.TheVariants.{Call, Send, Take, Thin, Restart, Grow}
 use Rattle.multi_site_world.specs.World.{World, account_at, with_account, world_taken, thin, thin_message, world_here, place_of, happens, run}
-use Rattle.multi_site_world.specs.Laws.{IsReachedWorld, IsInside}
+use Rattle.multi_site_world.specs.Laws.{IsInside}
+use Rattle.rebuild_laws.specs.Groups.{IsRebuiltWorld}
 use Rattle.multi_site_world.proofs.FamilyLemmas.{same_seats}
 use Rattle.multi_site_world.proofs.WorldLemmas.{IsSoundWorld, IsMessage, AreSentRows, same_account, other_account, own_grows}
-use Rattle.multi_site_world.proofs.EventLemmas.{sound_reached, sound_happens, sound_run, known_done, message_there, message_at}
+use Rattle.multi_site_world.proofs.EventLemmas.{sound_happens, sound_run, known_done, message_there, message_at}
+use Rattle.rebuild_laws.proofs.RebuildLaw.{sound_rebuilt_world}
 use Rattle.multi_site_world.proofs.LawLemmas.{run_layout}
 use Rattle.fencing_laws.specs.Fences.{fence, IsWellTold, AreWellTold}
 use Rattle.fencing_laws.proofs.SeatLemmas.{others_rise, others_least_but, others_more_but, held, held_sum, some_inside}
@@ -437,7 +439,7 @@ carried_run r floor (event ∷ events) w sound past well c =
     (λ e. carried_here r floor w event sound (omega (arith, ltb-true (place_of event) (length w.sites) e, sound.number)) past well.0 c)
     (λ e. c))
 
-pub earlier_below : (u : World) → IsReachedWorld u → (i r h : ℕ) → i < u.layout.sites → IsInside (phase_of (account_at u i) r h) → (events : List Event) → AreWellTold events u → (j k : ℕ) → j < u.layout.sites → phase_of (account_at (run events u) j) r k ≡ Some Writer → fence u i r ≤ fence (run events u) j r
+pub earlier_below : (u : World) → IsRebuiltWorld u → (i r h : ℕ) → i < u.layout.sites → IsInside (phase_of (account_at u i) r h) → (events : List Event) → AreWellTold events u → (j k : ℕ) → j < u.layout.sites → phase_of (account_at (run events u) j) r k ≡ Some Writer → fence u i r ≤ fence (run events u) j r
 earlier_below u reached i r h below inside_there events well j k there writes =
     omega (arith, total_le u.layout.sites floor (λ s. known (account_at v j) r s Fin) (λ s lower. knows s), ap (λ m. total m (λ s. known (account_at v j) r s Fin)) same_sites)
   where
@@ -448,10 +450,10 @@ earlier_below u reached i r h below inside_there events well j k there writes =
     v = run events u
 
     sound : IsSoundWorld u
-    sound = sound_reached u reached
+    sound = sound_rebuilt_world u reached
 
     sound_v : IsSoundWorld (run events u)
-    sound_v = sound_run events u (sound_reached u reached)
+    sound_v = sound_run events u (sound_rebuilt_world u reached)
 
     same_sites : (run events u).layout.sites ≡ u.layout.sites
     same_sites = ap (λ (l : LayoutState). l.sites) (run_layout events u)

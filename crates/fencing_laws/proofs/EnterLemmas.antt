@@ -37,10 +37,12 @@ use Rattle.multi_site_world.specs.declared.event.Event.TheVariants.{Call, Send, 
 use Rattle.multi_site_world.specs.declared.event.WorldReply.{WorldReply}
 use Rattle.multi_site_world.specs.declared.event.WorldReply.TheVariants.{Core, Sent}
 use Rattle.multi_site_world.specs.World.{World, account_at, with_account, world_taken, thin_message, world_here, place_of, happens, world_reply, run, replies}
-use Rattle.multi_site_world.specs.Laws.{IsReachedWorld, IsMergedReply, gathering, IsOneOf, IsNeverFull}
+use Rattle.multi_site_world.specs.Laws.{IsMergedReply, gathering, IsOneOf, IsNeverFull}
+use Rattle.rebuild_laws.specs.Groups.{IsRebuiltWorld}
 use Rattle.multi_site_world.proofs.FamilyLemmas.{conserved, same_seats}
 use Rattle.multi_site_world.proofs.WorldLemmas.{IsSoundWorld, own_grows, same_account, other_account}
-use Rattle.multi_site_world.proofs.EventLemmas.{sound_reached, sound_happens, sound_run, known_done}
+use Rattle.multi_site_world.proofs.EventLemmas.{sound_happens, sound_run, known_done}
+use Rattle.rebuild_laws.proofs.RebuildLaw.{sound_rebuilt_world}
 use Rattle.multi_site_world.proofs.LawLemmas.{sent_before, run_layout, reply_there, merged}
 use Rattle.multi_site_world.proofs.GatherLemmas.{IsGathering, IsHanded, is_handed, handed, helper, told_on, two_events, sound_told_on, three_events}
 use Rattle.multi_site_world.proofs.GatherSteps.{gathering_step, gather_all}
@@ -407,7 +409,7 @@ ready_of n r w h v g = record {
   rooms = g.waiting.rooms;
 }
 
-pub not_stuck : (u : World) → IsReachedWorld u → (r w h : ℕ) → WaitsToEnter u r w h → CanEnter u r w h
+pub not_stuck : (u : World) → IsRebuiltWorld u → (r w h : ℕ) → WaitsToEnter u r w h → CanEnter u r w h
 not_stuck u reached r w h waiting =
     let it = leads_on r w (AreGrown n r w h n) Admits u (grow_all n n r w h u begins (omega arith)) (λ y g.
     leads_on r w (AreCleared n r w h n) Admits y (clear_all n n r w h y (ready_of n r w h y g) (omega arith)) (λ x cleared.
@@ -422,7 +424,7 @@ not_stuck u reached r w h waiting =
     Admits = λ v. world_reply v (Call w (Quill r h)) ≡ Core Admitted
 
     sound : IsSoundWorld u
-    sound = sound_reached u reached
+    sound = sound_rebuilt_world u reached
 
     begins : IsWaiting u.layout.sites r w h u
     begins = record {
@@ -472,7 +474,7 @@ own_run [] w i r cell = omega arith
 own_run (event ∷ events) w i r cell = omega (arith, own_stays w event i r cell, own_run events (happens w event) i r cell)
 
 -- where the counter of seats taken is too full for a writer, none enters
-pub never_enters : (u : World) → IsReachedWorld u → (r w h : ℕ) → w < u.layout.sites → counter_limit < own (account_at u w) r Taken + seats_in u.layout r → (events : List Event) → world_reply (run events u) (Call w (Quill r h)) ≢ Core Admitted
+pub never_enters : (u : World) → IsRebuiltWorld u → (r w h : ℕ) → w < u.layout.sites → counter_limit < own (account_at u w) r Taken + seats_in u.layout r → (events : List Event) → world_reply (run events u) (Call w (Quill r h)) ≢ Core Admitted
 never_enters u reached r w h below full events admitted =
     first_both (λ o. replied o Admitted ≡ Admitted → ⊥) (write_lines (view_of a) r h) (λ x e. cc) too_full
     (same_core (reply_of (view_of a) (AskCall (Quill r h))) Admitted (sym (reply_there v (Call w (Quill r h)) sound below_v) ∙ admitted))
@@ -484,7 +486,7 @@ never_enters u reached r w h below full events admitted =
     a = account_at (run events u) w
 
     sound : IsSoundWorld (run events u)
-    sound = sound_run events u (sound_reached u reached)
+    sound = sound_run events u (sound_rebuilt_world u reached)
 
     layout : (run events u).layout ≡ u.layout
     layout = run_layout events u

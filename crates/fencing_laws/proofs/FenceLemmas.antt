@@ -37,10 +37,12 @@ use Rattle.admission_model.proofs.ThinLemmas.{all_thin}
 use Rattle.multi_site_world.specs.declared.event.Event.{Event}
 use Rattle.multi_site_world.specs.declared.event.Event.TheVariants.{Call, Send, Take, Thin, Restart, Grow}
 use Rattle.multi_site_world.specs.World.{World, account_at, with_account, world_taken, thin, thin_message, world_here, place_of, happens, run}
-use Rattle.multi_site_world.specs.Laws.{IsReachedWorld, IsInside, in_flight, all_in_flight}
+use Rattle.multi_site_world.specs.Laws.{IsInside, in_flight, all_in_flight}
+use Rattle.rebuild_laws.specs.Groups.{IsRebuiltWorld}
 use Rattle.multi_site_world.proofs.FamilyLemmas.{conserved, same_seats, same_shown}
 use Rattle.multi_site_world.proofs.WorldLemmas.{IsSoundWorld, IsMessage, AreSentRows, same_account, other_account, shown_done_here}
-use Rattle.multi_site_world.proofs.EventLemmas.{sound_reached, sound_happens, sound_run, known_done, message_there, message_at}
+use Rattle.multi_site_world.proofs.EventLemmas.{sound_happens, sound_run, known_done, message_there, message_at}
+use Rattle.rebuild_laws.proofs.RebuildLaw.{sound_rebuilt_world}
 use Rattle.multi_site_world.proofs.LawLemmas.{sent_before, run_layout}
 use Rattle.multi_site_world.proofs.StepLaws.{finished_stays}
 use Rattle.admission_model.proofs.SumLemmas.{total_more as total_more_sites}
@@ -458,14 +460,14 @@ module _ (u : World) (sound : IsSoundWorld u) (i r h : ℕ) (below : i < u.layou
           own_mine : (b : Account) (x q : ℕ) → b.origin.site ≡ x → known b q x Fin ≡ own b q Fin
           own_mine b x q same = ap (λ y. known b q y Fin) (sym same) ∙ known_own b q Fin
 
-pub later_above : (u : World) → IsReachedWorld u → (i r h : ℕ) → i < u.layout.sites → phase_of (account_at u i) r h ≡ Some Writer → (events : List Event) → AreWellTold events (happens u (Call i (Leave r h))) → (j k : ℕ) → j < u.layout.sites → IsInside (phase_of (account_at (run events (happens u (Call i (Leave r h)))) j) r k) → fence u i r < fence (run events (happens u (Call i (Leave r h)))) j r
+pub later_above : (u : World) → IsRebuiltWorld u → (i r h : ℕ) → i < u.layout.sites → phase_of (account_at u i) r h ≡ Some Writer → (events : List Event) → AreWellTold events (happens u (Call i (Leave r h))) → (j k : ℕ) → j < u.layout.sites → IsInside (phase_of (account_at (run events (happens u (Call i (Leave r h)))) j) r k) → fence u i r < fence (run events (happens u (Call i (Leave r h)))) j r
 later_above u is i r h below writes events well j k there inside_there =
-    above_writer u (sound_reached u is) i r h below writes events well j k there inside_there
+    above_writer u (sound_rebuilt_world u is) i r h below writes events well j k there inside_there
 
 -- of sites that a site does not know it knows of no writer
-pub counted_all : (w : World) → IsReachedWorld w → (i r : ℕ) → i < w.layout.sites → fence w i r ≡ number_of (account_at w i) r
+pub counted_all : (w : World) → IsRebuiltWorld w → (i r : ℕ) → i < w.layout.sites → fence w i r ≡ number_of (account_at w i) r
 counted_all w is i r below =
-    let sound = sound_reached w is in
+    let sound = sound_rebuilt_world w is in
     let a = account_at w i in
     let here = sound.family.sound i below in
     total_more_sites a.sites w.layout.sites (λ s. known a r s Fin) (sound.family.few_sites i below)

@@ -19,7 +19,7 @@ use Rattle.multi_site_world.specs.declared.event.Event.TheVariants.{Call}
 use Rattle.multi_site_world.specs.World.{World, start_world, run}
 use Rattle.multi_site_world.specs.Examples.{small_layout}
 use Rattle.fencing_laws.specs.Examples.{IsFilled}
-use Rattle.fencing_laws.proofs.LeaveLemmas.{run_append}
+use Rattle.rebuild_laws.proofs.TellingLemmas.{run_append}
 use Rattle.fencing_laws.proofs.InstanceLemmas.{layout_of_one}
 
 abbrev one_site : LayoutState

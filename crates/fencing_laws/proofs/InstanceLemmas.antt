@@ -13,6 +13,7 @@ use Rattle.multi_site_world.specs.declared.event.Event.TheVariants.{Take}
 use Rattle.multi_site_world.specs.World.{World, account_at}
 use Rattle.multi_site_world.specs.Laws.{IsReachedWorld}
 use Rattle.multi_site_world.specs.Examples.{small_layout}
+use Rattle.rebuild_laws.proofs.RebuildLaw.{rebuilt_from}
 use Rattle.fencing_laws.specs.Fences.{KnowsFinished, AreWellTold}
 use Rattle.fencing_laws.specs.Resource.{IsTokenOf, WasTaken, IsTakenBeside}
 use Rattle.fencing_laws.specs.Entering.{WaitsToEnter}
@@ -70,7 +71,7 @@ other_token = record { there = omega arith; inside = refl; number = refl }
 pub beside : IsTakenBeside 0 1 8 (reader_with 0) (reader_with 1)
 beside = record {
   world = after_events two_readers;
-  reached = reached two_readers;
+  reached = rebuilt_from (after_events two_readers) (reached two_readers);
   site = 0;
   holder = 7;
   taken = other_token;
@@ -80,7 +81,7 @@ beside = record {
 }
 
 pub taken : WasTaken (after_events two_readers) 0 (reader_with 1)
-taken = record { world = after_events two_readers; reached = reached two_readers; site = 0; holder = 7; taken = other_token; events = []; well = tt; leads = refl }
+taken = record { world = after_events two_readers; reached = rebuilt_from (after_events two_readers) (reached two_readers); site = 0; holder = 7; taken = other_token; events = []; well = tt; leads = refl }
 
 pub waits : WaitsToEnter (after_events writers_wait) 0 2 6
 waits = record { there = omega arith; waits = refl; room = omega arith; room_to_give = to_give }

@@ -22,6 +22,7 @@ use Rattle.admission_model.proofs.SessionLemmas.{adds, sessions-keys, session_ch
 use Rattle.multi_site_world.specs.declared.event.Event.{Event}
 use Rattle.multi_site_world.specs.declared.event.Event.TheVariants.{Call}
 use Rattle.multi_site_world.specs.World.{World, account_at, with_account, happens, run}
+use Rattle.rebuild_laws.proofs.TellingLemmas.{run_append}
 use Rattle.multi_site_world.proofs.WorldLemmas.{IsSoundWorld, same_account, other_account}
 use Rattle.multi_site_world.proofs.EventLemmas.{sound_happens}
 use Rattle.fencing_laws.specs.Entering.{GoesFirst, AreFair}
@@ -32,10 +33,6 @@ pub record Leads (r w : ℕ) (P : World → Type 0) (u : World) : Type 0 where
   pub events : List Event
   pub fair : AreFair r w events u
   pub reaches : P (run events u)
-
-pub run_append : (xs ys : List Event) (u : World) → run (xs ++ ys) u ≡ run ys (run xs u)
-run_append [] ys u = refl
-run_append (x ∷ xs) ys u = run_append xs ys (happens u x)
 
 fair_append : (r w : ℕ) (xs ys : List Event) (u : World) → AreFair r w xs u → AreFair r w ys (run xs u) → AreFair r w (xs ++ ys) u
 fair_append r w [] ys u first second = second

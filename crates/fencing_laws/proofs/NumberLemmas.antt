@@ -9,7 +9,7 @@ use Rattle.admission_model.specs.Account.{Account}
 use Rattle.admission_model.specs.Knowledge.{known}
 use Rattle.admission_core.specs.Core.{Core, Stands}
 use Rattle.multi_site_world.specs.World.{World, account_at}
-use Rattle.multi_site_world.specs.Laws.{IsReachedWorld}
+use Rattle.rebuild_laws.specs.Groups.{IsRebuiltWorld}
 use Rattle.fencing_laws.specs.Fences.{fence, number_of}
 use Rattle.fencing_laws.proofs.FenceLemmas.{counted_all}
 
@@ -18,6 +18,6 @@ number_counted c a r stands =
     total_same c.layout.sites (λ s. counter_of c.book r s Fin) (λ s. known a r s Fin) (λ s lower. stands.shows.counters r s Fin)
     ∙ ap (λ (l : LayoutState). total l.sites (λ s. known a r s Fin)) stands.shows.layout
 
-pub number_in_world : (c : Core) (w : World) → IsReachedWorld w → (i r : ℕ) → i < w.layout.sites → Stands (account_at w i) c → total c.layout.sites (λ s. counter_of c.book r s Fin) ≡ fence w i r
+pub number_in_world : (c : Core) (w : World) → IsRebuiltWorld w → (i r : ℕ) → i < w.layout.sites → Stands (account_at w i) c → total c.layout.sites (λ s. counter_of c.book r s Fin) ≡ fence w i r
 number_in_world c w reached i r below stands =
     number_counted c (account_at w i) r stands ∙ sym (counted_all w reached i r below)

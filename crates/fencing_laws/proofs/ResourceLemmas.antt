@@ -1,5 +1,5 @@
 -- What a resource may rely on.
-use Rattle.std.proofs.Common.{◌≡◌, ℕ, ◌<◌, ◌≤◌, ◌⊎◌, inl, inr, Bool, true, false, not, ◌||◌, ltb, List, [], ◌∷◌, ◌++◌, Option, Some, None, refl, sym, ap, subst, ◌∙◌, arith}
+use Rattle.std.proofs.Common.{◌≡◌, ℕ, ◌<◌, ◌≤◌, ◌⊎◌, inl, inr, Bool, true, false, not, ◌||◌, ltb, List, [], ◌∷◌, Option, Some, None, refl, sym, ap, subst, ◌∙◌, arith}
 use Rattle.std.specs.List.{AllByRecursion}
 use Rattle.std.proofs.lemmas.Bool.{cases_Bool, le-leb, lt-leb, lt-ltb, le-ltb, and_from}
 use Rattle.merge_core.specs.Layout.{LayoutState}
@@ -9,15 +9,16 @@ use Rattle.admission_model.specs.declared.ask.Ask.TheVariants.{Leave}
 use Rattle.admission_model.specs.Account.{phase_of}
 use Rattle.multi_site_world.specs.declared.event.Event.{Event}
 use Rattle.multi_site_world.specs.declared.event.Event.TheVariants.{Call}
-use Rattle.multi_site_world.specs.World.{World, account_at, start_world, happens, run}
-use Rattle.multi_site_world.specs.Laws.{IsReachedWorld, IsInside}
-use Rattle.multi_site_world.proofs.LawLemmas.{exclusion, run_layout}
+use Rattle.multi_site_world.specs.World.{World, account_at, happens, run}
+use Rattle.multi_site_world.specs.Laws.{IsInside}
+use Rattle.rebuild_laws.specs.Groups.{IsRebuiltWorld}
+use Rattle.rebuild_laws.proofs.RebuildLaw.{rebuilt_alone, rebuilt_on}
+use Rattle.multi_site_world.proofs.LawLemmas.{run_layout}
 use Rattle.fencing_laws.specs.Fences.{fence, AreWellTold, IsSameStay}
 use Rattle.fencing_laws.specs.Resource.{Token, allows, all_allow, seen_of, lets_in, phase_for, IsTokenOf, WasTaken, IsTakenBeside}
 use Rattle.fencing_laws.proofs.FenceLemmas.{later_above, number_rises}
 use Rattle.fencing_laws.proofs.EarlierLemmas.{earlier_below}
 use Rattle.fencing_laws.proofs.StayLemmas.{other_above}
-use Rattle.fencing_laws.proofs.LeaveLemmas.{run_append}
 use Rattle.fencing_laws.proofs.RememberLemmas.{for_writer, for_reader, two_numbers}
 
 -- the two sides of the rule
@@ -60,7 +61,7 @@ reads_there w r i h it token e = token.inside ∙ ap (λ b. Some (phase_for b)) 
 same_sites : (events : List Event) (u : World) → (run events u).layout.sites ≡ u.layout.sites
 same_sites events u = ap (λ (l : LayoutState). l.sites) (run_layout events u)
 
-pub in_order : (u : World) → IsReachedWorld u → (r i h j k : ℕ) (old new : Token) → IsTokenOf u r i h old → (events : List Event) → AreWellTold events u → IsTokenOf (run events u) r j k new → allows old new ≡ true
+pub in_order : (u : World) → IsRebuiltWorld u → (r i h j k : ℕ) (old new : Token) → IsTokenOf u r i h old → (events : List Event) → AreWellTold events u → IsTokenOf (run events u) r j k new → allows old new ≡ true
 in_order u reached r i h j k old new first events well second = at (cases_Bool new.writes) (cases_Bool old.writes)
   where
     there : j < u.layout.sites
@@ -81,32 +82,23 @@ in_order u reached r i h j k old new first events well second = at (cases_Bool n
     at (inr e) (inl d) =
         reader_allowed old new e (inr (reader e d (other_above u reached i r h first.there (writes_there u r i h old first d) events well j k there (is_inside new.writes (phase_of (account_at (run events u) j) r k) second.inside))))
 
-pub meanwhile : (v : World) → IsReachedWorld v → (r i h j k : ℕ) (old new : Token) → IsTokenOf v r i h old → j < v.layout.sites → phase_of (account_at v j) r k ≡ Some (phase_for new.writes) → ¬ ((i ≡ j) × (h ≡ k)) → allows old new ≡ true
+pub meanwhile : (v : World) → IsRebuiltWorld v → (r i h j k : ℕ) (old new : Token) → IsTokenOf v r i h old → j < v.layout.sites → phase_of (account_at v j) r k ≡ Some (phase_for new.writes) → ¬ ((i ≡ j) × (h ≡ k)) → allows old new ≡ true
 meanwhile v reached r i h j k old new token there here apart = at (cases_Bool new.writes) (cases_Bool old.writes)
   where
     at : (new.writes ≡ true) ⊎ (new.writes ≡ false) → (old.writes ≡ true) ⊎ (old.writes ≡ false) → allows old new ≡ true
     at (inr e) (inr d) = reader_allowed old new e (inl d)
     at other (inl d) =
-        absurd (apart (exclusion v reached r i j h k token.there there (writes_there v r i h old token d) (is_inside new.writes (phase_of (account_at v j) r k) here)))
+        absurd (apart (rebuilt_alone v reached r i j h k token.there there (writes_there v r i h old token d) (is_inside new.writes (phase_of (account_at v j) r k) here)))
     at (inl e) other =
         let writes : phase_of (account_at v j) r k ≡ Some Writer = here ∙ ap (λ b. Some (phase_for b)) e in
-        let same = exclusion v reached r j i k h there token.there writes (is_inside old.writes (phase_of (account_at v i) r h) token.inside) in
+        let same = rebuilt_alone v reached r j i k h there token.there writes (is_inside old.writes (phase_of (account_at v i) r h) token.inside) in
         absurd (apart (sym same.0, sym same.1))
 
 rises_along : (events : List Event) (u : World) (i r : ℕ) → fence u i r ≤ fence (run events u) i r
 rises_along [] u i r = omega arith
 rises_along (event ∷ events) u i r = omega (arith, number_rises u event i r, rises_along events (happens u event) i r)
 
-reached_on : (u : World) (events : List Event) → IsReachedWorld u → IsReachedWorld (run events u)
-reached_on u events is = record {
-  whole = is.whole;
-  is_layout = is.is_layout;
-  first = is.first;
-  events = is.events ++ events;
-  reached = ap (run events) is.reached ∙ sym (run_append is.events events (start_world is.first is.whole));
-}
-
-pub writer_left : (u : World) → IsReachedWorld u → (r i h j k : ℕ) (old new : Token) → IsTokenOf u r i h new → new.writes ≡ true → (stay : List Event) → phase_of (account_at (run stay u) i) r h ≡ Some Writer → (events : List Event)
+pub writer_left : (u : World) → IsRebuiltWorld u → (r i h j k : ℕ) (old new : Token) → IsTokenOf u r i h new → new.writes ≡ true → (stay : List Event) → phase_of (account_at (run stay u) i) r h ≡ Some Writer → (events : List Event)
     → AreWellTold events (happens (run stay u) (Call i (Leave r h))) → IsTokenOf (run events (happens (run stay u) (Call i (Leave r h)))) r j k old → allows old new ≡ false
 writer_left u reached r i h j k old new token writes stay inside_still events well later =
     let v = run stay u in
@@ -118,10 +110,10 @@ writer_left u reached r i h j k old new token writes stay inside_still events we
       token.number,
       later.number,
       rises_along stay u i r,
-      later_above v (reached_on u stay reached) i r h below inside_still events well j k there (is_inside old.writes (phase_of (account_at (run events (happens v (Call i (Leave r h)))) j) r k) later.inside),
+      later_above v (rebuilt_on u stay reached) i r h below inside_still events well j k there (is_inside old.writes (phase_of (account_at (run events (happens v (Call i (Leave r h)))) j) r k) later.inside),
     ))
 
-pub reader_left : (u : World) → IsReachedWorld u → (r i h j k : ℕ) (old new : Token) → IsTokenOf u r i h new → new.writes ≡ false → (events : List Event) → AreWellTold events u → IsTokenOf (run events u) r j k old → old.writes ≡ true → allows old new ≡ false
+pub reader_left : (u : World) → IsRebuiltWorld u → (r i h j k : ℕ) (old new : Token) → IsTokenOf u r i h new → new.writes ≡ false → (events : List Event) → AreWellTold events u → IsTokenOf (run events u) r j k old → old.writes ≡ true → allows old new ≡ false
 reader_left u reached r i h j k old new token reads events well later writes =
     reader_refused old new reads writes
     (omega (

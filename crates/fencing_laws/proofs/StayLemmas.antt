@@ -20,10 +20,12 @@ use Rattle.admission_model.proofs.ServingLemmas.{first_both}
 use Rattle.multi_site_world.specs.declared.event.Event.{Event}
 use Rattle.multi_site_world.specs.declared.event.Event.TheVariants.{Call, Send, Take, Thin, Restart, Grow}
 use Rattle.multi_site_world.specs.World.{World, account_at, with_account, world_taken, thin_message, world_here, place_of, happens, run}
-use Rattle.multi_site_world.specs.Laws.{IsReachedWorld, IsInside}
+use Rattle.multi_site_world.specs.Laws.{IsInside}
+use Rattle.rebuild_laws.specs.Groups.{IsRebuiltWorld}
 use Rattle.multi_site_world.proofs.FamilyLemmas.{writer_alone}
 use Rattle.multi_site_world.proofs.WorldLemmas.{IsSoundWorld, same_account, other_account}
-use Rattle.multi_site_world.proofs.EventLemmas.{sound_reached, sound_happens}
+use Rattle.multi_site_world.proofs.EventLemmas.{sound_happens}
+use Rattle.rebuild_laws.proofs.RebuildLaw.{sound_rebuilt_world}
 use Rattle.multi_site_world.proofs.LawLemmas.{sent_before, run_layout}
 use Rattle.fencing_laws.specs.Fences.{fence, AreWellTold, IsSameStay}
 use Rattle.fencing_laws.proofs.FenceLemmas.{above_writer, number_rises}
@@ -164,6 +166,6 @@ other_later (event ∷ events) w sound i r h below writes well j k there inside_
         raise (inl it) = inl (record { same_site = it.same_site; same_holder = it.same_holder; writes = it.writes; never_leaves = (not_leave, it.never_leaves) })
         raise (inr above) = inr (omega (arith, above, number_rises w event i r))
 
-pub other_above : (u : World) → IsReachedWorld u → (i r h : ℕ) → i < u.layout.sites → phase_of (account_at u i) r h ≡ Some Writer → (events : List Event) → AreWellTold events u → (j k : ℕ) → j < u.layout.sites → IsInside (phase_of (account_at (run events u) j) r k) → IsSameStay r i h j k events (run events u) ⊎ (fence u i r < fence (run events u) j r)
+pub other_above : (u : World) → IsRebuiltWorld u → (i r h : ℕ) → i < u.layout.sites → phase_of (account_at u i) r h ≡ Some Writer → (events : List Event) → AreWellTold events u → (j k : ℕ) → j < u.layout.sites → IsInside (phase_of (account_at (run events u) j) r k) → IsSameStay r i h j k events (run events u) ⊎ (fence u i r < fence (run events u) j r)
 other_above u is i r h below writes events well j k there inside_there =
-    other_later events u (sound_reached u is) i r h below writes well j k there inside_there
+    other_later events u (sound_rebuilt_world u is) i r h below writes well j k there inside_there

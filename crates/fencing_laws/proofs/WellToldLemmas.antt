@@ -24,9 +24,11 @@ use Rattle.multi_site_world.specs.declared.event.Event.TheVariants.{Call, Send, 
 use Rattle.multi_site_world.specs.declared.event.WorldReply.{WorldReply}
 use Rattle.multi_site_world.specs.declared.event.WorldReply.TheVariants.{Core, NoMessage}
 use Rattle.multi_site_world.specs.World.{World, account_at, with_account, world_taken, reply_taken, thin, thin_message, world_here, place_of, happens, world_reply, run}
-use Rattle.multi_site_world.specs.Laws.{IsReachedWorld, IsMergedReply}
+use Rattle.multi_site_world.specs.Laws.{IsMergedReply}
+use Rattle.rebuild_laws.specs.Groups.{IsRebuiltWorld}
 use Rattle.multi_site_world.proofs.WorldLemmas.{IsSoundWorld, same_account}
-use Rattle.multi_site_world.proofs.EventLemmas.{sound_reached, message_there}
+use Rattle.multi_site_world.proofs.EventLemmas.{message_there}
+use Rattle.rebuild_laws.proofs.RebuildLaw.{sound_rebuilt_world}
 use Rattle.multi_site_world.proofs.LawLemmas.{reply_there}
 use Rattle.multi_site_world.proofs.StepLaws.{finished_stays}
 use Rattle.fencing_laws.specs.Fences.{KnowsFinished, IsWellTold}
@@ -103,12 +105,12 @@ merged_hears a delta merged = at (reason (view_of a) (Merge delta)) refl
         let refused : ◌≡◌ {A = WorldReply} (Core (Refused refusal)) (Core (Merged merged.0)) =
         sym (ap (λ o. Core (replied o (answer (view_of a) (Merge delta)))) e) ∙ merged.1 in cc
 
-pub well_told_whole : (w : World) → IsReachedWorld w → (i k l : ℕ) → i < w.layout.sites → IsMergedReply (world_reply w (Take i l)) → (events : List Event) → IsWellTold (run events (happens w (Take i l))) (Thin i k l)
+pub well_told_whole : (w : World) → IsRebuiltWorld w → (i k l : ℕ) → i < w.layout.sites → IsMergedReply (world_reply w (Take i l)) → (events : List Event) → IsWellTold (run events (happens w (Take i l))) (Thin i k l)
 well_told_whole w reached i k l below merged events =
     at (slice_get w.sent l) refl (subst IsMergedReply (reply_there w (Take i l) sound below) merged)
   where
     sound : IsSoundWorld w
-    sound = sound_reached w reached
+    sound = sound_rebuilt_world w reached
 
     at : (o : Option DeltaState) → slice_get w.sent l ≡ o → IsMergedReply (reply_taken w i o) → IsWellTold (run events (happens w (Take i l))) (Thin i k l)
     at None e reply = let gone : ◌≡◌ {A = WorldReply} NoMessage (Core (Merged reply.0)) = reply.1 in cc
@@ -122,12 +124,12 @@ well_told_whole w reached i k l below merged events =
         (subst (λ (b : Account). KnowsFinished b delta.rows) (sym account)
         (knows_rows (shape_of w.layout) (hears a delta.rows) delta.rows delta.rows (all_shown (shape_of w.layout) delta.rows message.apart) (λ r s. whole_covers w i r delta.rows sound below message.rows s)))
 
-pub well_told_thin : (w : World) → IsReachedWorld w → (i k l m : ℕ) → i < w.layout.sites → IsWellTold w (Thin i l m) → IsMergedReply (world_reply w (Thin i l m)) → (events : List Event) → IsWellTold (run events (happens w (Thin i l m))) (Thin i k l)
+pub well_told_thin : (w : World) → IsRebuiltWorld w → (i k l m : ℕ) → i < w.layout.sites → IsWellTold w (Thin i l m) → IsMergedReply (world_reply w (Thin i l m)) → (events : List Event) → IsWellTold (run events (happens w (Thin i l m))) (Thin i k l)
 well_told_thin w reached i k l m below well merged events =
     at (slice_get w.sent l) (slice_get w.sent m) refl refl (subst IsMergedReply (reply_there w (Thin i l m) sound below) merged)
   where
     sound : IsSoundWorld w
-    sound = sound_reached w reached
+    sound = sound_rebuilt_world w reached
 
     at : (o p : Option DeltaState) → slice_get w.sent l ≡ o → slice_get w.sent m ≡ p → IsMergedReply (reply_taken w i (thin_message o p)) → IsWellTold (run events (happens w (Thin i l m))) (Thin i k l)
     at None None e d reply = let gone : ◌≡◌ {A = WorldReply} NoMessage (Core (Merged reply.0)) = reply.1 in cc

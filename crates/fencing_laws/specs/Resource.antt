@@ -6,7 +6,7 @@ use Rattle.session_list.specs.declared.session.Phase.TheVariants.{Reader, Writer
 use Rattle.admission_model.specs.Account.{phase_of}
 use Rattle.multi_site_world.specs.declared.event.Event.{Event}
 use Rattle.multi_site_world.specs.World.{World, account_at, run}
-use Rattle.multi_site_world.specs.Laws.{IsReachedWorld}
+use Rattle.rebuild_laws.specs.Groups.{IsRebuiltWorld}
 use Rattle.fencing_laws.specs.Fences.{fence, AreWellTold}
 
 -- what a session shows to a resource: whether it writes, and its number
@@ -68,7 +68,7 @@ pub record IsTokenOf (w : World) (r i h : ℕ) (it : Token) : Type 0 where
 -- some session took the token in this world, or in one that leads to it
 pub record WasTaken (u : World) (r : ℕ) (old : Token) : Type 0 where
   pub world : World
-  pub reached : IsReachedWorld world
+  pub reached : IsRebuiltWorld world
   pub site : ℕ
   pub holder : ℕ
   pub taken : IsTokenOf world r site holder old
@@ -79,7 +79,7 @@ pub record WasTaken (u : World) (r : ℕ) (old : Token) : Type 0 where
 -- another session takes the token `old` in a world in which holder k is inside at site j, as `new` says
 pub record IsTakenBeside (r j k : ℕ) (new old : Token) : Type 0 where
   pub world : World
-  pub reached : IsReachedWorld world
+  pub reached : IsRebuiltWorld world
   pub site : ℕ
   pub holder : ℕ
   pub taken : IsTokenOf world r site holder old

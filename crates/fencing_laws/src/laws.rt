@@ -12,6 +12,7 @@ ghost use Rattle.multi_site_world.specs.declared.event.Event.TheVariants.{Call, 
 ghost use Rattle.multi_site_world.specs.declared.event.WorldReply.TheVariants.{Core};
 ghost use Rattle.multi_site_world.specs.World.{World, account_at, happens, world_reply, run};
 ghost use Rattle.multi_site_world.specs.Laws.{IsReachedWorld, IsInside, IsMergedReply};
+ghost use Rattle.rebuild_laws.specs.Groups.{IsRebuiltWorld};
 ghost use Rattle.fencing_laws.specs.Fences.{fence, number_of, IsWellTold, AreWellTold, IsSameStay};
 ghost use Rattle.fencing_laws.specs.Resource.{Token, allows, all_allow, seen_of, lets_in, phase_for, IsTokenOf, WasTaken, IsTakenBeside};
 ghost use Rattle.fencing_laws.specs.Entering.{AreFair, IsAsBeforeOrGone, WaitsToEnter, CanEnter};
@@ -22,26 +23,26 @@ ghost use Rattle.fencing_laws.specs.Examples.{IsFilled, first_writer, taken_whol
 /// the writer has left, its own holder's next session has a greater number too. A site counts its number over the sites that
 /// it knows, and no event lowers it.
 pub fn fence_law()
-    ensures later { (u : World) → IsReachedWorld u → (i r h : ℕ) → i < u.layout.sites → phase_of (account_at u i) r h ≡ Some Writer
+    ensures later { (u : World) → IsRebuiltWorld u → (i r h : ℕ) → i < u.layout.sites → phase_of (account_at u i) r h ≡ Some Writer
         → (events : List Event) → AreWellTold events u → (j k : ℕ) → j < u.layout.sites → IsInside (phase_of (account_at (run events u) j) r k)
         → IsSameStay r i h j k events (run events u) ⊎ (fence u i r < fence (run events u) j r) }
-    ensures after_leaving { (u : World) → IsReachedWorld u → (i r h : ℕ) → i < u.layout.sites → phase_of (account_at u i) r h ≡ Some Writer
+    ensures after_leaving { (u : World) → IsRebuiltWorld u → (i r h : ℕ) → i < u.layout.sites → phase_of (account_at u i) r h ≡ Some Writer
         → (events : List Event) → AreWellTold events (happens u (Call i (Leave r h)))
         → let v = run events (happens u (Call i (Leave r h))) in (j k : ℕ) → j < u.layout.sites → IsInside (phase_of (account_at v j) r k)
         → fence u i r < fence v j r }
-    ensures earlier { (u : World) → IsReachedWorld u → (i r h : ℕ) → i < u.layout.sites → IsInside (phase_of (account_at u i) r h)
+    ensures earlier { (u : World) → IsRebuiltWorld u → (i r h : ℕ) → i < u.layout.sites → IsInside (phase_of (account_at u i) r h)
         → (events : List Event) → AreWellTold events u → let v = run events u in (j k : ℕ) → j < u.layout.sites → phase_of (account_at v j) r k ≡ Some Writer
         → fence u i r ≤ fence v j r }
-    ensures counted { (w : World) → IsReachedWorld w → (i r : ℕ) → i < w.layout.sites → fence w i r ≡ number_of (account_at w i) r }
+    ensures counted { (w : World) → IsRebuiltWorld w → (i r : ℕ) → i < w.layout.sites → fence w i r ≡ number_of (account_at w i) r }
     ensures rises { (w : World) → (event : Event) → (i r : ℕ) → fence w i r ≤ fence (happens w event) i r }
 {}
 
 /// A message that a site once merged, whole or well told, is one against which any thin message is well told there ever
 /// after, whatever the site forgot by restarts since.
 pub fn well_told_law()
-    ensures whole { (w : World) → IsReachedWorld w → (i k l : ℕ) → i < w.layout.sites → IsMergedReply (world_reply w (Take i l))
+    ensures whole { (w : World) → IsRebuiltWorld w → (i k l : ℕ) → i < w.layout.sites → IsMergedReply (world_reply w (Take i l))
         → (events : List Event) → IsWellTold (run events (happens w (Take i l))) (Thin i k l) }
-    ensures thin { (w : World) → IsReachedWorld w → (i k l m : ℕ) → i < w.layout.sites → IsWellTold w (Thin i l m) → IsMergedReply (world_reply w (Thin i l m))
+    ensures thin { (w : World) → IsRebuiltWorld w → (i k l m : ℕ) → i < w.layout.sites → IsWellTold w (Thin i l m) → IsMergedReply (world_reply w (Thin i l m))
         → (events : List Event) → IsWellTold (run events (happens w (Thin i l m))) (Thin i k l) }
 {}
 
@@ -53,14 +54,14 @@ pub fn resource_law()
     ensures remembered { (older newer : List Token) → (old new : Token) → allows old new ≡ false → lets_in (seen_of (newer ++ old ∷ older)) new ≡ false }
     ensures let_in { (u : World) → (r j k : ℕ) → (new : Token) → IsTokenOf u r j k new → (olds : List Token)
         → AllByRecursion (λ old. WasTaken u r old ⊎ IsTakenBeside r j k new old) olds → lets_in (seen_of olds) new ≡ true }
-    ensures in_order { (u : World) → IsReachedWorld u → (r i h j k : ℕ) → (old new : Token) → IsTokenOf u r i h old
+    ensures in_order { (u : World) → IsRebuiltWorld u → (r i h j k : ℕ) → (old new : Token) → IsTokenOf u r i h old
         → (events : List Event) → AreWellTold events u → IsTokenOf (run events u) r j k new → allows old new ≡ true }
-    ensures meanwhile { (v : World) → IsReachedWorld v → (r i h j k : ℕ) → (old new : Token) → IsTokenOf v r i h old
+    ensures meanwhile { (v : World) → IsRebuiltWorld v → (r i h j k : ℕ) → (old new : Token) → IsTokenOf v r i h old
         → j < v.layout.sites → phase_of (account_at v j) r k ≡ Some (phase_for new.writes) → ¬ ((i ≡ j) × (h ≡ k)) → allows old new ≡ true }
-    ensures writer_left { (u : World) → IsReachedWorld u → (r i h j k : ℕ) → (old new : Token) → IsTokenOf u r i h new → new.writes ≡ true
+    ensures writer_left { (u : World) → IsRebuiltWorld u → (r i h j k : ℕ) → (old new : Token) → IsTokenOf u r i h new → new.writes ≡ true
         → (stay : List Event) → let v = run stay u in phase_of (account_at v i) r h ≡ Some Writer
         → (events : List Event) → AreWellTold events (happens v (Call i (Leave r h))) → IsTokenOf (run events (happens v (Call i (Leave r h)))) r j k old → allows old new ≡ false }
-    ensures reader_left { (u : World) → IsReachedWorld u → (r i h j k : ℕ) → (old new : Token) → IsTokenOf u r i h new → new.writes ≡ false
+    ensures reader_left { (u : World) → IsRebuiltWorld u → (r i h j k : ℕ) → (old new : Token) → IsTokenOf u r i h new → new.writes ≡ false
         → (events : List Event) → AreWellTold events u → IsTokenOf (run events u) r j k old → old.writes ≡ true → allows old new ≡ false }
 {}
 
@@ -69,10 +70,10 @@ pub fn resource_law()
 /// to know all sites, help, send and take messages. Fair events leave every other session as it was. Where the site's
 /// counter of seats taken is too full, no events at all lead there.
 pub fn not_stuck_law()
-    ensures enters { (u : World) → IsReachedWorld u → (r w h : ℕ) → WaitsToEnter u r w h → CanEnter u r w h }
+    ensures enters { (u : World) → IsRebuiltWorld u → (r w h : ℕ) → WaitsToEnter u r w h → CanEnter u r w h }
     ensures others_stay { (u : World) → (r w : ℕ) → (events : List Event) → AreFair r w events u → (i q k : ℕ)
         → IsAsBeforeOrGone r w i q (phase_of (account_at u i) q k) (phase_of (account_at (run events u) i) q k) }
-    ensures full { (u : World) → IsReachedWorld u → (r w h : ℕ) → w < u.layout.sites → counter_limit < own (account_at u w) r Taken + seats_in u.layout r
+    ensures full { (u : World) → IsRebuiltWorld u → (r w h : ℕ) → w < u.layout.sites → counter_limit < own (account_at u w) r Taken + seats_in u.layout r
         → (events : List Event) → world_reply (run events u) (Call w (Quill r h)) ≢ Core Admitted }
 {}
 

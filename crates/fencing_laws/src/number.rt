@@ -4,7 +4,7 @@ ghost use Rattle.grow_counters.specs.Counts.{counter_limit};
 ghost use Rattle.admission_model.specs.Account.{Account};
 ghost use Rattle.admission_core.specs.Core.{IsCore, Stands};
 ghost use Rattle.multi_site_world.specs.World.{World, account_at};
-ghost use Rattle.multi_site_world.specs.Laws.{IsReachedWorld};
+ghost use Rattle.rebuild_laws.specs.Groups.{IsRebuiltWorld};
 ghost use Rattle.fencing_laws.specs.Fences.{fence, number_of};
 
 use admission_core::SiteCore;
@@ -17,7 +17,7 @@ pub fn fence_number(core: &SiteCore, r: u16) -> u64
     requires core { IsCore core.now }
     requires there { r < length core.now.layout.records }
     ensures number { (a : Account) → Stands a core.now → result ≡ number_of a r }
-    ensures world { (w : World) → IsReachedWorld w → (i : ℕ) → i < w.layout.sites → Stands (account_at w i) core.now → result ≡ fence w i r }
+    ensures world { (w : World) → IsRebuiltWorld w → (i : ℕ) → i < w.layout.sites → Stands (account_at w i) core.now → result ≡ fence w i r }
     ensures few { result ≤ 16 * counter_limit }
 {
     let mut number = 0;

@@ -12,7 +12,7 @@ use Rattle.merge_core.specs.Layout.{LayoutState, IsLayout, Shape, shape_of, reco
 use Rattle.merge_core.specs.Rows.{start_counter, counter_in, counters_of}
 use Rattle.admission_model.specs.declared.ask.Ask.{Ask}
 use Rattle.admission_model.specs.declared.ask.Call.TheVariants.{Ask as AskCall, Merge}
-use Rattle.admission_model.specs.Account.{Account, begin, start_origin, layout_of, own}
+use Rattle.admission_model.specs.Account.{Account, Origin, begin, start_origin, layout_of, own}
 use Rattle.merge_core.specs.Changes.{keeps_counter}
 use Rattle.admission_model.specs.Knowledge.{told_after, told, known, hears, restarted, grown}
 use Rattle.admission_model.specs.View.{view_of}
@@ -42,7 +42,8 @@ next_call w i ask sound below =
     let b = after a (AskCall ask) in
     record {
       sound = sound_after a (AskCall ask) (sound.family.sound i below);
-      same_origin = origin_after a (AskCall ask);
+      same_records = ap (λ (o : Origin). o.layout.records) (origin_after a (AskCall ask)) ∙ sound.family.same_records i below;
+      same_site = ap (λ (o : Origin). o.site) (origin_after a (AskCall ask)) ∙ sound.family.same_site i below;
       few_sites = omega (arith, sites_after a (AskCall ask), sound.family.few_sites i below);
       more = own_grows a (AskCall ask);
       told_done = λ j there r cell.
@@ -56,7 +57,8 @@ next_heard w i delta sound below sent =
     let a = account_at w i in
     record {
       sound = sound_after a (Merge delta) (sound.family.sound i below);
-      same_origin = origin_after a (Merge delta);
+      same_records = ap (λ (o : Origin). o.layout.records) (origin_after a (Merge delta)) ∙ sound.family.same_records i below;
+      same_site = ap (λ (o : Origin). o.site) (origin_after a (Merge delta)) ∙ sound.family.same_site i below;
       few_sites = omega (arith, sites_after a (Merge delta), sound.family.few_sites i below);
       more = own_grows a (Merge delta);
       told_done = λ j there r cell.
@@ -70,7 +72,8 @@ next_grown w i n sound below more few =
     let a = account_at w i in
     record {
       sound = sound_grown a n more (sound.family.sound i below);
-      same_origin = refl;
+      same_records = sound.family.same_records i below;
+      same_site = sound.family.same_site i below;
       few_sites = few;
       more = λ r cell. omega arith;
       told_done = λ j there r cell.
@@ -87,7 +90,7 @@ next_grown w i n sound below more few =
           start_below (shape_of w.layout) r j (own (account_at w j) r) (row_fits w.layout (account_at w) sound.family j there r) cell,
         )
 
-next_restart : (w : World) (i : ℕ) → IsSoundWorld w → i < w.layout.sites → IsNext w i (restarted (account_at w i))
+pub next_restart : (w : World) (i : ℕ) → IsSoundWorld w → i < w.layout.sites → IsNext w i (restarted (account_at w i))
 next_restart w i sound below = next_grown w i (account_at w i).sites sound below (omega arith) (sound.family.few_sites i below)
 
 -- known counters were done by their sites
@@ -103,7 +106,7 @@ known_done w i j sound below there r cell = at (cases_eq j i)
     at (inr ne) =
         omega (arith, known_other (account_at w i) r j cell (λ e. ne (e ∙ sound.family.same_site i below)), sound.told_done i j below there r cell)
 
-snapshot_sent : (w : World) (i : ℕ) → IsSoundWorld w → i < w.layout.sites → IsMessage w.layout (account_at w) (snapshot_of (view_of (account_at w i)))
+pub snapshot_sent : (w : World) (i : ℕ) → IsSoundWorld w → i < w.layout.sites → IsMessage w.layout (account_at w) (snapshot_of (view_of (account_at w i)))
 snapshot_sent w i sound below = record {
   rows = all_told (IsSentRow w.layout (account_at w)) shape (known a) (length shape.records) sent_row;
   width = a.sites;
@@ -134,7 +137,7 @@ snapshot_sent w i sound below = record {
           done = λ cell. omega (arith, told_row-below b.sites (known b) r s cell, known_done w i s sound below there r cell);
         }
 
-push_message : (P : DeltaState → Type 0) (xs : List DeltaState) (d : DeltaState) → AllByRecursion P xs → P d → AllByRecursion P (xs ++ d ∷ [])
+pub push_message : (P : DeltaState → Type 0) (xs : List DeltaState) (d : DeltaState) → AllByRecursion P xs → P d → AllByRecursion P (xs ++ d ∷ [])
 push_message P [] d all here = (here, tt)
 push_message P (x ∷ xs) d all here = (all.0, push_message P xs d all.1 here)
 

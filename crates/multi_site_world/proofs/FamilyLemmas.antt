@@ -45,7 +45,7 @@ IsSentBefore layout accounts r =
     (i j : ℕ) → i < layout.sites → j < layout.sites → j ≢ i → known (accounts i) r j (Out i) ≤ own (accounts j) r (Out i)
 
 -- one site's sum, over all sites of a layout: of those that it does not know nothing was sent, nor to them
-site_sum : (a : Account) (layout : LayoutState) (i r : ℕ) → IsSound a → a.origin.layout.records ≡ layout.records → a.sites ≤ layout.sites → a.origin.site ≡ i → rights_of (view_of a) r + (inside a r + total_others layout.sites i (λ j. own a r (Out j))) ≡ grant (shape_of layout) r i + total_others layout.sites i (λ j. known a r j (Out i))
+pub site_sum : (a : Account) (layout : LayoutState) (i r : ℕ) → IsSound a → a.origin.layout.records ≡ layout.records → a.sites ≤ layout.sites → a.origin.site ≡ i → rights_of (view_of a) r + (inside a r + total_others layout.sites i (λ j. own a r (Out j))) ≡ grant (shape_of layout) r i + total_others layout.sites i (λ j. known a r j (Out i))
 site_sum a layout i r sound same_records few same_site =
     subst (λ (k : ℕ). rights_of (view_of a) r + (inside a r + total_others layout.sites k (λ j. own a r (Out j))) ≡ grant (shape_of layout) r k + total_others layout.sites k (λ j. known a r j (Out k))) same_site
     (omega (

@@ -18,7 +18,7 @@ use Rattle.multi_site_world.specs.Laws.{IsReachedWorld}
 use Rattle.multi_site_world.proofs.WorldLemmas.{same_account, other_account}
 use Rattle.multi_site_world.proofs.EventLemmas.{account_in, is_first, sound_start_world, sound_reached}
 
-reached_step : (a : Account) (step : Step) → IsReached a → IsReached (after_step a step)
+pub reached_step : (a : Account) (step : Step) → IsReached a → IsReached (after_step a step)
 reached_step a step is = record {
   from = is.from;
   may_begin = is.may_begin;
@@ -27,10 +27,10 @@ reached_step a step is = record {
 }
 
 -- all accounts of a world
-AllReached : World → Type 0
+unfoldable pub AllReached : World → Type 0
 AllReached w = (i : ℕ) → i < length w.sites → IsReached (account_at w i)
 
-reached_with : (w : World) (j : ℕ) (a : Account) → length (with_account w j a).sites ≡ length w.sites → j < length w.sites → AllReached w → IsReached a → AllReached (with_account w j a)
+pub reached_with : (w : World) (j : ℕ) (a : Account) → length (with_account w j a).sites ≡ length w.sites → j < length w.sites → AllReached w → IsReached a → AllReached (with_account w j a)
 unfolding AllReached
 reached_with w j a same below all is i there = at (cases_eq i j)
   where
@@ -69,7 +69,7 @@ happens_reached w event all =
     cond_both (ltb (place_of event) (length w.sites)) (world_here w event) w AllReached
     (λ e. here_reached w event (ltb-true (place_of event) (length w.sites) e) all) (λ e. all)
 
-run_reached : (events : List Event) (w : World) → AllReached w → AllReached (run events w)
+pub run_reached : (events : List Event) (w : World) → AllReached w → AllReached (run events w)
 unfolding AllReached
 run_reached [] w all = all
 run_reached (event ∷ events) w all = run_reached events (happens w event) (happens_reached w event all)

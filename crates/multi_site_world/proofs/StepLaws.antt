@@ -33,7 +33,7 @@ use Rattle.multi_site_world.proofs.WorldLemmas.{IsSoundWorld, IsSentRow, IsMessa
 use Rattle.multi_site_world.proofs.EventLemmas.{message_there, sound_reached}
 
 -- what holds between a site's old account and its new one, and of each account and itself, holds at every site
-at_each : (P : Account → Account → Type 0) → ((a : Account) → P a a) → (w : World) (j : ℕ) (a : Account) → j < length w.sites → P (account_at w j) a → (i : ℕ) → P (account_at w i) (account_at (with_account w j a) i)
+pub at_each : (P : Account → Account → Type 0) → ((a : Account) → P a a) → (w : World) (j : ℕ) (a : Account) → j < length w.sites → P (account_at w j) a → (i : ℕ) → P (account_at w i) (account_at (with_account w j a) i)
 at_each P same w j a below new i = at (cases_eq i j)
   where
     at : (i ≡ j) ⊎ (i ≡ j → ⊥) → P (account_at w i) (account_at (with_account w j a) i)

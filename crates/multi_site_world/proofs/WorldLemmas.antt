@@ -13,7 +13,7 @@ use Rattle.merge_core.specs.Naming.{shown_by}
 use Rattle.admission_model.specs.declared.ask.Ask.{Ask}
 use Rattle.admission_model.specs.declared.ask.Call.{Call}
 use Rattle.admission_model.specs.declared.ask.Call.TheVariants.{Ask as AskCall, Merge, Snapshot as SnapshotCall}
-use Rattle.admission_model.specs.Account.{Account, Origin, begin, start_origin, layout_of, own}
+use Rattle.admission_model.specs.Account.{Account, begin, start_origin, layout_of, own}
 use Rattle.admission_model.specs.Knowledge.{told, hears}
 use Rattle.admission_model.specs.View.{view_of}
 use Rattle.admission_model.specs.Replies.{ask_lines, merge_lines}
@@ -94,7 +94,8 @@ other_account w i j a apart = get_or-set_other w.sites i j a (begin (start_origi
 -- what a changed account has to keep
 pub record IsNext (w : World) (i : ℕ) (a : Account) : Type 0 where
   pub sound : IsSound a
-  pub same_origin : a.origin ≡ (account_at w i).origin
+  pub same_records : a.origin.layout.records ≡ w.layout.records
+  pub same_site : a.origin.site ≡ i
   pub few_sites : a.sites ≤ w.layout.sites
   pub more : (r : ℕ) (cell : Cell) → own (account_at w i) r cell ≤ own a r cell
   pub told_done : (j : ℕ) → j < w.layout.sites → (r : ℕ) (cell : Cell) → told a r j cell ≤ own (account_at w j) r cell
@@ -105,7 +106,7 @@ sound_with w i a sound below next = record {
   number = length-set w.sites i a ∙ sound.number;
   family = record {
     sound = λ j there. at (λ b. IsSound b) j (cases_eq j i) next.sound (sound.family.sound j there);
-    same_records = λ j there. at (λ b. b.origin.layout.records ≡ w.layout.records) j (cases_eq j i) (ap (λ (o : Origin). o.layout.records) next.same_origin ∙ sound.family.same_records i below) (sound.family.same_records j there);
+    same_records = λ j there. at (λ b. b.origin.layout.records ≡ w.layout.records) j (cases_eq j i) next.same_records (sound.family.same_records j there);
     same_site = λ j there. site_at j there (cases_eq j i);
     few_sites = λ j there. at (λ b. b.sites ≤ w.layout.sites) j (cases_eq j i) next.few_sites (sound.family.few_sites j there);
   };
@@ -126,7 +127,7 @@ sound_with w i a sound below next = record {
     site_at : (j : ℕ) → j < w.layout.sites → (j ≡ i) ⊎ (j ≡ i → ⊥) → (account_at (with_account w i a) j).origin.site ≡ j
     site_at j there (inl e) =
         subst (λ (x : ℕ). (account_at (with_account w i a) x).origin.site ≡ x) (sym e)
-        (ap (λ (b : Account). b.origin.site) now ∙ (ap (λ (o : Origin). o.site) next.same_origin ∙ sound.family.same_site i below))
+        (ap (λ (b : Account). b.origin.site) now ∙ next.same_site)
     site_at j there (inr ne) = ap (λ (b : Account). b.origin.site) (other_account w i j a ne) ∙ sound.family.same_site j there
 
     grows : (s r : ℕ) (cell : Cell) → own (account_at w s) r cell ≤ own (account_at (with_account w i a) s) r cell

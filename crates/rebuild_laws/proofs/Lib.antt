@@ -1,0 +1,10 @@
+pub mod IdleLemmas
+pub mod GroupLemmas
+pub mod TellingLemmas
+pub mod MostLemmas
+pub mod RebuildLemmas
+pub mod RebuildLaw
+pub mod SettlingLemmas
+pub mod MovedLemmas
+pub mod MovingLemmas
+pub mod InstanceLemmas

@@ -1,0 +1,4 @@
+pub mod Groups
+pub mod Settling
+pub mod Moving
+pub mod Instances

@@ -1,0 +1,4 @@
+pub mod RebuiltLemmas
+pub mod SettledLemmas
+pub mod ActingLemmas
+pub mod GenuineLemmas
