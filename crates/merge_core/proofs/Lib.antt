@@ -18,6 +18,7 @@ pub mod ThinLemmas
 pub mod ThinLaws
 pub mod GrowthLemmas
 pub mod LawLemmas
+pub mod LayoutLemmas
 pub mod MovedLemmas
 pub mod SnapshotLemmas
 pub mod MarkLemmas

@@ -1,6 +1,6 @@
 ghost use Rattle.std.specs.Prelude.{◌≡◌, IfOk};
 
-use faults::fault_of;
+use faults::{all_homes_good, fault_of};
 use std::alloc::{AllocError, Global};
 use std::marker::Model;
 use thiserror::Error;
@@ -137,7 +137,7 @@ impl Model for Layout {
 }
 
 impl Layout {
-    ghost use Rattle.std.specs.Prelude.{◌≡◌, ◌≢◌, IfOk, MatchOption, MatchResult, None, Ok, Some};
+    ghost use Rattle.std.specs.Prelude.{◌≡◌, ◌≢◌, ◌↔◌, IfOk, IsTrue, MatchOption, MatchResult, None, Ok, Some};
     ghost use Rattle.merge_core.specs.Layout.{IsLayout, layout_fault, at_sites};
 
     /// The layout of these records at so many sites, or the first kind of fault that some of them has.
@@ -172,18 +172,28 @@ impl Layout {
     }
 
     /// The same records at so many sites, if that is a layout: every home has to be one of the sites. Memory is
-    /// taken only where it is one.
+    /// taken only where it is one. Linear in the records: names, seats and problems are those of a layout already.
     pub fn at_sites(&self, alloc: Global, sites: u16) -> Result<Option<Layout>, AllocError>
         ensures answer { IfOk result (λ found. MatchOption found
             (layout_fault sites self.now.records ≢ None)
             (λ l. l ≡ at_sites sites self.now)) }
         ensures certain { layout_fault sites self.now.records ≢ None → result ≡ Ok None }
     {
-        if fault_of(sites, self.records.as_slice()).is_some() {
+        if !self.fits_sites(sites) {
             return Ok(None);
         }
         let records = copied(alloc, self.records.as_slice())?;
         Ok(Some(Layout { sites, records }))
+    }
+
+    // Whether the same records at so many sites are a layout.
+    fn fits_sites(&self, sites: u16) -> bool
+        ensures { IsTrue result ↔ (layout_fault sites self.now.records ≡ None) }
+    {
+        if sites == 0 || sites > MOST_SITES {
+            return false;
+        }
+        all_homes_good(sites, self.records.as_slice())
     }
 
     /// An equal layout.

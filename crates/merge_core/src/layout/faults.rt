@@ -86,7 +86,8 @@ fn all_seats_good(records: &[RecordSpec]) -> bool
         .all(|record| 1 <= record.seats && record.seats <= MOST_SEATS)
 }
 
-fn all_homes_good(sites: u16, records: &[RecordSpec]) -> bool
+/// Whether the home of every record is one of the sites.
+pub fn all_homes_good(sites: u16, records: &[RecordSpec]) -> bool
     ensures { result ≡ list_all (has_good_home sites) records.now }
 {
     records.iter().all(|record| record.home < sites)
