@@ -3,10 +3,10 @@
 
 Run it from anywhere, once ./seat_cli has built the program: python3 bench/judge.py [FOLDER]
 FOLDER keeps the inputs; without it they lie in a temporary folder, which is removed. The logs are those of the events of a
-script of `play`, as checks/second_site.py answers them; a restart begins a run. All runs are on one core, and `judge` and `play`
-take turns. Each time is the least of six runs; memory is told by GNU time. Where `valgrind` is there, the last columns have the
-instructions that an entry of the logs takes, those of them that judge it once it is read, and those that an event of the script
-takes: those of a run over COUNTED events less those of a run over half as many.
+script of `play`, as checks/second_site.py answers them; a restart begins a run, and the last logs have nothing else. All runs
+are on one core, and `judge` and `play` take turns. Each time is the least of six runs; memory is told by GNU time. Where `valgrind`
+is there, the last columns have the instructions that a line of the logs takes, those of them that judge it once it is read, and
+those that an event of the script takes: those of a run over COUNTED events less those of a run over half as many.
 """
 import json
 import os
@@ -24,11 +24,27 @@ sys.path.insert(0, f"{join.TOP}/checks")
 import second_site as rules  # noqa: E402
 
 ENTRIES = 100_000
+RECORDS = 256
 # Fewer messages than in the scripts of `play`: a log has each delta whole, and an input has at most 16 MiB.
 SHARES = (29, 29, 4, 4, 13, 13, 3.5, 4.4, 0.1)
+
+
+def long_names():
+    """One site with the most records, whose names have the most bytes and differ at their ends alone."""
+    named = (f'[[record]]\nname = "the-record-{i:05}"\nseats = 1\nhome = 0\nproblem = 1\n' for i in range(RECORDS))
+    return "sites = 1\n" + "".join(named)
+
+
+def restarts():
+    """As many restarts as there is room for the lines of runs without entries."""
+    site = rules.World(tomllib.loads(long_names()), 1).sites[0]
+    return ["0 restart\n"] * (join.LIMIT // len(run_line(site)) - 1)
+
+
 LOGS = [
     ("4 sites, 4 records", play.layout(4, 4, 40), lambda: list(play.events(4, 4, 60, ENTRIES, SHARES))),
     ("60,000 sessions", play.layout(1, 1, 65_535), lambda: list(play.sessions())),
+    ("runs of 256 records", long_names(), restarts),
 ]
 
 
@@ -37,9 +53,9 @@ def line(parts):
 
 
 def run_line(site):
-    """The line that begins a run of a site."""
+    """The line that begins a run of a site. Without a number of sites it is the layout's."""
     sessions = [f"r{r} {holder} {phase}" for (r, holder), (phase, _) in site.sessions.items()]
-    return line({"book": site.send(), "sessions": sessions, "site": site.site, "sites": site.layout["sites"]})
+    return line({"book": site.send(), "sessions": sessions, "site": site.site})
 
 
 def closed_logs(toml, script):

@@ -48,7 +48,8 @@ pub fn are_of_sites(layout: &Layout, transcripts: &[Transcript]) -> bool
 /// cut included; the least `Exceeds`; else `Consistent`.
 ///
 /// Each site is replayed by one core, run by run; beside it stand the own rows of the sites at the cut. Linear in the
-/// entries, a merge in its rows, and in the runs times the layout's slots.
+/// entries, a merge in its rows and a snapshot in the layout's slots; for each run linear in the layout's slots, and
+/// `n log n` in the sessions that it begins with.
 ///
 /// `BadCut` takes no memory. `Err` is answered only where memory was refused, or where a transcript has 2^64 entries,
 /// which no memory holds.

@@ -16,7 +16,7 @@ use merge_core::Layout;
 use std::alloc::{AllocError, Global};
 
 // The layout of a run at a site, if the site may know so many sites. The same records at some number of sites are known to be
-// a layout; only another number is judged anew, which compares each pair of names.
+// a layout, which is copied; at another number their homes are judged. Linear in the records either way.
 fn layout_of_run(
     alloc: Global,
     layout: &Layout,

@@ -163,9 +163,8 @@ fn replay_next(
     }
 }
 
-/// Replays a transcript with a cut through it. Linear in the entries, a merge in its rows, and in the runs times the
-/// layout's slots; one core is held. The names of records are compared, each pair, only at a run that has another number of
-/// sites than the one before it, the first one than the layout: at most 16 times.
+/// Replays a transcript with a cut through it; one core is held. Linear in the entries, a merge in its rows and a snapshot
+/// in the layout's slots; for each run linear in the layout's slots, and `n log n` in the sessions that it begins with.
 pub fn replay_runs(
     alloc: Global,
     layout: &Layout,

@@ -117,8 +117,8 @@ fn snapshot_in(text: &[u8]) -> Result<Call, Unread>
     Err(Unread::Refused)
 }
 
-/// The call that a text is read as. Linear in the text. A text that is that of no call may be read as an ask, which
-/// [`is_call_text`] tells.
+/// The call that a text is read as. Linear in the text, and an ask in the records, among which its name is looked up. A text
+/// that is that of no call may be read as an ask, which [`is_call_text`] tells.
 pub(crate) fn call_in(alloc: Global, layout: &Layout, text: &[u8]) -> Result<Call, Unread>
     ensures sound { IfOk result (IsReadAs layout.now.records text.now) }
     ensures fits { IfOk result FitsCall }

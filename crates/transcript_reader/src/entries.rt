@@ -42,7 +42,7 @@ fn entry_parts(texts: &mut Texts, line: &[u8]) -> Result<u16, Unread>
     Ok(pass)
 }
 
-// The entry of a line. Linear in it. A line is refused for its reply before its ask is written.
+// The entry of a line. Linear in it and in the records. A line is refused for its reply before its ask is written.
 fn entry_in(alloc: Global, layout: &Layout, texts: &mut Texts, line: &[u8]) -> Result<Entry, Unread>
     ensures sound { IfOk result (λ e. line.now ≡ entry_text layout.now.records e) }
     ensures fits { IfOk result FitsEntry }
@@ -57,7 +57,8 @@ fn entry_in(alloc: Global, layout: &Layout, texts: &mut Texts, line: &[u8]) -> R
     Err(Unread::Refused)
 }
 
-/// The entries of the first lines, up to one that is no entry, and the bytes from there on. Linear in their lines.
+/// The entries of the first lines, up to one that is no entry, and the bytes from there on. Linear in their
+/// lines, and for each in the records.
 pub(crate) fn entries_in<'a>(
     alloc: Global,
     layout: &Layout,

@@ -112,8 +112,8 @@ fn begins_run(
     Ok(text.as_bytes() == line)
 }
 
-/// How the run begins that a line begins, in either spelling. Linear in the line, in the layout's slots, and in the pairs of
-/// records, whose names are compared.
+/// How the run begins that a line begins, in either spelling. Linear in the line, in the layout's slots, and for each session
+/// in the records, among which its name is looked up.
 pub(crate) fn opening_in(alloc: Global, layout: &Layout, line: &[u8]) -> Result<Opening, Unread>
     ensures sound { IfOk result (BeginsRun layout.now line.now) }
     ensures only { (it : OpeningThere) → BeginsRun layout.now line.now it → (result ≡ Ok it) ⊎ (result ≡ Err Unread.Memory) }

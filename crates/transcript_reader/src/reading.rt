@@ -79,7 +79,8 @@ fn line_behind(line: u64, run: &SiteRun) -> Result<u64, AllocError>
 /// What the lines say: a transcript for each site of the layout, in order of sites. They are the lines of runs that
 /// [`transcript_text::transcript_text`] writes; the line that begins a run may lack the number of sites, which then
 /// is the layout's. Runs of one site stand in their order, and a site without a run has an empty transcript. Linear in
-/// the bytes, and for each run in the layout's slots and in the pairs of its records, whose names are compared.
+/// the bytes, for each run in the layout's slots, and for each entry and each session in the records, among which its name
+/// is looked up.
 pub fn read_transcripts(
     alloc: Global,
     layout: &Layout,

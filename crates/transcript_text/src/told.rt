@@ -8,7 +8,7 @@ use admission_core::{Durable, RestoreError, SiteCore};
 use merge_core::{Delta, Layout};
 use std::alloc::{AllocError, Global};
 
-/// The layout at so many sites, if it is one where the site is there and no site is new.
+/// The layout at so many sites, if it is one where the site is there and no site is new. Linear in the records.
 pub fn layout_of_run(
     alloc: Global,
     layout: &Layout,
@@ -23,7 +23,8 @@ pub fn layout_of_run(
     layout.at_sites(alloc, sites)
 }
 
-/// What the site tells others when it begins so, if it may.
+/// What the site tells others when it begins so, if it may. Linear in the layout's slots, and in the counters and
+/// sessions that it begins with.
 pub fn book_told(
     alloc: Global,
     layout: &Layout,

@@ -43,8 +43,8 @@ pub fn transcript_text(
     Ok(text)
 }
 
-/// Whether each run of a transcript may begin as it does, so that [`transcript_text`] writes it. Linear in the layout's
-/// slots for each run.
+/// Whether each run of a transcript may begin as it does, so that [`transcript_text`] writes it. Linear for each run
+/// in the layout's slots, and in the counters and sessions that it begins with.
 pub fn may_be_written(
     alloc: Global,
     layout: &Layout,
