@@ -15,6 +15,8 @@ mod knowledge;
 #[cfg(test)]
 mod lacks;
 #[cfg(test)]
+mod listed;
+#[cfg(test)]
 mod nets;
 #[cfg(test)]
 mod pairs;

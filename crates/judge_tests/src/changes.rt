@@ -14,6 +14,7 @@ pub enum Said {
     AlreadyHere,
     NoSite,
     Memory,
+    Merged(u64),
     /// The store failed.
     Fault,
 }
@@ -39,6 +40,7 @@ pub fn reply_of(said: Said) -> Reply {
         Said::AlreadyHere => Reply::Refused(Refusal::AlreadyHere),
         Said::NoSite => Reply::Refused(Refusal::NoSite),
         Said::Memory => Reply::Refused(Refusal::Memory),
+        Said::Merged(risen) => Reply::Merged(risen),
         Said::Fault => Reply::Refused(Refusal::StoreFault),
     }
 }

@@ -9,6 +9,8 @@ mod growths;
 #[cfg(test)]
 mod judged;
 #[cfg(test)]
+mod long_logs;
+#[cfg(test)]
 mod openings;
 #[cfg(test)]
 mod posts;

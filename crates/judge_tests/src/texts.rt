@@ -19,28 +19,71 @@ const OPENING: &str =
 // The site announces a writer.
 const ENTRY: &str = "{\"call\":\"announce a 5\",\"pass\":0,\"reply\":\"announced 1\"}\n";
 
-// Two parts of a text, a cut, and what comes of them.
-static CASES: [(&str, &str, [u64; 3], Told); 6] = [
-    (OPENING, ENTRY, [0, 1, 0], Told::Judged(Verdict::Consistent)),
+// A run of site 1 of three begins that knows a reader at site 0, which no site keeps of another.
+const MORE: &str =
+    "{\"book\":\"{\\\"from\\\":1,\\\"rows\\\":[{\\\"ann\\\":0,\\\"fin\\\":0,\\\"out\\\":[3,0,0],\\\"r\\\":0,\\\"s\\\":0,\\\"taken\\\":1}],\\\"v\\\":1}\",\"sessions\":[],\"site\":1,\"sites\":3}\n";
+
+// The same of a writer at site 0, which is kept.
+const NOTICED: &str =
+    "{\"book\":\"{\\\"from\\\":1,\\\"rows\\\":[{\\\"ann\\\":1,\\\"fin\\\":0,\\\"out\\\":[3,0,0],\\\"r\\\":0,\\\"s\\\":0,\\\"taken\\\":0}],\\\"v\\\":1}\",\"sessions\":[],\"site\":1,\"sites\":3}\n";
+
+// The site hears of that writer.
+const HEARD: &str =
+    "{\"call\":\"take {\\\"from\\\":0,\\\"rows\\\":[{\\\"ann\\\":1,\\\"fin\\\":0,\\\"out\\\":[3,0,0],\\\"r\\\":0,\\\"s\\\":0,\\\"taken\\\":0}],\\\"v\\\":1}\",\"pass\":0,\"reply\":\"merged 1\"}\n";
+
+// Three parts of a text, a cut, and what comes of them.
+static CASES: [(&str, &str, &str, [u64; 3], Told); 10] = [
+    (
+        OPENING,
+        ENTRY,
+        "",
+        [0, 1, 0],
+        Told::Judged(Verdict::Consistent),
+    ),
     (
         OPENING,
         "{\"call\":\"announce a 5\",\"pass\":0,\"reply\":\"announced 2\"}\n",
+        "",
         [0, 1, 0],
         Told::Judged(Verdict::BadReply { site: 1, at: 0 }),
     ),
-    (OPENING, ENTRY, [0, 2, 0], Told::Judged(Verdict::BadCut)),
+    (OPENING, ENTRY, "", [0, 2, 0], Told::Judged(Verdict::BadCut)),
     (
         OPENING,
         "{\"call\":\"announce a 5\", \"pass\":0,\"reply\":\"announced 1\"}\n",
+        "",
         [0, 1, 0],
         Told::Refused(2),
     ),
-    (ENTRY, "", [0, 1, 0], Told::Refused(1)),
+    (ENTRY, "", "", [0, 1, 0], Told::Refused(1)),
     (
         "{\"book\":\"{\\\"from\\\":1,\\\"rows\\\":[],\\\"v\\\":1}\",\"sessions\":[],\"site\":3,\"sites\":3}\n",
         ENTRY,
+        "",
         [0, 1, 0],
         Told::Refused(1),
+    ),
+    (OPENING, MORE, ENTRY, [0, 1, 0], Told::Refused(2)),
+    (
+        NOTICED,
+        "",
+        "",
+        [0, 0, 0],
+        Told::Judged(Verdict::BadJoint { site: 1 }),
+    ),
+    (
+        OPENING,
+        HEARD,
+        NOTICED,
+        [0, 0, 0],
+        Told::Judged(Verdict::Consistent),
+    ),
+    (
+        OPENING,
+        HEARD,
+        OPENING,
+        [0, 0, 0],
+        Told::Judged(Verdict::BadJoint { site: 1 }),
     ),
 ];
 
@@ -63,8 +106,9 @@ fn outcome_of(alloc: Global, text: &str, cut: &[u64]) -> Option<(Told, bool)> {
 
 // The first case of which something else comes. A text that is judged has the table, but for the cut that is none.
 fn first_other(alloc: Global) -> Option<Option<(usize, Told, bool)>> {
-    for (k, (front, back, cut, wanted)) in CASES.iter().enumerate() {
+    for (k, (front, middle, back, cut, wanted)) in CASES.iter().enumerate() {
         let mut text = String::from_str(alloc, *front).ok()?;
+        text.push_str(*middle).ok()?;
         text.push_str(*back).ok()?;
         let (came, table) = outcome_of(alloc, text.as_str(), cut.as_slice())?;
         if came != *wanted || table != (k < 2) {

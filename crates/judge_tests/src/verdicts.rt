@@ -17,6 +17,7 @@ pub enum Told {
     Twice,
     Heard,
     NotHeard,
+    Noticed,
     Forged,
     Claimed,
 }
@@ -108,6 +109,17 @@ static HEARD: [Step; 4] = [
 // Site 1 is opened again before it hears of a seat.
 static NOT_HEARD: [Step; 3] = [Step::Give(0, 1, 1), Step::Send(0), Step::Open(1, 2)];
 
+// Site 1 hears of a reader and of a writer at site 0. When it is opened again it knows the writer alone, and hears of both once
+// more.
+static NOTICED: [Step; 6] = [
+    Step::Read(0, 7),
+    Step::Announce(0, 5),
+    Step::Send(0),
+    Step::Take(1, 0),
+    Step::Open(1, 2),
+    Step::Take(1, 0),
+];
+
 // A reader is at site 0, and site 1 hears that it has both seats.
 static FORGED: [Step; 4] = [
     Step::Read(0, 7),
@@ -131,6 +143,7 @@ pub fn story_of(told: Told) -> (Plan, &'static [Step]) {
         Told::Twice => (TWO, &TWICE),
         Told::Heard => (TWO, &HEARD),
         Told::NotHeard => (TWO, &NOT_HEARD),
+        Told::Noticed => (TWO, &NOTICED),
         Told::Forged => (TWO, &FORGED),
         Told::Claimed => (TWO, &CLAIMED),
     }
@@ -227,7 +240,7 @@ static CUTS: [Case; 14] = [
     (Told::Claimed, &[], &[1, 1], Verdict::Consistent),
 ];
 
-static RUNS: [Case; 8] = [
+static RUNS: [Case; 13] = [
     (Told::NewKeeper, &[], &[1, 0], Verdict::BadJoint { site: 0 }),
     (Told::Grows, &[], &[3, 0], Verdict::Consistent),
     (
@@ -265,6 +278,31 @@ static RUNS: [Case; 8] = [
         &[Change::Nothing(1)],
         &[2, 0],
         Verdict::Consistent,
+    ),
+    (Told::Noticed, &[], &[3, 2], Verdict::Consistent),
+    (
+        Told::Noticed,
+        &[Change::Reply(1, 0, 0, Said::Merged(2))],
+        &[3, 2],
+        Verdict::Consistent,
+    ),
+    (
+        Told::Noticed,
+        &[Change::Reply(1, 1, 0, Said::Merged(1))],
+        &[3, 2],
+        Verdict::Consistent,
+    ),
+    (
+        Told::Noticed,
+        &[Change::Reply(1, 1, 0, Said::Merged(0))],
+        &[3, 2],
+        Verdict::BadReply { site: 1, at: 1 },
+    ),
+    (
+        Told::Noticed,
+        &[Change::Reply(1, 1, 0, Said::Merged(2))],
+        &[3, 2],
+        Verdict::BadReply { site: 1, at: 1 },
     ),
 ];
 

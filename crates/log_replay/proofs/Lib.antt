@@ -3,7 +3,6 @@ pub mod SameLemmas
 pub mod WayLemmas
 pub mod RunLemmas
 pub mod PathLemmas
-pub mod LayoutLemmas
 pub mod JointLemmas
 pub mod ReplayLemmas
 pub mod EntryLemmas

@@ -15,23 +15,17 @@ use desk_log::{Entry, Run};
 use merge_core::Layout;
 use std::alloc::{AllocError, Global};
 
-// The layout of a run at a site, if the site may know so many sites. The same records at some number of sites are known to be
-// a layout, which is copied; at another number their homes are judged. Linear in the records either way.
+// The layout of a run at a site, if the site may know so many sites. Linear in the records.
 fn layout_of_run(
     alloc: Global,
     layout: &Layout,
-    known: &Layout,
     site: u16,
     sites: u16,
 ) -> Result<Option<Layout>, AllocError>
-    requires { known.now.records ≡ layout.now.records }
     ensures { IfOk result (λ found. MatchOption found (¬ FitsSites layout.now site sites) (λ l. FitsSites layout.now site sites × (l ≡ at_sites sites layout.now))) }
 {
     if site >= sites || sites > layout.sites() {
         return Ok(None);
-    }
-    if sites == known.sites() {
-        return Ok(Some(known.try_copy(alloc)?));
     }
     layout.at_sites(alloc, sites)
 }
@@ -72,13 +66,12 @@ fn layout_of_next(
     core: &SiteCore,
     sites: u16,
 ) -> Result<Option<Layout>, AllocError>
-    requires { core.now.layout.records ≡ layout.now.records }
     ensures { IfOk result (λ found. MatchOption found (¬ FitsNext layout.now core.now sites) (λ l. FitsNext layout.now core.now sites × (l ≡ at_sites sites layout.now))) }
 {
     if sites < core.layout().sites() {
         return Ok(None);
     }
-    layout_of_run(alloc, layout, core.layout(), core.site(), sites)
+    layout_of_run(alloc, layout, core.site(), sites)
 }
 
 // Whether a call in doubt was carried out, by the durable part that stands afterwards; `None` where that is neither what the
@@ -136,7 +129,7 @@ pub(crate) fn first_core(
         let core = SiteCore::new(alloc, layout.try_copy(alloc)?, site)?;
         return Ok(Some(core));
     };
-    let Some(first) = layout_of_run(alloc, layout, layout, site, run.sites)? else {
+    let Some(first) = layout_of_run(alloc, layout, site, run.sites)? else {
         return Ok(None);
     };
     let start = SiteCore::new(alloc, first, site)?;

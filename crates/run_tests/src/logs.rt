@@ -261,31 +261,51 @@ fn twenty_records(alloc: Global) -> Option<String> {
     Some(toml)
 }
 
-// The greatest record that a runner of the first site asked it to help with.
-fn last_helped<Rt: Threads + Wait + Sync>(rt: &Rt, alloc: Global) -> Option<u16> {
+// The records that the outbox of a site asked it to help with, in order. At each of two sites it has pass 1.
+fn helped(alloc: Global, transcript: &Transcript) -> Option<Vec<u16>> {
+    let mut records = Vec::new(alloc);
+    for entry in transcript.runs.as_slice().last()?.entries.as_slice() {
+        if entry.pass == 1 {
+            if let Call::Ask(Ask::Help { r }) = &entry.call {
+                records.push(*r).ok()?;
+            }
+        }
+    }
+    Some(records)
+}
+
+// The first record of some that follow one another, and how many there are. Two rounds of 15 turns: before each, help is
+// asked for the records of its turns in the run, and in it for those of its own turns.
+static HELPED: [(u16, u16); 5] = [(0, 15), (0, 15), (15, 5), (0, 10), (0, 15)];
+
+// The records that are to be helped.
+fn wanted(alloc: Global) -> Option<Vec<u16>> {
+    let mut records = Vec::new(alloc);
+    for (first, count) in &HELPED {
+        for n in 0..*count {
+            records.push(first.saturating_add(n)).ok()?;
+        }
+    }
+    Some(records)
+}
+
+// At how many sites of two the outbox asked for help with these records, in this order.
+fn count_helped<Rt: Threads + Wait + Sync>(rt: &Rt, alloc: Global) -> Option<usize> {
     let toml = twenty_records(alloc)?;
     let logs = logs_of(rt, alloc, toml.as_str(), "")?;
     let layout = read_layout(alloc, toml.as_bytes()).ok()?;
     let transcripts = read_transcripts(alloc, &layout, logs.bytes()).ok()?;
-    let mut last = 0u16;
-    for entry in transcripts
-        .as_slice()
-        .first()?
-        .runs
-        .as_slice()
-        .last()?
-        .entries
-        .as_slice()
-    {
-        if let Call::Ask(Ask::Help { r }) = &entry.call {
-            last = last.max(*r);
-        }
+    let wanted = wanted(alloc)?;
+    let mut sites = 0usize;
+    for transcript in transcripts.as_slice() {
+        let found = helped(alloc, transcript)?;
+        sites = sites.saturating_add(usize::from(found.as_slice() == wanted.as_slice()));
     }
-    Some(last)
+    Some(sites)
 }
 
-// In 30 turns each of 20 records has its turn.
+// In 30 turns each of 20 records has its turn at both sites.
 #[test]
 fn each_record_has_its_turn(rt: HostRuntime) {
-    assert!(rt; last_helped(&rt, rt.alloc()) == Some(19));
+    assert!(rt; count_helped(&rt, rt.alloc()) == Some(2));
 }
