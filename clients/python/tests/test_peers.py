@@ -1,0 +1,748 @@
+"""The transport `Peers`: real connections on loopback, with certificates that `openssl` makes here."""
+import json
+import os
+import pathlib
+import shutil
+import socket
+import ssl
+import subprocess
+import tempfile
+import threading
+import time
+import unittest
+
+import zinduroi
+from zinduroi import Exchange, TransportFailed
+from zinduroi.peer_names import Peer, Timing, name_of, parse_address, site_in
+from zinduroi.peer_texts import LINE_LIMIT, Hello, Text, hello_line, text_line
+from zinduroi.peers import Peers
+
+from .common import Case, wait_for
+
+OPENSSL = shutil.which("openssl")
+QUICK = Timing(handshake=1.0, beat=0.1, silence=0.8, first_pause=0.02, longest_pause=0.2, patience=0.5, again=600.0, linger=1.0,
+               strangers=4)
+KEY = ("-newkey", "ec", "-pkeyopt", "ec_paramgen_curve:P-256", "-nodes")
+
+
+class Authority:
+    """An authority with its files in a folder, and the certificates that it gives."""
+
+    def __init__(self, folder):
+        self.folder = folder
+        folder.mkdir()
+        self.certificate = folder / "authority.pem"
+        self._run("req", "-x509", *KEY, "-days", "30", "-subj", "/CN=authority", "-keyout", folder / "authority.key", "-out", self.certificate)
+
+    @staticmethod
+    def _run(*words, data=""):
+        subprocess.run(["openssl", *map(str, words)], check=True, capture_output=True, input=data, text=True)
+
+    def give(self, name, *names, days=30, by=None):
+        """A key and a certificate with these names, as paths. `by` is the certificate and key of another signer."""
+        key, request, made = (self.folder / f"{name}.{part}" for part in ("key", "csr", "pem"))
+        signer, signing = by or (self.certificate, self.folder / "authority.key")
+        extensions = "subjectAltName=" + ",".join(f"DNS:{name}" for name in names or (name,))
+        self._run("req", *KEY, "-subj", f"/CN={name}", "-keyout", key, "-out", request)
+        self._run("x509", "-req", "-in", request, "-CA", signer, "-CAkey", signing, "-days", days, "-extfile", "/dev/stdin", "-out", made,
+                  data=extensions)
+        return made, key
+
+
+class Middle:
+    """Passes connections on to a port, until they are cut; counts the bytes."""
+
+    def __init__(self, port):
+        self.to = port
+        self.open, self.bytes = True, 0
+        self.pairs, self.threads = [], []
+        self.listener = socket.create_server(("127.0.0.1", 0))
+        self.port = self.listener.getsockname()[1]
+        self._begin(self._accept)
+
+    def _begin(self, work, *words):
+        thread = threading.Thread(target=work, args=words, daemon=True)
+        self.threads.append(thread)
+        thread.start()
+
+    def _accept(self):
+        while True:
+            try:
+                near, _ = self.listener.accept()
+            except OSError:
+                return
+            try:
+                if not self.open:
+                    raise OSError
+                far = socket.create_connection(("127.0.0.1", self.to), 1)
+            except OSError:
+                near.close()
+                continue
+            far.settimeout(None)
+            self.pairs.append((near, far))
+            self._begin(self._pass, near, far)
+            self._begin(self._pass, far, near)
+
+    def _pass(self, source, sink):
+        try:
+            while data := source.recv(65_536):
+                sink.sendall(data)
+                self.bytes += len(data)
+        except OSError:
+            pass
+        for end in (source, sink):
+            try:
+                end.shutdown(socket.SHUT_RDWR)
+            except OSError:
+                pass
+
+    def cut(self):
+        self.open = False
+        pairs, self.pairs = self.pairs, []
+        for pair in pairs:
+            for end in pair:
+                try:
+                    end.shutdown(socket.SHUT_RDWR)
+                except OSError:
+                    pass
+
+    def close(self):
+        self.listener.shutdown(socket.SHUT_RDWR)
+        self.threads[0].join()
+        pairs = list(self.pairs)
+        self.cut()
+        for thread in self.threads:
+            thread.join()
+        self.listener.close()
+        for pair in pairs:
+            for end in pair:
+                end.close()
+
+
+def free_ports(number):
+    """Ports that nobody uses."""
+    probes = [socket.create_server(("127.0.0.1", 0)) for _ in range(number)]
+    ports = [probe.getsockname()[1] for probe in probes]
+    for probe in probes:
+        probe.close()
+    return ports
+
+
+class Inbox:
+    """All that a transport hands out."""
+
+    def __init__(self, peers):
+        self.peers, self.texts = peers, []
+
+    def has(self, text):
+        self.texts += self.peers.messages()
+        return text in self.texts
+
+
+@unittest.skipUnless(OPENSSL, "there is no openssl")
+class Secure(unittest.TestCase):
+    """Tests with certificates of sites 0 to 2."""
+
+    @classmethod
+    def setUpClass(cls):
+        cls.folder = pathlib.Path(tempfile.mkdtemp(prefix="zinduroi_"))
+        cls.addClassCleanup(shutil.rmtree, cls.folder, ignore_errors=True)
+        cls.authority = Authority(cls.folder / "ours")
+        cls.given = {site: cls.authority.give(name_of(site, None)) for site in range(3)}
+
+    def setUp(self):
+        self.threads = threading.active_count()
+        self.addCleanup(lambda: self.assertTrue(wait_for(lambda: threading.active_count() == self.threads, 5)))
+
+    def peers(self, site, peers, listen=None, given=None, authority=None, **more):
+        """A transport with this site's certificate; closed behind the test."""
+        certificate, key = given or self.given[site]
+        more.setdefault("timing", QUICK)
+        made = Peers(site, peers, listen, (authority or self.authority).certificate, certificate, key, **more)
+        self.addCleanup(made.close)
+        return made
+
+    def pair(self, **more):
+        """Site 0, which listens, and site 1, which connects through a middle; and the middle."""
+        first = self.peers(0, {1: None}, "127.0.0.1:0", **more)
+        middle = Middle(first.port)
+        self.addCleanup(middle.close)
+        return first, self.peers(1, {0: f"127.0.0.1:{middle.port}"}, **more), middle
+
+    def context(self, given=None, authority=None):
+        """What a peer that is made by hand connects with."""
+        context = ssl.create_default_context(cafile=(authority or self.authority).certificate)
+        if given is not None:
+            context.load_cert_chain(*given)
+        return context
+
+    def connect(self, peers, given=None, **more):
+        """A connection by hand."""
+        plain = socket.create_connection(("127.0.0.1", peers.port), 5)
+        self.addCleanup(plain.close)
+        secure = self.context(given, **more).wrap_socket(plain, server_hostname=name_of(peers.site, peers.group))
+        self.addCleanup(secure.close)
+        return secure
+
+    def gets(self, peers, text, seconds=5):
+        inbox = Inbox(peers)
+        self.assertTrue(wait_for(lambda: inbox.has(text), seconds), (text[:60], inbox.texts[-3:], peers.failures(), peers.states()))
+        return inbox.texts
+
+
+class Carries(Secure):
+    """What arrives."""
+
+    def test_both_ways(self):
+        first, second, _ = self.pair()
+        heard = threading.Event()
+        second.listen(heard.set)
+        first.publish(0, "from 0")
+        self.assertTrue(heard.wait(5))
+        self.assertEqual(list(second.messages()), ["from 0"])
+        self.assertEqual(list(second.messages()), [])
+        second.publish(1, "from 1")
+        self.gets(first, "from 1")
+        state, = first.states()
+        self.assertEqual((state.site, state.sent, state.took, state.failure), (1, 1, 1, None))
+        self.assertLess(state.connected + state.age, 10)
+
+    def test_the_same_text_is_sent_once(self):
+        first, second, _ = self.pair()
+        for _ in range(50):
+            first.publish(0, "same")
+        self.gets(second, "same")
+        first.publish(0, "next")
+        self.gets(second, "next")
+        self.assertEqual(first.states()[0].sent, 2)
+
+    def test_the_longest_text(self):
+        first, second, _ = self.pair()
+        for size in (1, 65_535, 65_536, 2_097_152 + 60):
+            first.publish(0, "y" * size)
+            self.gets(second, "y" * size)
+
+    def test_not_a_text(self):
+        first, _, _ = self.pair()
+        for site, text in ((1, "x"), (0, "a\nb"), (0, "x" * (LINE_LIMIT + 1)), (0, "\ud800")):
+            self.assertRaises(TransportFailed, first.publish, site, text)
+        first.close()
+        self.assertRaises(TransportFailed, first.publish, 0, "x")
+        self.assertRaises(TransportFailed, first.say_lacks, {})
+        first.close()
+
+    def test_cut_and_back_brings_the_last_text_alone(self):
+        first, second, middle = self.pair()
+        first.publish(0, "one")
+        inbox = Inbox(second)
+        self.assertTrue(wait_for(lambda: inbox.has("one")))
+        middle.cut()
+        self.assertTrue(wait_for(lambda: second.states()[0].connected is None))
+        for number in range(100):
+            first.publish(0, f"missed {number}")
+        second.publish(1, "older of 1")
+        second.publish(1, "newer of 1")
+        time.sleep(0.3)
+        middle.open = True
+        self.assertTrue(wait_for(lambda: inbox.has("missed 99")))
+        self.assertEqual(inbox.texts, ["one", "missed 99"])
+        self.assertEqual(self.gets(first, "newer of 1"), ["newer of 1"])
+
+    def test_a_silent_link_is_dropped(self):
+        """The bytes stop, and nobody closes the connection."""
+        first, second, middle = self.pair()
+        first.publish(0, "one")
+        self.gets(second, "one")
+        near, far = socket.socketpair()
+        self.addCleanup(near.close)
+        self.addCleanup(far.close)
+        hung = self.connect(first, self.given[1])
+        hung.sendall(hello_line(Hello(1, 1, 1)))
+        self.assertTrue(wait_for(lambda: first.failures()["Silent"] > 0, 5), first.failures())
+        first.publish(0, "two")
+        self.gets(second, "two")
+
+    def test_a_new_run_replaces_the_old_one(self):
+        """The new run of site 1 gets the text that site 0 has not changed, and the text of its old run comes back to it."""
+        first, second, middle = self.pair()
+        first.publish(0, "of 0")
+        second.publish(1, "of 1, run 1")
+        self.gets(first, "of 1, run 1")
+        again = self.peers(1, {0: f"127.0.0.1:{middle.port}"})
+        self.assertEqual(sorted(again.messages()), ["of 0", "of 1, run 1"])
+        second.close()
+        again.publish(1, "of 1, run 2")
+        self.assertEqual(self.gets(first, "of 1, run 2"), ["of 1, run 2"])
+
+    def test_both_connect_and_one_connection_stays(self):
+        ports = free_ports(2)
+        sites = [self.peers(site, {1 - site: f"127.0.0.1:{ports[1 - site]}"}, f"127.0.0.1:{ports[site]}") for site in (0, 1)]
+        for site in (0, 1):
+            sites[site].publish(site, f"of {site}")
+        for site in (0, 1):
+            self.gets(sites[site], f"of {1 - site}")
+        ages = [peers.states()[0].connected for peers in sites]
+        time.sleep(1.0)
+        for peers, age in zip(sites, ages):
+            self.assertGreater(peers.states()[0].connected, 0.9)
+
+    def test_texts_are_handed_out_again(self):
+        first, second, _ = self.pair(timing=Timing(**{**vars(QUICK), "again": 0.2}))
+        first.publish(0, "one")
+        inbox = Inbox(second)
+        self.assertTrue(wait_for(lambda: inbox.has("one") and inbox.texts.count("one") >= 3))
+        self.assertEqual(first.states()[0].sent, 1)
+
+    def test_lacks_travel_beside_the_text(self):
+        first, second, _ = self.pair()
+        first.say_lacks({"a": 3})
+        first.publish(0, "one")
+        self.gets(second, "one")
+        lacks, age = second.lacks()[0]
+        self.assertEqual(lacks, {"a": 3})
+        self.assertLess(age, 5)
+        first.say_lacks({})
+        self.assertTrue(wait_for(lambda: second.lacks()[0][0] == {}))
+        self.assertRaises(ValueError, first.say_lacks, {"a": -1})
+
+    def test_close_sends_the_last_text(self):
+        first, second, _ = self.pair()
+        second.publish(1, "one")
+        self.gets(first, "one")
+        second.publish(1, "z" * 2_000_000)
+        second.close()
+        self.gets(first, "z" * 2_000_000)
+
+    def test_in_a_group(self):
+        given = [self.authority.give(name_of(site, "payroll")) for site in (0, 1)]
+        first = self.peers(0, {1: None}, "127.0.0.1:0", given[0], group="payroll")
+        second = self.peers(1, {0: f"127.0.0.1:{first.port}"}, given=given[1], group="payroll")
+        first.publish(0, "one")
+        self.gets(second, "one")
+        # A certificate of no group, under the same authority.
+        self.connect(first, self.given[1])
+        self.assertTrue(wait_for(lambda: first.failures()["NotNamed"] > 0))
+
+
+class Relays(Secure):
+    """Texts over another site."""
+
+    def line(self, carries_1=frozenset({2}), carries_2=frozenset({0})):
+        """Sites 1 and 2 connect to site 0 and 1: a line 0 - 1 - 2 in which only neighbours are connected."""
+        zero = self.peers(0, {1: Peer(None, carries_1), 2: None}, "127.0.0.1:0")
+        one = self.peers(1, {0: f"127.0.0.1:{zero.port}", 2: None}, "127.0.0.1:0")
+        two = self.peers(2, {1: Peer(f"127.0.0.1:{one.port}", carries_2), 0: None})
+        return zero, one, two
+
+    def test_over_one(self):
+        zero, one, two = self.line()
+        zero.publish(0, "of 0")
+        two.publish(2, "of 2")
+        self.gets(two, "of 0")
+        self.gets(zero, "of 2")
+        zero.say_lacks({"b": 2})
+        self.assertTrue(wait_for(lambda: two.lacks().get(0, ({}, 0))[0] == {"b": 2}))
+        for number in range(50):
+            zero.publish(0, f"of 0, {number}")
+        self.gets(two, "of 0, 49")
+        self.assertEqual({state.site: state.took for state in zero.states()}, {1: 1, 2: 0})
+
+    def test_not_where_nobody_named_the_relay(self):
+        zero, one, two = self.line(frozenset(), frozenset())
+        zero.publish(0, "of 0")
+        two.publish(2, "of 2")
+        self.gets(one, "of 0")
+        self.gets(one, "of 2")
+        time.sleep(0.3)
+        self.assertEqual([list(zero.messages()), list(two.messages())], [[], []])
+
+    def test_a_triangle_uses_no_relay(self):
+        """All are connected and name each other: each text goes over each connection once at most, and none in a circle."""
+        everybody = {0, 1, 2}
+        ports = free_ports(3)
+        sites = [self.peers(site, {other: Peer(f"127.0.0.1:{ports[other]}", frozenset(everybody - {site})) for other in everybody - {site}},
+                            f"127.0.0.1:{ports[site]}") for site in range(3)]
+        self.assertTrue(wait_for(lambda: all(state.connected is not None for peers in sites for state in peers.states())))
+        time.sleep(0.3)
+        for number in range(20):
+            for site, peers in enumerate(sites):
+                peers.publish(site, f"{site} {number}")
+            time.sleep(0.02)
+        for site, peers in enumerate(sites):
+            for other in everybody - {site}:
+                self.gets(peers, f"{other} 19")
+        time.sleep(0.3)
+        took = [state.took for peers in sites for state in peers.states()]
+        self.assertLessEqual(max(took), 22)
+        time.sleep(0.5)
+        self.assertEqual(took, [state.took for peers in sites for state in peers.states()])
+
+    def test_a_relay_takes_over_when_a_link_is_cut(self):
+        ports = free_ports(3)
+        middle = Middle(ports[0])
+        self.addCleanup(middle.close)
+        zero = self.peers(0, {1: Peer(None, frozenset({2})), 2: Peer(None, frozenset({1}))}, f"127.0.0.1:{ports[0]}")
+        one = self.peers(1, {0: f"127.0.0.1:{ports[0]}", 2: None}, f"127.0.0.1:{ports[1]}")
+        two = self.peers(2, {0: f"127.0.0.1:{middle.port}", 1: Peer(f"127.0.0.1:{ports[1]}", frozenset({0}))})
+        zero.publish(0, "direct")
+        self.gets(two, "direct")
+        middle.cut()
+        self.assertTrue(wait_for(lambda: zero.states()[1].connected is None))
+        zero.publish(0, "over 1")
+        two.publish(2, "of 2, over 1")
+        self.gets(two, "over 1")
+        self.gets(zero, "of 2, over 1")
+        middle.open = True
+        self.assertTrue(wait_for(lambda: zero.states()[1].connected is not None))
+        zero.publish(0, "direct again")
+        self.gets(two, "direct again")
+
+    def test_an_earlier_run_with_a_later_clock(self):
+        """Site 0 begins again, and its clock was put back: its new text reaches site 2 over site 1 all the same."""
+        zero, one, two = self.line()
+        ahead = time.time_ns() // 1000 + 3_600_000_000
+        with zero._lock:
+            zero._texts.last = ahead
+        zero.publish(0, "earlier run")
+        self.gets(two, "earlier run")
+        port = zero.port
+        zero.close()
+        zero = self.peers(0, {1: Peer(None, frozenset({2})), 2: None}, f"127.0.0.1:{port}")
+        zero.publish(0, "later run")
+        self.gets(two, "later run")
+        self.assertIn("earlier run", list(zero.messages()))
+        self.assertEqual(zero.failures()["OtherRun"], 1)
+
+    def test_two_processes_of_one_site_make_no_storm(self):
+        zero, one, two = self.line()
+        other = self.peers(0, {2: None}, "127.0.0.1:0")
+        third = self.peers(2, {0: f"127.0.0.1:{other.port}", 1: Peer(f"127.0.0.1:{one.port}", frozenset({0}))})
+        two.close()
+        zero.publish(0, "of one process")
+        other.publish(0, "of the other")
+        time.sleep(3)
+        self.assertLess(zero.states()[0].took + zero.states()[0].sent, 12)
+        self.assertLess(sum(state.took + state.sent for state in third.states()), 24)
+
+
+class Strangers(Secure):
+    """Whom nobody lets in; the others are served meanwhile."""
+
+    def refused(self, first, second, name, *work):
+        """Something is tried at site 0, and counted by this name; site 1 is served before, meanwhile and after."""
+        first.publish(0, "before")
+        self.gets(second, "before")
+        for one in work:
+            one()
+        self.assertTrue(wait_for(lambda: first.failures()[name] >= len(work), 5), (name, first.failures()))
+        first.publish(0, "behind")
+        self.gets(second, "behind")
+        self.assertEqual(first.failures()["Unexpected"], 0)
+
+    def shake(self, first, *words, **more):
+        """A connection by hand, which fails at once or at the first answer."""
+        try:
+            secure = self.connect(first, *words, **more)
+            self.assertEqual(secure.recv(100), b"")
+        except OSError:
+            pass
+
+    def test_a_certificate_of_another_authority(self):
+        first, second, _ = self.pair()
+        other = Authority(self.folder / "other")
+        given = other.give("site-1.zinduroi")
+        self.refused(first, second, "BadCertificate", lambda: self.shake(first, given))
+        # The same from its side: it does not talk to site 0.
+        stranger = self.peers(1, {0: f"127.0.0.1:{first.port}"}, given=given, authority=other)
+        stranger.publish(1, "forged")
+        self.assertTrue(wait_for(lambda: stranger.failures()["BadCertificate"] > 0))
+        self.assertNotIn("forged", list(first.messages()))
+
+    def test_no_certificate(self):
+        first, second, _ = self.pair()
+        self.refused(first, second, "NoTls", lambda: self.shake(first))
+
+    def test_one_that_is_out_of_date(self):
+        first, second, _ = self.pair()
+        given = self.authority.give("late", "site-1.zinduroi", days=-1)
+        self.refused(first, second, "BadCertificate", lambda: self.shake(first, given))
+        with self.assertRaises(ssl.SSLCertVerificationError):
+            self.peers(1, {0: f"127.0.0.1:{first.port}"}, given=given)
+
+    def test_one_that_a_site_made_itself(self):
+        first, second, _ = self.pair()
+        made, key = self.authority.give("forged", "site-2.zinduroi", by=self.given[1])
+        chain = made.with_suffix(".chain")
+        chain.write_text(made.read_text() + self.given[1][0].read_text())
+        self.refused(first, second, "BadCertificate", lambda: self.shake(first, (chain, key)))
+
+    def test_one_that_names_no_peer(self):
+        first, second, _ = self.pair()
+        work = []
+        for names in (("site-7.zinduroi",), ("elsewhere",), ("*.zinduroi",), ("site-1.payroll.zinduroi",), ("site-01.zinduroi",),
+                      ("site-1.zinduroi", "site-2.zinduroi"), ("site-16.zinduroi",)):
+            given = self.authority.give(names[0].replace("*", "any"), *names)
+            work.append(lambda given=given: self.shake(first, given))
+        self.refused(first, second, "NotNamed", *work)
+
+    def test_one_of_another_site_where_this_one_connects(self):
+        """Site 1 connects to an address where site 2 answers."""
+        two = self.peers(2, {1: None}, "127.0.0.1:0")
+        one = self.peers(1, {0: f"127.0.0.1:{two.port}"})
+        self.assertTrue(wait_for(lambda: one.failures()["BadCertificate"] > 1))
+        two.publish(2, "of 2")
+        time.sleep(0.2)
+        self.assertEqual(list(one.messages()), [])
+
+    def test_a_peer_speaks_for_its_site_alone(self):
+        """Site 1's certificate, and a first line or a text of site 2."""
+        first, second, _ = self.pair()
+
+        def first_line():
+            secure = self.connect(first, self.given[1])
+            secure.sendall(hello_line(Hello(2, 1, 1)))
+            self.shake_ends(secure)
+        self.refused(first, second, "WrongSite", first_line)
+
+        def forged():
+            secure = self.connect(first, self.given[1])
+            secure.sendall(hello_line(Hello(1, 1, 1)) + text_line(Text(2, 5, "forged")))
+            self.shake_ends(secure)
+        self.refused(first, second, "NotCarried", forged)
+        self.assertNotIn("forged", list(first.messages()))
+
+    def shake_ends(self, secure):
+        """The other side ends the connection."""
+        secure.settimeout(5)
+        try:
+            while secure.recv(1000):
+                pass
+        except ConnectionError:
+            pass
+        except ssl.SSLError:
+            pass
+
+    def test_lines_that_the_protocol_lacks(self):
+        first, second, _ = self.pair()
+        work = []
+        for lines in (b"x\n", b"x" * 5000, b"alive\n", hello_line(Hello(1, 1, 1)) * 2, hello_line(Hello(1, 1, 1)) + b"text {} x\n",
+                      hello_line(Hello(1, 1, 1)) + b"y" * (LINE_LIMIT + 2), os.urandom(5000),
+                      hello_line(Hello(1, 1, 1)) + text_line(Text(1, 2 ** 62, "far ahead"))):
+            def one(lines=lines):
+                secure = self.connect(first, self.given[1])
+                try:
+                    secure.sendall(lines)
+                except OSError:
+                    pass
+                self.shake_ends(secure)
+            work.append(one)
+        self.refused(first, second, "BadLine", *work)
+
+    def test_random_bytes_and_other_protocols(self):
+        first, second, _ = self.pair()
+        work = []
+        for data in (os.urandom(1), os.urandom(3000), b"GET / HTTP/1.0\r\n\r\n", b"\x16\x03\x01\x02\x00" + os.urandom(600), hello_line(Hello(1, 1, 1))):
+            def one(data=data):
+                with socket.create_connection(("127.0.0.1", first.port), 5) as plain:
+                    plain.sendall(data)
+                    plain.shutdown(socket.SHUT_WR)
+                    self.shake_ends(plain)
+            work.append(one)
+        before = sum(first.failures().values())
+        for one in work:
+            one()
+        self.assertTrue(wait_for(lambda: sum(first.failures().values()) >= before + len(work)), first.failures())
+        first.publish(0, "behind")
+        self.gets(second, "behind")
+        self.assertEqual(first.failures()["Unexpected"], 0)
+
+    def test_older_tls(self):
+        first, second, _ = self.pair()
+        context = self.context(self.given[1])
+        context.maximum_version = ssl.TLSVersion.TLSv1_2
+        with socket.create_connection(("127.0.0.1", first.port), 5) as plain:
+            with self.assertRaises(ssl.SSLError):
+                context.wrap_socket(plain, server_hostname="site-0.zinduroi")
+
+    def test_handshakes_that_never_end(self):
+        """More connections than strangers may have, which send nothing: the peer gets in, and they are dropped."""
+        first = self.peers(0, {1: None}, "127.0.0.1:0")
+        hung = [socket.create_connection(("127.0.0.1", first.port), 5) for _ in range(12)]
+        for one in hung:
+            self.addCleanup(one.close)
+        second = self.peers(1, {0: f"127.0.0.1:{first.port}"})
+        first.publish(0, "one")
+        self.gets(second, "one")
+        self.assertGreater(first.failures()["TooMany"], 0)
+        for one in hung:
+            one.settimeout(5)
+            try:
+                self.assertEqual(one.recv(1), b"")
+            except ConnectionError:
+                pass
+
+    def test_a_first_line_that_never_comes(self):
+        first, second, _ = self.pair()
+
+        def one():
+            secure = self.connect(first, self.given[1])
+            self.shake_ends(secure)
+        self.refused(first, second, "Silent", one)
+
+    def test_a_peer_that_never_reads(self):
+        """Site 2 is let in and reads nothing, while long texts go to site 1; in the end site 2 is dropped."""
+        first = self.peers(0, {1: None, 2: None}, "127.0.0.1:0")
+        second = self.peers(1, {0: f"127.0.0.1:{first.port}"})
+        stalled = self.connect(first, self.given[2])
+        stalled.sendall(hello_line(Hello(2, 1, 1)))
+        self.assertTrue(wait_for(lambda: first.states()[1].connected is not None))
+        end, number = time.monotonic() + 20, 0
+        while first.failures()["Stalled"] == 0 and time.monotonic() < end:
+            stalled.sendall(b"alive\n")
+            first.publish(0, f"{number} " + "x" * 2_000_000)
+            self.gets(second, f"{number} " + "x" * 2_000_000)
+            number += 1
+        self.assertGreater(first.failures()["Stalled"], 0)
+        self.assertIsNone(first.states()[1].connected)
+        self.assertEqual(first.states()[1].failure, "Stalled")
+
+
+class Starts(Secure):
+    """What is refused at the start."""
+
+    def test_wrong_settings(self):
+        for site, peers, listen in ((0, {0: None}, None), (0, {16: None}, None), (0, {1: "nowhere"}, None), (0, {1: "a:b"}, None),
+                                    (0, {1: "host:70000"}, None), (0, {1: Peer(None, frozenset({0}))}, None), (0, {}, "x"),
+                                    (0, {1: Peer(None, frozenset({16}))}, None)):
+            with self.subTest(peers=peers, listen=listen):
+                self.assertRaises(ValueError, self.peers, site, peers, listen)
+
+    def test_wrong_files(self):
+        certificate, key = self.given[0]
+        for files in ((None, certificate, key), (self.authority.certificate, certificate, None)):
+            self.assertRaises(ValueError, Peers, 0, {}, None, *files)
+        for files in ((self.folder / "none", certificate, key), (key, certificate, key), (self.authority.certificate, self.given[1][0], key)):
+            self.assertRaises(OSError, Peers, 0, {}, None, *files)
+        # A certificate of another site.
+        with self.assertRaisesRegex(ValueError, "site-0.zinduroi"):
+            self.peers(0, {}, given=self.given[1])
+        with self.assertRaisesRegex(ValueError, "site-0.payroll.zinduroi"):
+            self.peers(0, {}, group="payroll")
+        with self.assertRaises(ValueError):
+            self.peers(0, {}, given=self.authority.give("two", "site-0.zinduroi", "site-1.zinduroi"))
+
+    def test_a_port_in_use(self):
+        first = self.peers(0, {1: None}, "127.0.0.1:0")
+        self.assertRaises(OSError, self.peers, 1, {0: None}, f"127.0.0.1:{first.port}")
+
+    def test_addresses(self):
+        self.assertEqual(parse_address("a.example:7"), ("a.example", 7))
+        self.assertEqual(parse_address("[::1]:65535"), ("::1", 65_535))
+        for wrong in ("", ":1", "a", "a:", "a:-1", "::1:7", "[::1]", "a b:1", "a:1:2", "a:1\n"):
+            self.assertRaises(ValueError, parse_address, wrong)
+
+    def test_patience(self):
+        """The first question waits for peers that have an address, and no longer than it was told."""
+        began = time.monotonic()
+        alone = self.peers(0, {1: f"127.0.0.1:{free_ports(1)[0]}"})
+        self.assertEqual(list(alone.messages()), [])
+        self.assertGreater(time.monotonic() - began, 0.4)
+        self.assertTrue(wait_for(lambda: alone.failures()["Unreachable"] > 1))
+
+    def test_a_host_name_that_is_none(self):
+        alone = self.peers(0, {1: "x" * 70 + ".example:1", 2: "a..b:1"})
+        self.assertTrue(wait_for(lambda: all(state.failure == "Unreachable" for state in alone.states())), alone.states())
+        self.assertEqual(alone.failures()["Unexpected"], 0)
+
+
+class Plain(unittest.TestCase):
+    """Without certificates."""
+
+    def test_on_loopback(self):
+        with Peers(0, {1: None}, "127.0.0.1:0", plain=True, timing=QUICK) as first, \
+                Peers(1, {0: f"127.0.0.1:{first.port}"}, plain=True, timing=QUICK) as second:
+            first.publish(0, "one")
+            inbox = Inbox(second)
+            self.assertTrue(wait_for(lambda: inbox.has("one")))
+            second.publish(1, "two")
+            inbox = Inbox(first)
+            self.assertTrue(wait_for(lambda: inbox.has("two")))
+
+    def test_never_reads(self):
+        with Peers(0, {1: None}, "127.0.0.1:0", plain=True, timing=QUICK) as first, \
+                socket.create_connection(("127.0.0.1", first.port), 5) as stalled:
+            stalled.sendall(hello_line(Hello(1, 1, 1)))
+            self.assertTrue(wait_for(lambda: first.states()[0].connected is not None))
+            end, number = time.monotonic() + 20, 0
+            while first.failures()["Stalled"] == 0 and time.monotonic() < end:
+                try:
+                    stalled.sendall(b"alive\n")
+                except OSError:
+                    pass
+                first.publish(0, f"{number} " + "x" * 2_000_000)
+                number += 1
+                time.sleep(0.1)
+            self.assertGreater(first.failures()["Stalled"], 0, first.failures())
+
+    def test_refused_elsewhere(self):
+        for peers, listen in (({}, "0.0.0.0:0"), ({}, "[::]:0"), ({1: "192.0.2.1:7"}, None), ({1: "localhost:7"}, None), ({}, "localhost:0"),
+                              ({1: "127.0.0.1:7", 2: "10.0.0.1:7"}, None)):
+            with self.subTest(peers=peers, listen=listen):
+                self.assertRaises(ValueError, Peers, 0, peers, listen, plain=True)
+        self.assertRaises(ValueError, Peers, 0, {}, "127.0.0.1:0")
+        self.assertRaises(ValueError, Peers, 0, {}, "127.0.0.1:0", "a.pem", "b.pem", "c.key", plain=True)
+
+
+@unittest.skipUnless(OPENSSL, "there is no openssl")
+class Exchanges(Case):
+    """Sites of the real program, with their exchanges over `Peers`."""
+
+    def setUp(self):
+        super().setUp()
+        self.authority = Authority(self.folder / "ours")
+
+    def peers(self, site, peers, listen=None):
+        return Peers(site, peers, listen, self.authority.certificate, *self.authority.give(f"site-{site}.zinduroi"), timing=QUICK)
+
+    def test_a_writer_over_a_relay(self):
+        """Site 1 is connected to sites 0 and 2, and these not to each other."""
+        sites = [self.open(site) for site in range(3)]
+        one = self.peers(1, {0: None, 2: None}, "127.0.0.1:0")
+        to_one = f"127.0.0.1:{one.port}"
+        others = [self.peers(site, {1: Peer(to_one, frozenset({2 - site})), 2 - site: None}) for site in (0, 2)]
+        with Exchange(sites[1], one, 0.2), Exchange(sites[0], others[0], 0.2), Exchange(sites[2], others[1], 0.2) as last:
+            for site in (0, 2):
+                with sites[site].write("a", 9, timeout=60):
+                    self.assertEqual([sites[other].show("a").inside for other in range(3)], [3 if other == site else 0 for other in range(3)])
+            self.assertTrue(wait_for(lambda: last.tally().took > 0))
+            self.assertEqual(last.tally().refused, {})
+
+    def test_an_older_store_is_found_at_the_start(self):
+        """Site 0 takes back its own last text from site 1, before its callers begin."""
+        sites = [self.open(site) for site in range(2)]
+        one = self.peers(1, {0: None}, "127.0.0.1:0")
+        with Exchange(sites[1], one, 0.1) as other:
+            with Exchange(sites[0], self.peers(0, {1: f"127.0.0.1:{one.port}"}), 0.1):
+                self.assertTrue(wait_for(lambda: sites[1].show("a").rights > 0))
+            old = self.open(0, store=self.folder / "old.db")
+            exchange = Exchange(old, self.peers(0, {1: f"127.0.0.1:{one.port}"}), 0.1)
+            self.addCleanup(exchange.close)
+            self.assertRaises(zinduroi.OwnRowAhead, exchange.start)
+            self.assertIsNone(other.failure)
+
+
+class Names(unittest.TestCase):
+    """The names in certificates."""
+
+    def test_site_in(self):
+        for names, group, site in ((["site-2.zinduroi"], None, 2), (["site-2.zinduroi", "host.example"], None, 2), (["site-2.zinduroi"], "g", None),
+                                   (["site-2.g.zinduroi"], "g", 2), (["site-2.g.zinduroi"], None, None), (["*.zinduroi"], None, None), ([], None, None),
+                                   (["site-1.zinduroi", "site-2.zinduroi"], None, None), (["site-15.zinduroi"], None, 15), (["SITE-2.zinduroi"], None, None)):
+            certificate = {"subjectAltName": tuple(("DNS", name) for name in names)}
+            self.assertEqual(site_in(certificate, group), site, json.dumps(names))
+        self.assertIsNone(site_in({}, None))
+        self.assertIsNone(site_in({"subjectAltName": (("IP Address", "site-1.zinduroi"),), "subject": ((("commonName", "site-1.zinduroi"),),)}, None))
+
+
+if __name__ == "__main__":
+    unittest.main()
