@@ -220,11 +220,13 @@ class Peers:
         if not self._dial_to:
             self._first.set()
         if self._listener is not None:
-            self._spawn(self._accept(self._listener))
+            self._watch(self._listener)
         for number, address in self._dial_to.items():
             self._spawn(self._dial(number, *address))
         ready.set()
         await self._stop.wait()
+        if self._listener is not None:
+            loop.remove_reader(self._listener)
         await self._linger()
         while self._tasks:
             for task in self._tasks:
@@ -258,25 +260,33 @@ class Peers:
             self._count("OtherRun")
             self._wake_all()
 
-    async def _accept(self, listener: socket.socket) -> None:
+    def _watch(self, listener: socket.socket) -> None:
+        """Has connections accepted as they come, until the stop."""
+        if not self._stopping():
+            asyncio.get_running_loop().add_reader(listener, self._accept, listener)
+
+    def _accept(self, listener: socket.socket) -> None:
         loop = asyncio.get_running_loop()
-        while True:
-            try:
-                connection, _ = await loop.sock_accept(listener)
-            except OSError:
-                # As where the process has too many files open.
-                self._count("Accept")
-                await asyncio.sleep(0.1)
-                continue
-            if len(self._strangers) >= self.timing.strangers:
-                oldest = next(iter(self._strangers))
-                del self._strangers[oldest]
-                oldest.cancel()
-                self._count("TooMany")
-            task = self._spawn(self._answer(connection))
-            # Where the task was ended before it began.
-            task.add_done_callback(lambda _, connection=connection: connection.close())
-            self._strangers[task] = None
+        try:
+            connection, _ = listener.accept()
+        except (BlockingIOError, ConnectionAbortedError):
+            return
+        except OSError:
+            # As where the process has too many files open.
+            self._count("Accept")
+            loop.remove_reader(listener)
+            loop.call_later(0.1, self._watch, listener)
+            return
+        if len(self._strangers) >= self.timing.strangers:
+            oldest = next(iter(self._strangers))
+            del self._strangers[oldest]
+            oldest.cancel()
+            self._count("TooMany")
+        connection.setblocking(False)
+        task = self._spawn(self._answer(connection))
+        # Where the task was ended before it began.
+        task.add_done_callback(lambda _: connection.close())
+        self._strangers[task] = None
 
     async def _answer(self, connection: socket.socket) -> None:
         """A connection that came in."""
