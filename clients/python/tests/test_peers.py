@@ -297,8 +297,19 @@ class Carries(Secure):
         lacks, age = second.lacks()[0]
         self.assertEqual(lacks, {"a": 3})
         self.assertLess(age, 5)
+        # What is lacking still is said anew, and only then.
+        sent = first.states()[0].sent
+        for _ in range(3):
+            first.say_lacks({"a": 3})
+        first._told -= 5.0
+        first.say_lacks({"a": 3})
+        self.assertTrue(wait_for(lambda: first.states()[0].sent == sent + 1))
         first.say_lacks({})
         self.assertTrue(wait_for(lambda: second.lacks()[0][0] == {}))
+        first._told -= 5.0
+        first.say_lacks({})
+        time.sleep(0.1)
+        self.assertEqual(first.states()[0].sent, sent + 2)
         self.assertRaises(ValueError, first.say_lacks, {"a": -1})
 
     def test_close_sends_the_last_text(self):

@@ -211,10 +211,10 @@ class Texts:
         self.above: Optional[int] = None
         self._arrived: Dict[int, Text] = {}
 
-    def tell(self, text: str, lacks: Mapping[str, int], now: int) -> bool:
-        """This site's own text from now on; whether it differs from the last one."""
+    def tell(self, text: str, lacks: Mapping[str, int], now: int, again: bool = False) -> bool:
+        """This site's own text from now on; whether it is to be sent: it differs from the last one, or is told `again`."""
         old = self.newest.get(self.site)
-        if old is not None and old.text == text and old.lacks == lacks:
+        if not again and old is not None and old.text == text and old.lacks == lacks:
             return False
         self._stamp(text, dict(lacks), now)
         return True

@@ -20,6 +20,9 @@ from .peer_texts import (ALIVE, SITES, TEXT_LIMIT, Alive, BadLine, Hello, Line, 
                          hello_line, line_of, needs_line, text_line)
 from .transports import TransportFailed
 
+# Seconds after which a site that still lacks seats says so anew.
+LACKS_AGAIN = 5.0
+
 
 @dataclasses.dataclass(frozen=True)
 class PeerState:
@@ -69,6 +72,7 @@ class Peers:
         self._texts = Texts(site, _stamp())
         self._links: Dict[int, Link] = {}
         self._lacks: Dict[str, int] = {}
+        self._told = float("-inf")
         self._heard: Dict[int, float] = {}
         self._counts = {number: [0, 0] for number in self.peers}
         self._failed: Counter[str] = collections.Counter()
@@ -123,12 +127,15 @@ class Peers:
 
     def say_lacks(self, lacks: Mapping[str, int]) -> None:
         """The seats that callers of this site lack, by record: 1 to 65,535 each, a record left out lacks none. Sent beside the
-        site's text. Raises `ValueError` on other numbers, and `TransportFailed` if this is closed."""
-        told = dict(checked_lacks(dict(lacks)))
+        site's text when it changes; as long as seats are lacking, call it once a second or so, and it is sent each five
+        seconds. Raises `ValueError` on other numbers, and `TransportFailed` if this is closed."""
+        told, now = dict(checked_lacks(dict(lacks))), time.monotonic()
         with self._lock:
+            again = bool(told) and now - self._told >= LACKS_AGAIN
             self._lacks = told
             own = self._texts.newest.get(self.site)
-            changed = own is not None and self._texts.tell(own.text, told, _stamp())
+            changed = own is not None and self._texts.tell(own.text, told, _stamp(), again)
+            self._told = now if changed else self._told
         self._call(self._wake_all if changed else lambda: None)
 
     def lacks(self) -> Dict[int, Tuple[Dict[str, int], float]]:
