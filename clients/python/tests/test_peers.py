@@ -18,7 +18,7 @@ from zinduroi.peer_names import Peer, Timing, name_of, parse_address, site_in
 from zinduroi.peer_texts import LINE_LIMIT, Hello, Text, hello_line, text_line
 from zinduroi.peers import Peers
 
-from .common import Case, wait_for
+from .common import PACKAGE, Case, wait_for
 
 OPENSSL = shutil.which("openssl")
 QUICK = Timing(handshake=1.0, beat=0.1, silence=0.8, first_pause=0.02, longest_pause=0.2, patience=0.5, again=600.0, linger=1.0,
@@ -727,6 +727,22 @@ class Exchanges(Case):
             self.addCleanup(exchange.close)
             self.assertRaises(zinduroi.OwnRowAhead, exchange.start)
             self.assertIsNone(other.failure)
+
+
+class Printed(unittest.TestCase):
+    """The commands that docs/OPERATING.md prints."""
+
+    @unittest.skipUnless(OPENSSL, "there is no openssl")
+    def test_three_commands_make_a_certificate(self):
+        text = (PACKAGE.parent.parent / "docs" / "OPERATING.md").read_text(encoding="utf-8")
+        commands = [line.strip() for line in text.split("\n") if line.startswith(("    openssl ", "    echo \"subjectAltName"))]
+        self.assertEqual(len(commands), 3)
+        with tempfile.TemporaryDirectory() as folder:
+            for command in commands:
+                subprocess.run(["sh", "-c", command], cwd=folder, check=True, capture_output=True)
+            self.assertEqual(os.stat(f"{folder}/site-1.key").st_mode & 0o077, 0)
+            with Peers(1, {0: None}, "127.0.0.1:0", f"{folder}/authority.pem", f"{folder}/site-1.pem", f"{folder}/site-1.key") as made:
+                self.assertEqual(made.failures(), {})
 
 
 class Names(unittest.TestCase):
