@@ -96,6 +96,14 @@ def text_line(text: Text) -> bytes:
     return head + b" " + text.text.encode("utf-8") + b"\n"
 
 
+def is_text(text: str) -> bool:
+    """Whether a text can be sent: in UTF-8, without LF, and no longer than a delta with its mark."""
+    try:
+        return "\n" not in text and len(text.encode("utf-8")) <= TEXT_LIMIT
+    except UnicodeEncodeError:
+        return False
+
+
 def line_of(line: bytes) -> Line:
     """What a line without its LF says. Raises `BadLine`."""
     word, _, rest = line.partition(b" ")

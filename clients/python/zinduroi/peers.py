@@ -14,10 +14,10 @@ import time
 from types import TracebackType
 from typing import Any, Callable, Coroutine, Counter, Dict, Iterable, List, Mapping, Optional, Set, Tuple, Type, Union
 
-from .peer_links import Dropped, Link, bound, failure_name, first_line, lines_of, shut, write
+from .peer_links import CHUNK, Dropped, Link, bound, failure_name, first_line, lines_of, shut, write
 from .peer_names import Peer, Timing, check_own, is_loopback, name_of, parse_address, site_in, tls_contexts
 from .peer_texts import (ALIVE, SITES, TEXT_LIMIT, Alive, BadLine, Hello, Line, Needs, Text, Texts, View, checked_lacks,
-                         hello_line, line_of, needs_line, text_line)
+                         hello_line, is_text, line_of, needs_line, text_line)
 from .transports import TransportFailed
 
 # Seconds after which a site that still lacks seats says so anew.
@@ -97,12 +97,8 @@ class Peers:
     def publish(self, site: int, text: str) -> None:
         """This site's text from now on. It goes to each peer as soon as there is a connection. Raises `TransportFailed` if it
         is no text for this transport, or this is closed."""
-        if site != self.site or "\n" in text or len(text) > TEXT_LIMIT:
+        if site != self.site or not is_text(text):
             raise TransportFailed("not a text of this site")
-        try:
-            text.encode("utf-8")
-        except UnicodeEncodeError:
-            raise TransportFailed("not a text of this site") from None
         with self._lock:
             changed = self._texts.tell(text, self._lacks, _stamp())
         self._call(self._wake_all if changed else lambda: None)
@@ -201,7 +197,14 @@ class Peers:
 
     def _start(self) -> None:
         ready = threading.Event()
-        self._thread = threading.Thread(target=lambda: asyncio.run(self._main(ready)), name="zinduroi peers", daemon=True)
+
+        def work() -> None:
+            try:
+                asyncio.run(self._main(ready))
+            finally:
+                ready.set()
+
+        self._thread = threading.Thread(target=work, name="zinduroi peers", daemon=True)
         self._thread.start()
         ready.wait()
 
@@ -347,6 +350,7 @@ class Peers:
         """A connection from its first line to its end. `dialed` is the site that this one connected to."""
         link: Optional[Link] = None
         name = "Closed"
+        writer.transport.set_write_buffer_limits(high=CHUNK)
         try:
             link = await self._greet(reader, writer, dialed)
             await self._talk(reader, link)
