@@ -320,6 +320,20 @@ class Carries(Secure):
         second.close()
         self.gets(first, "z" * 2_000_000)
 
+    def test_while_the_authority_is_changed(self):
+        """Each site has both certificates in its file; site 1 has one of the new authority already."""
+        new = Authority(self.folder / "new")
+        both = self.folder / "both.pem"
+        both.write_text(self.authority.certificate.read_text() + new.certificate.read_text())
+        self.authority, old = Authority.__new__(Authority), self.authority
+        self.authority.certificate = both
+        first = self.peers(0, {1: None}, "127.0.0.1:0")
+        second = self.peers(1, {0: f"127.0.0.1:{first.port}"}, given=new.give("site-1.zinduroi"))
+        first.publish(0, "one")
+        self.gets(second, "one")
+        del self.authority
+        self.assertIs(self.authority, old)
+
     def test_in_a_group(self):
         given = [self.authority.give(name_of(site, "payroll")) for site in (0, 1)]
         first = self.peers(0, {1: None}, "127.0.0.1:0", given[0], group="payroll")
@@ -334,7 +348,7 @@ class Carries(Secure):
 class Relays(Secure):
     """Texts over another site."""
 
-    def line(self, carries_1=frozenset({2}), carries_2=frozenset({0})):
+    def line(self, carries_1={2}, carries_2={0}):
         """Sites 1 and 2 connect to site 0 and 1: a line 0 - 1 - 2 in which only neighbours are connected."""
         zero = self.peers(0, {1: Peer(None, carries_1), 2: None}, "127.0.0.1:0")
         one = self.peers(1, {0: f"127.0.0.1:{zero.port}", 2: None}, "127.0.0.1:0")
@@ -367,7 +381,7 @@ class Relays(Secure):
         """All are connected and name each other: each text goes over each connection once at most, and none in a circle."""
         everybody = {0, 1, 2}
         ports = free_ports(3)
-        sites = [self.peers(site, {other: Peer(f"127.0.0.1:{ports[other]}", frozenset(everybody - {site})) for other in everybody - {site}},
+        sites = [self.peers(site, {other: Peer(f"127.0.0.1:{ports[other]}", everybody - {site, other}) for other in everybody - {site}},
                             f"127.0.0.1:{ports[site]}") for site in range(3)]
         self.assertTrue(wait_for(lambda: all(state.connected is not None for peers in sites for state in peers.states())))
         time.sleep(0.3)
@@ -388,9 +402,9 @@ class Relays(Secure):
         ports = free_ports(3)
         middle = Middle(ports[0])
         self.addCleanup(middle.close)
-        zero = self.peers(0, {1: Peer(None, frozenset({2})), 2: Peer(None, frozenset({1}))}, f"127.0.0.1:{ports[0]}")
+        zero = self.peers(0, {1: Peer(None, {2}), 2: Peer(None, {1})}, f"127.0.0.1:{ports[0]}")
         one = self.peers(1, {0: f"127.0.0.1:{ports[0]}", 2: None}, f"127.0.0.1:{ports[1]}")
-        two = self.peers(2, {0: f"127.0.0.1:{middle.port}", 1: Peer(f"127.0.0.1:{ports[1]}", frozenset({0}))})
+        two = self.peers(2, {0: f"127.0.0.1:{middle.port}", 1: Peer(f"127.0.0.1:{ports[1]}", {0})})
         zero.publish(0, "direct")
         self.gets(two, "direct")
         middle.cut()
@@ -406,7 +420,7 @@ class Relays(Secure):
 
     def test_an_earlier_run_with_a_later_clock(self):
         """Site 0 begins again, and its clock was put back: its new text reaches site 2 over site 1 all the same."""
-        zero, one, two = self.line()
+        zero, _, two = self.line()
         ahead = time.time_ns() // 1000 + 3_600_000_000
         with zero._lock:
             zero._texts.last = ahead
@@ -414,7 +428,7 @@ class Relays(Secure):
         self.gets(two, "earlier run")
         port = zero.port
         zero.close()
-        zero = self.peers(0, {1: Peer(None, frozenset({2})), 2: None}, f"127.0.0.1:{port}")
+        zero = self.peers(0, {1: Peer(None, {2}), 2: None}, f"127.0.0.1:{port}")
         zero.publish(0, "later run")
         self.gets(two, "later run")
         self.assertIn("earlier run", list(zero.messages()))
@@ -423,7 +437,7 @@ class Relays(Secure):
     def test_two_processes_of_one_site_make_no_storm(self):
         zero, one, two = self.line()
         other = self.peers(0, {2: None}, "127.0.0.1:0")
-        third = self.peers(2, {0: f"127.0.0.1:{other.port}", 1: Peer(f"127.0.0.1:{one.port}", frozenset({0}))})
+        third = self.peers(2, {0: f"127.0.0.1:{other.port}", 1: Peer(f"127.0.0.1:{one.port}", {0})})
         two.close()
         zero.publish(0, "of one process")
         other.publish(0, "of the other")
@@ -612,8 +626,8 @@ class Starts(Secure):
 
     def test_wrong_settings(self):
         for site, peers, listen in ((0, {0: None}, None), (0, {16: None}, None), (0, {1: "nowhere"}, None), (0, {1: "a:b"}, None),
-                                    (0, {1: "host:70000"}, None), (0, {1: Peer(None, frozenset({0}))}, None), (0, {}, "x"),
-                                    (0, {1: Peer(None, frozenset({16}))}, None)):
+                                    (0, {1: "host:70000"}, None), (0, {1: Peer(None, {0})}, None), (0, {1: Peer(None, {1})}, None), (0, {}, "x"),
+                                    (0, {1: Peer(None, {16})}, None)):
             with self.subTest(peers=peers, listen=listen):
                 self.assertRaises(ValueError, self.peers, site, peers, listen)
 
@@ -623,6 +637,9 @@ class Starts(Secure):
             self.assertRaises(ValueError, Peers, 0, {}, None, *files)
         for files in ((self.folder / "none", certificate, key), (key, certificate, key), (self.authority.certificate, self.given[1][0], key)):
             self.assertRaises(OSError, Peers, 0, {}, None, *files)
+        locked = self.folder / "locked.key"
+        subprocess.run(["openssl", "ec", "-in", key, "-aes128", "-passout", "pass:secret", "-out", locked], check=True, capture_output=True)
+        self.assertRaises(OSError, Peers, 0, {}, None, self.authority.certificate, certificate, locked)
         # A certificate of another site.
         with self.assertRaisesRegex(ValueError, "site-0.zinduroi"):
             self.peers(0, {}, given=self.given[1])
@@ -707,7 +724,7 @@ class Exchanges(Case):
         sites = [self.open(site) for site in range(3)]
         one = self.peers(1, {0: None, 2: None}, "127.0.0.1:0")
         to_one = f"127.0.0.1:{one.port}"
-        others = [self.peers(site, {1: Peer(to_one, frozenset({2 - site})), 2 - site: None}) for site in (0, 2)]
+        others = [self.peers(site, {1: Peer(to_one, {2 - site}), 2 - site: None}) for site in (0, 2)]
         with Exchange(sites[1], one, 0.2), Exchange(sites[0], others[0], 0.2), Exchange(sites[2], others[1], 0.2) as last:
             for site in (0, 2):
                 with sites[site].write("a", 9, timeout=60):

@@ -5,7 +5,7 @@ import asyncio
 import socket
 import ssl
 import time
-from typing import AsyncIterator, Optional
+from typing import AsyncGenerator, Optional
 
 from .peer_texts import LINE_LIMIT, BadLine, View
 
@@ -45,7 +45,7 @@ class Link:
             self.task.uncancel()
 
 
-async def lines_of(reader: asyncio.StreamReader, silence: float) -> AsyncIterator[bytes]:
+async def lines_of(reader: asyncio.StreamReader, silence: float) -> AsyncGenerator[bytes, None]:
     """The lines that come, without LF. Raises `TimeoutError` if no byte comes for too long."""
     waiting = bytearray()
     while True:
@@ -72,6 +72,8 @@ async def write(writer: asyncio.StreamWriter, data: bytes, silence: float) -> No
         writer.write(data[start:start + CHUNK])
         async with asyncio.timeout(silence):
             await writer.drain()
+        # Others get their turn, and a connection that was lost is noticed.
+        await asyncio.sleep(0)
 
 
 def bound(host: str, port: int) -> socket.socket:

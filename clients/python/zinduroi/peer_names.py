@@ -5,7 +5,7 @@ import dataclasses
 import ipaddress
 import re
 import ssl
-from typing import Any, FrozenSet, Mapping, Optional, Tuple
+from typing import Any, Collection, Mapping, Optional, Tuple
 
 from .peer_texts import SITES
 
@@ -19,7 +19,7 @@ class Peer:
     the sites whose texts are taken over it."""
 
     address: Optional[str] = None
-    carries: FrozenSet[int] = frozenset()
+    carries: Collection[int] = frozenset()
 
 
 @dataclasses.dataclass(frozen=True)
@@ -78,10 +78,12 @@ def tls_contexts(authority: str, certificate: str, key: str) -> Tuple[ssl.SSLCon
         context.minimum_version = ssl.TLSVersion.TLSv1_3
         context.verify_mode = ssl.CERT_REQUIRED
         context.hostname_checks_common_name = False
-        context.load_cert_chain(certificate, key)
+        # Without a password a key that needs one is refused; else OpenSSL would ask at the terminal.
+        context.load_cert_chain(certificate, key, password=lambda: "")
         context.load_verify_locations(cafile=authority)
         both.append(context)
-    both[0].num_tickets = 0
+    # No session is resumed: each connection shows its certificates.
+    setattr(both[0], "num_tickets", 0)
     return both[0], both[1]
 
 

@@ -16,7 +16,7 @@ from typing import Any, Callable, Coroutine, Counter, Dict, Iterable, List, Mapp
 
 from .peer_links import CHUNK, Dropped, Link, bound, failure_name, first_line, lines_of, shut, write
 from .peer_names import Peer, Timing, check_own, is_loopback, name_of, parse_address, site_in, tls_contexts
-from .peer_texts import (ALIVE, SITES, TEXT_LIMIT, Alive, BadLine, Hello, Line, Needs, Text, Texts, View, checked_lacks,
+from .peer_texts import (ALIVE, SITES, Alive, BadLine, Hello, Line, Needs, Text, Texts, View, checked_lacks,
                          hello_line, is_text, line_of, needs_line, text_line)
 from .transports import TransportFailed
 
@@ -74,7 +74,8 @@ class Peers:
         self._lacks: Dict[str, int] = {}
         self._told = float("-inf")
         self._heard: Dict[int, float] = {}
-        self._counts = {number: [0, 0] for number in self.peers}
+        self._sent: Counter[int] = collections.Counter()
+        self._took: Counter[int] = collections.Counter()
         self._failed: Counter[str] = collections.Counter()
         self._failures: Dict[int, str] = {}
         self._listeners: List[Callable[[], None]] = []
@@ -87,7 +88,6 @@ class Peers:
         self._again = time.monotonic() + timing.again
         self._loop: Optional[asyncio.AbstractEventLoop] = None
         self._stop: Optional[asyncio.Event] = None
-        self._closed = False
         self._listener = None if listen is None else bound(*parse_address(listen))
         self.port: Optional[int] = None if self._listener is None else self._listener.getsockname()[1]
         self._start()
@@ -147,7 +147,7 @@ class Peers:
         with self._lock:
             return [PeerState(number, now - self._links[number].since if number in self._links else None,
                               now - self._heard[number] if number in self._heard else None,
-                              *self._counts[number], self._failures.get(number)) for number in sorted(self.peers)]
+                              self._sent[number], self._took[number], self._failures.get(number)) for number in sorted(self.peers)]
 
     def failures(self) -> Counter[str]:
         """How often connections failed, by name."""
@@ -156,12 +156,10 @@ class Peers:
 
     def close(self) -> None:
         """Sends the last text where there is a connection, for `linger` seconds at most, and ends the thread."""
-        self._closed = True
         self._first.set()
-        try:
-            self._call(lambda: self._stop and self._stop.set())
-        except TransportFailed:
-            pass
+        if self._stop is not None:
+            with contextlib.suppress(TransportFailed):
+                self._call(self._stop.set)
         self._thread.join()
         if self._listener is not None:
             self._listener.close()
@@ -179,7 +177,7 @@ class Peers:
         for number, peer in self.peers.items():
             if number == self.site or not 0 <= number < SITES:
                 raise ValueError(f"site {number} can't be a peer of site {self.site}")
-            if not peer.carries <= set(range(SITES)) - {self.site}:
+            if not set(peer.carries) <= set(range(SITES)) - {self.site, number}:
                 raise ValueError(f"the peer {number} can't carry these sites")
 
     def _contexts(self, files: List[str], plain: bool,
@@ -407,7 +405,7 @@ class Peers:
     def _needs(self, site: int) -> Dict[int, int]:
         """The sites whose texts are wanted over this peer: those that it carries and that have no connection of their own."""
         peer = self.peers.get(site)
-        sites = set() if peer is None else peer.carries - set(self._links) - {site}
+        sites = set() if peer is None else set(peer.carries) - set(self._links)
         return self._texts.stamps(sites)
 
     def _begin(self, link: Link) -> None:
@@ -477,7 +475,7 @@ class Peers:
             raise Dropped("NotCarried")
         with self._lock:
             link.view.saw(text.of, text.stamp)
-            self._counts[site][1] += 1
+            self._took[site] += 1
             new = self._texts.take(text, _stamp())
             if new:
                 self._heard[text.of] = time.monotonic()
@@ -525,7 +523,7 @@ class Peers:
         while (text := self._due(link)) is not None:
             with self._lock:
                 link.view.saw(text.of, text.stamp)
-                self._counts[link.view.site][0] += 1
+                self._sent[link.view.site] += 1
             await write(link.writer, text_line(text), self.timing.silence)
 
     def _due(self, link: Link) -> Optional[Text]:
