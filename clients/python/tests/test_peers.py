@@ -487,7 +487,7 @@ class Strangers(Secure):
         first, second, _ = self.pair()
         given = self.authority.give("late", "site-1.zinduroi", days=-1)
         self.refused(first, second, "BadCertificate", lambda: self.shake(first, given))
-        with self.assertRaises(ssl.SSLCertVerificationError):
+        with self.assertRaisesRegex(ValueError, "expired"):
             self.peers(1, {0: f"127.0.0.1:{first.port}"}, given=given)
 
     def test_one_that_a_site_made_itself(self):
@@ -635,8 +635,14 @@ class Starts(Secure):
         certificate, key = self.given[0]
         for files in ((None, certificate, key), (self.authority.certificate, certificate, None)):
             self.assertRaises(ValueError, Peers, 0, {}, None, *files)
-        for files in ((self.folder / "none", certificate, key), (key, certificate, key), (self.authority.certificate, self.given[1][0], key)):
-            self.assertRaises(OSError, Peers, 0, {}, None, *files)
+        for files, said in (((self.folder / "none", certificate, key), "none"), ((key, certificate, key), "authority .*key"),
+                            ((self.authority.certificate, self.folder / "none", key), "certificate .*none"),
+                            ((self.authority.certificate, self.given[1][0], key), "certificate .*site-1.zinduroi.pem and key")):
+            with self.assertRaisesRegex(OSError, said):
+                Peers(0, {}, None, *files)
+        other = Authority(self.folder / "third")
+        with self.assertRaisesRegex(ValueError, "issuer"):
+            self.peers(0, {}, authority=other)
         locked = self.folder / "locked.key"
         subprocess.run(["openssl", "ec", "-in", key, "-aes128", "-passout", "pass:secret", "-out", locked], check=True, capture_output=True)
         self.assertRaises(OSError, Peers, 0, {}, None, self.authority.certificate, certificate, locked)

@@ -71,16 +71,22 @@ def is_loopback(host: str) -> bool:
 
 def tls_contexts(authority: str, certificate: str, key: str) -> Tuple[ssl.SSLContext, ssl.SSLContext]:
     """The contexts of the side that listens and of the one that connects: TLS 1.3, and both certificates of this authority
-    alone. Raises `OSError`, of which `ssl.SSLError` is one, if a file can't be used."""
+    alone. Raises `OSError`, which names the files, if one can't be used."""
     both = []
     for protocol in (ssl.PROTOCOL_TLS_SERVER, ssl.PROTOCOL_TLS_CLIENT):
         context = ssl.SSLContext(protocol)
         context.minimum_version = ssl.TLSVersion.TLSv1_3
         context.verify_mode = ssl.CERT_REQUIRED
         context.hostname_checks_common_name = False
-        # Without a password a key that needs one is refused; else OpenSSL would ask at the terminal.
-        context.load_cert_chain(certificate, key, password=lambda: "")
-        context.load_verify_locations(cafile=authority)
+        try:
+            # Without a password a key that needs one is refused; else OpenSSL would ask at the terminal.
+            context.load_cert_chain(certificate, key, password=lambda: "")
+        except OSError as error:
+            raise OSError(f"certificate {certificate} and key {key}: {error}") from error
+        try:
+            context.load_verify_locations(cafile=authority)
+        except OSError as error:
+            raise OSError(f"authority {authority}: {error}") from error
         both.append(context)
     # No session is resumed: each connection shows its certificates.
     setattr(both[0], "num_tickets", 0)
@@ -88,8 +94,8 @@ def tls_contexts(authority: str, certificate: str, key: str) -> Tuple[ssl.SSLCon
 
 
 def check_own(server: ssl.SSLContext, client: ssl.SSLContext, site: int, group: Optional[str]) -> None:
-    """Has both contexts shake hands in memory, as a peer would. Raises `ssl.SSLError` if the certificate is not of the
-    authority or is out of date, and `ValueError` if it does not name this site alone."""
+    """Has both contexts shake hands in memory, as two peers would. Raises `ValueError` if the certificate is not of the
+    authority, is out of date, or does not name this site alone."""
     to_server, to_client = ssl.MemoryBIO(), ssl.MemoryBIO()
     sides = [client.wrap_bio(to_client, to_server, server_hostname=name_of(site, group)),
              server.wrap_bio(to_server, to_client, server_side=True)]
@@ -104,6 +110,6 @@ def check_own(server: ssl.SSLContext, client: ssl.SSLContext, site: int, group: 
             except ssl.SSLCertVerificationError as error:
                 if error.verify_code == OTHER_NAME:
                     raise ValueError(f"the certificate has no name {name_of(site, group)}") from error
-                raise
+                raise ValueError(f"the certificate: {error.verify_message}") from error
     if waiting or site_in(sides[1].getpeercert() or {}, group) != site:
         raise ValueError(f"the certificate does not name {name_of(site, group)} alone")
