@@ -3,8 +3,9 @@ import json
 import unittest
 
 from .common import PACKAGE  # noqa: F401, puts the package on the path
-from zinduroi.peer_texts import (FAR_AHEAD, HEAD_LIMIT, SITES, STAMP_LIMIT, TEXT_LIMIT, Alive, BadLine, Hello, Needs, Text, Texts, View,
-                                 checked_lacks, hello_line, line_of, needs_line, text_line)
+from zinduroi.peer_texts import (FAR_AHEAD, HEAD_LIMIT, SITES, STAMP_LIMIT, TEXT_LIMIT, Alive, BadLine, Heard, Hello, Needs, Text, Texts,
+                                 View,
+                                 checked_lacks, heard_line, hello_line, line_of, needs_line, text_line)
 
 NOW = 1_000_000
 
@@ -20,6 +21,7 @@ class Lines(unittest.TestCase):
         for made, line in (
                 (Hello(3, 5, 7), hello_line(Hello(3, 5, 7))),
                 (Needs({0: 0, 15: 9}), needs_line({0: 0, 15: 9})),
+                (Heard({3: 9}), heard_line({3: 9})),
                 (Alive(), b"alive\n"),
                 (Text(2, 9, 'g 0123 {"v":1} \u00e9', {"a": 3}), text_line(Text(2, 9, 'g 0123 {"v":1} \u00e9', {"a": 3}))),
                 (Text(0, 1, "x" * TEXT_LIMIT), text_line(Text(0, 1, "x" * TEXT_LIMIT)))):
@@ -84,6 +86,21 @@ class Newest(unittest.TestCase):
         self.assertEqual(texts.newest[0], Text(0, NOW + 501, "new"))
         self.assertFalse(texts.tell_again(NOW))
         self.assertEqual(texts.others(), [])
+
+    def test_what_was_heard_of(self):
+        texts = Texts(0, NOW)
+        texts.take(text(1, 5), NOW)
+        for stamps, lacking in (({1: 5, 2: 0}, {}), ({1: 4}, {}), ({1: 7, 2: 3}, {1: 7, 2: 3}), ({1: 6}, {1: 7}), ({0: NOW}, {})):
+            self.assertEqual(texts.hear(stamps, NOW), bool(lacking))
+            self.assertEqual(texts.lacking(stamps), lacking)
+        self.assertIsNone(texts.above)
+        texts.take(text(1, 7), NOW)
+        self.assertEqual(texts.lacking([0, 1, 2]), {2: 3})
+        texts.tell("x", {}, NOW)
+        self.assertFalse(texts.hear({0: NOW + 50}, NOW))
+        self.assertTrue(texts.tell_again(NOW))
+        self.assertEqual(texts.last, NOW + 51)
+        self.assertRaises(BadLine, texts.hear, {1: NOW + FAR_AHEAD + 1}, NOW)
 
     def test_stamps_far_ahead(self):
         texts = Texts(0, NOW)

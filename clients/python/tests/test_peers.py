@@ -282,6 +282,18 @@ class Carries(Secure):
         for peers, age in zip(sites, ages):
             self.assertGreater(peers.states()[0].connected, 0.9)
 
+    def test_a_second_connection_of_a_run_is_refused(self):
+        """Site 0 began the connection, and it is the lower one: another one that site 1 begins is refused, unless its run is a
+        new one."""
+        second = self.peers(1, {0: None}, "127.0.0.1:0")
+        first = self.peers(0, {1: f"127.0.0.1:{second.port}"}, "127.0.0.1:0")
+        self.assertTrue(wait_for(lambda: first.states()[0].connected is not None))
+        began = second._texts.began
+        for run, name in ((began, "Second"), (began + 1, "Replaced")):
+            secure = self.connect(first, self.given[1])
+            secure.sendall(hello_line(Hello(1, run, run)))
+            self.assertTrue(wait_for(lambda: first.failures()[name] > 0), first.failures())
+
     def test_texts_are_handed_out_again(self):
         first, second, _ = self.pair(timing=Timing(**{**vars(QUICK), "again": 0.2}))
         first.publish(0, "one")
@@ -434,16 +446,34 @@ class Relays(Secure):
         self.assertIn("earlier run", list(zero.messages()))
         self.assertEqual(zero.failures()["OtherRun"], 1)
 
-    def test_two_processes_of_one_site_make_no_storm(self):
+    def test_an_earlier_run_that_only_a_distant_site_has_heard(self):
+        """Sites 0 and 1 begin again, and the clock of 0 was put back: only site 2 has its earlier text, and it is not connected
+        to site 0."""
         zero, one, two = self.line()
-        other = self.peers(0, {2: None}, "127.0.0.1:0")
-        third = self.peers(2, {0: f"127.0.0.1:{other.port}", 1: Peer(f"127.0.0.1:{one.port}", {0})})
-        two.close()
-        zero.publish(0, "of one process")
-        other.publish(0, "of the other")
+        with zero._lock:
+            zero._texts.last = time.time_ns() // 1000 + 3_600_000_000
+        zero.publish(0, "earlier run")
+        self.gets(two, "earlier run")
+        ports = zero.port, one.port
+        zero.close()
+        one.close()
+        zero = self.peers(0, {1: Peer(None, {2}), 2: None}, f"127.0.0.1:{ports[0]}")
+        zero.publish(0, "later run")
+        one = self.peers(1, {0: f"127.0.0.1:{ports[0]}", 2: None}, f"127.0.0.1:{ports[1]}")
+        self.gets(two, "later run", 10)
+        self.assertEqual(zero.failures()["OtherRun"], 1)
+
+    def test_two_processes_of_one_site_make_no_storm(self):
+        """Both are connected to site 1, one after the other again and again, and each takes the text of the other."""
+        one = self.peers(1, {0: None}, "127.0.0.1:0")
+        both = [self.peers(0, {1: f"127.0.0.1:{one.port}"}) for _ in range(2)]
+        for number, peers in enumerate(both):
+            peers.publish(0, f"of process {number}")
         time.sleep(3)
-        self.assertLess(zero.states()[0].took + zero.states()[0].sent, 12)
-        self.assertLess(sum(state.took + state.sent for state in third.states()), 24)
+        self.assertGreater(one.failures()["Replaced"], 1)
+        self.assertGreater(sum(peers.failures()["OtherRun"] for peers in both), 0)
+        self.assertLess(one.states()[0].took + one.states()[0].sent, 3 * 2 * 20)
+        self.assertLess(sum(peers.failures()["OtherRun"] for peers in both), 8)
 
 
 class Strangers(Secure):

@@ -5,7 +5,7 @@ import asyncio
 import socket
 import ssl
 import time
-from typing import AsyncGenerator, Optional
+from typing import AsyncGenerator, Dict, Optional
 
 from .peer_texts import LINE_LIMIT, BadLine, View
 
@@ -29,6 +29,7 @@ class Link:
         self.wake = asyncio.Event()
         self.gone = asyncio.Event()
         self.tells_needs = False
+        self.told: Dict[int, int] = {}
         self.busy = False
         self.dropped: Optional[str] = None
         self.task = asyncio.current_task()

@@ -4,11 +4,13 @@ Each line ends with LF. `hello` is the first line of each side:
 
     hello {"began":N,"last":N,"site":1,"version":1}
     needs {"2":N}
+    heard {"2":N}
     text {"lacks":{"a":3},"of":1,"stamp":N} TEXT
     alive
 
 `began` and `last` are the stamps between which all texts of this run of the site are until now. `needs` names the sites whose
-texts this side wants over this connection, with the stamp of what it has of each, or 0; a later one replaces it. `text` has the
+texts this side wants over this connection, with the stamp of what it has of each, or 0; a later one replaces it. `heard` has
+stamps that this side has heard of and whose texts it lacks: their site goes on above them. `text` has the
 delta TEXT of site `of` as that site published it, and the seats that its callers lack, by record. `alive` comes behind the first
 texts, and then where nothing else is to be said."""
 from __future__ import annotations
@@ -65,11 +67,19 @@ class Needs:
 
 
 @dataclasses.dataclass(frozen=True)
+class Heard:
+    """Stamps of sites that a side has heard of, and has no text of or an older one. If it is more than the site's own last
+    one, as where the clock of an earlier run was ahead, the site goes on above it."""
+
+    stamps: Mapping[int, int]
+
+
+@dataclasses.dataclass(frozen=True)
 class Alive:
     """A line that only shows that a side is there; the first one comes behind the texts that were due at the start."""
 
 
-Line = Union[Hello, Needs, Text, Alive]
+Line = Union[Hello, Needs, Heard, Text, Alive]
 
 
 def _encoded(word: str, value: Mapping[str, Any]) -> bytes:
@@ -88,6 +98,11 @@ def hello_line(hello: Hello) -> bytes:
 def needs_line(stamps: Mapping[int, int]) -> bytes:
     """The bytes of a line `needs`, with LF."""
     return _encoded("needs", _named(stamps)) + b"\n"
+
+
+def heard_line(stamps: Mapping[int, int]) -> bytes:
+    """The bytes of a line `heard`, with LF."""
+    return _encoded("heard", _named(stamps)) + b"\n"
 
 
 def text_line(text: Text) -> bytes:
@@ -113,6 +128,8 @@ def line_of(line: bytes) -> Line:
         return _text_of(rest)
     if word == b"needs":
         return Needs(_stamps_of(_object_of(rest)))
+    if word == b"heard":
+        return Heard(_stamps_of(_object_of(rest)))
     if word == b"hello":
         return _hello_of(_object_of(rest))
     raise BadLine("no such line")
@@ -217,6 +234,7 @@ class Texts:
         self.began = self.last = now
         self.newest: Dict[int, Text] = {}
         self.above: Optional[int] = None
+        self._heard: Dict[int, int] = {}
         self._arrived: Dict[int, Text] = {}
 
     def tell(self, text: str, lacks: Mapping[str, int], now: int, again: bool = False) -> bool:
@@ -243,13 +261,10 @@ class Texts:
     def take(self, text: Text, now: int) -> bool:
         """A text that arrived; whether it is new. One of this site's own from another run is new each time that it comes:
         it may show that the store is old. Raises `BadLine` if its stamp is far ahead of the clock."""
-        if text.stamp > now + FAR_AHEAD:
-            raise BadLine("a stamp is far ahead")
+        self.hear({text.of: text.stamp}, now)
         if text.of == self.site:
             if self.began <= text.stamp <= self.last:
                 return False
-            if text.stamp > self.last:
-                self.above = max(text.stamp, self.above or 0)
         else:
             old = self.newest.get(text.of)
             if old is not None and old.stamp >= text.stamp:
@@ -257,6 +272,23 @@ class Texts:
             self.newest[text.of] = text
         self._arrived[text.of] = text
         return True
+
+    def hear(self, stamps: Mapping[int, int], now: int) -> bool:
+        """Stamps that somebody has heard of; whether the text of one is lacking here. Raises `BadLine` if one is far ahead
+        of the clock."""
+        if any(stamp > now + FAR_AHEAD for stamp in stamps.values()):
+            raise BadLine("a stamp is far ahead")
+        for site, stamp in stamps.items():
+            if site != self.site:
+                self._heard[site] = max(stamp, self._heard.get(site, 0))
+            elif stamp > self.last:
+                self.above = max(stamp, self.above or 0)
+        return bool(self.lacking(stamps))
+
+    def lacking(self, sites: Iterable[int]) -> Dict[int, int]:
+        """The stamps that were heard of, of those of these sites whose texts are lacking."""
+        found = {site: self._heard.get(site, 0) for site in sites if site != self.site}
+        return {site: stamp for site, stamp in found.items() if stamp > self.stamps([site])[site]}
 
     def arrived(self) -> List[str]:
         """The texts that came since the last question."""

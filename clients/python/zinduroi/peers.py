@@ -16,8 +16,8 @@ from typing import Any, Callable, Coroutine, Counter, Dict, Iterable, List, Mapp
 
 from .peer_links import CHUNK, Dropped, Link, bound, failure_name, first_line, lines_of, shut, write
 from .peer_names import Peer, Timing, check_own, is_loopback, name_of, parse_address, site_in, tls_contexts
-from .peer_texts import (ALIVE, SITES, Alive, BadLine, Hello, Line, Needs, Text, Texts, View, checked_lacks,
-                         hello_line, is_text, line_of, needs_line, text_line)
+from .peer_texts import (ALIVE, SITES, Alive, BadLine, Heard, Hello, Line, Needs, Text, Texts, View, checked_lacks,
+                         heard_line, hello_line, is_text, line_of, needs_line, text_line)
 from .transports import TransportFailed
 
 # Seconds after which a site that still lacks seats says so anew.
@@ -259,6 +259,12 @@ class Peers:
         while time.monotonic() < end and any(link.busy or self._due(link) is not None for link in self._links.values()):
             await asyncio.sleep(0.01)
 
+    def _rise(self) -> None:
+        """Goes above what was heard of this site, at most once a second: two runs at once would else do so without a pause."""
+        if self._texts.above is not None and not self._rises:
+            self._rises = True
+            asyncio.get_running_loop().call_later(1.0, self._go_above)
+
     def _go_above(self) -> None:
         """Goes above a text of this site that another run of it made."""
         self._rises = False
@@ -457,10 +463,15 @@ class Peers:
         """What a line says."""
         if isinstance(line, Text):
             self._take_text(link, line)
-        elif isinstance(line, Needs):
+        elif isinstance(line, (Needs, Heard)):
             with self._lock:
-                link.view.want(line.stamps)
+                if isinstance(line, Needs):
+                    link.view.want(line.stamps)
+                lacking = self._texts.hear(line.stamps, _stamp())
+            self._rise()
             link.wake.set()
+            if lacking:
+                self._wake_all()
         elif isinstance(line, Alive):
             self._synced.add(link.view.site)
             if self._synced >= set(self._dial_to):
@@ -479,11 +490,7 @@ class Peers:
             new = self._texts.take(text, _stamp())
             if new:
                 self._heard[text.of] = time.monotonic()
-            rises = self._texts.above is not None and not self._rises
-            self._rises = self._rises or rises
-        if rises:
-            # Once a second: two runs at once would else rise without a pause.
-            asyncio.get_running_loop().call_later(1.0, self._go_above)
+        self._rise()
         if new:
             self._wake_all()
             for listener in self._listeners:
@@ -514,12 +521,19 @@ class Peers:
             link.drop("Unexpected")
 
     async def _send_due(self, link: Link) -> None:
-        """Sends the needs if they changed, and each text that the peer lacks, the newest at the moment when it goes."""
+        """Sends the needs, and what was heard of, if these changed, and each text that the peer lacks, the newest at the moment
+        when it goes."""
         if link.tells_needs:
             link.tells_needs = False
             with self._lock:
                 needs = self._needs(link.view.site)
             await write(link.writer, needs_line(needs), self.timing.silence)
+        with self._lock:
+            lacking = self._texts.lacking({link.view.site, *self._needs(link.view.site)})
+        if lacking != link.told:
+            link.told = lacking
+            if lacking:
+                await write(link.writer, heard_line(lacking), self.timing.silence)
         while (text := self._due(link)) is not None:
             with self._lock:
                 link.view.saw(text.of, text.stamp)
