@@ -3,7 +3,8 @@
 #
 #   checks/python.sh [PROGRAM]     without PROGRAM that of this repository, which is built where it is not there
 #
-# Tests of the transport over MQTT need Debian's packages mosquitto and mosquitto-clients, and are left out without them.
+# Tests of the transport over MQTT need Debian's packages mosquitto and mosquitto-clients, those of `Peers` need openssl; they are left
+# out without them.
 # Ends with 0 where all went well.
 set -u
 top=$(CDPATH='' cd -- "$(dirname -- "$0")/.." && pwd -P) || exit 1
