@@ -159,6 +159,7 @@ class Secure(unittest.TestCase):
         certificate, key = given or self.given[site]
         more.setdefault("timing", QUICK)
         made = Peers(site, peers, listen, (authority or self.authority).certificate, certificate, key, **more)
+        self.addCleanup(lambda: self.assertEqual(made.failures()["Unexpected"], 0))
         self.addCleanup(made.close)
         return made
 

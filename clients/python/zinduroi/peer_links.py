@@ -2,6 +2,7 @@
 from __future__ import annotations
 
 import asyncio
+import contextlib
 import socket
 import ssl
 import time
@@ -102,12 +103,12 @@ async def shut(writer: asyncio.StreamWriter, gently: bool) -> None:
     """Closes a connection; what was written before goes out first, within a second, if that is wanted."""
     if gently:
         writer.close()
-        try:
-            async with asyncio.timeout(1.0):
+        with contextlib.suppress(OSError, asyncio.CancelledError):
+            async with asyncio.timeout(1.5):
                 await writer.wait_closed()
-        except (OSError, asyncio.CancelledError):
-            pass
-    writer.transport.abort()
+    # Until Python 3.11.3 a transport of TLS can't be aborted once it was closed.
+    with contextlib.suppress(AttributeError):
+        writer.transport.abort()
     # The socket is closed behind the callbacks of this turn.
     for _ in range(3):
         await asyncio.sleep(0)

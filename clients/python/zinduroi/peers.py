@@ -325,10 +325,14 @@ class Peers:
         while True:
             began = time.monotonic()
             link = self._links.get(site)
-            if link is None:
-                await self._connect(site, host, port)
-            else:
+            if link is not None:
                 await link.gone.wait()
+            else:
+                try:
+                    await self._connect(site, host, port)
+                except Exception:
+                    # Whatever it is: the next attempt comes.
+                    self._count("Unexpected", site)
             lasted = time.monotonic() - began
             pause = self.timing.first_pause if lasted > self.timing.longest_pause else min(2 * pause, self.timing.longest_pause)
             await asyncio.sleep(pause * random.uniform(0.5, 1.0))
