@@ -1,5 +1,6 @@
 """The transport `Peers`: real connections on loopback, with certificates that `openssl` makes here."""
 import contextlib
+import gc
 import json
 import os
 import pathlib
@@ -11,6 +12,7 @@ import tempfile
 import threading
 import time
 import unittest
+import warnings
 
 import zinduroi
 from zinduroi import Exchange, TransportFailed
@@ -159,6 +161,7 @@ class Secure(unittest.TestCase):
         certificate, key = given or self.given[site]
         more.setdefault("timing", QUICK)
         made = Peers(site, peers, listen, (authority or self.authority).certificate, certificate, key, **more)
+        self.addCleanup(lambda: self.assertEqual(made.failures()["Unexpected"], 0))
         self.addCleanup(made.close)
         return made
 
@@ -345,6 +348,33 @@ class Carries(Secure):
         self.gets(second, "one")
         del self.authority
         self.assertIs(self.authority, old)
+
+    def test_close_at_any_moment(self):
+        """Both begin to connect to each other and are closed, a moment later each time: nothing is left open."""
+        for number in range(12):
+            ports = free_ports(2)
+            sites = [self.peers(site, {1 - site: f"127.0.0.1:{ports[1 - site]}"}, f"127.0.0.1:{ports[site]}") for site in (0, 1)]
+            for site, peers in enumerate(sites):
+                peers.publish(site, f"{site} " + "x" * 100_000)
+            time.sleep(0.005 * number)
+            with warnings.catch_warnings(record=True) as caught:
+                warnings.simplefilter("always")
+                for peers in sites:
+                    peers.close()
+                gc.collect()
+            self.assertEqual([str(warning.message) for warning in caught], [])
+
+    def test_close_beside_a_peer_that_never_reads(self):
+        first = self.peers(0, {1: None, 2: None}, "127.0.0.1:0", timing=Timing(**{**vars(QUICK), "silence": 60.0}))
+        stalled = self.connect(first, self.given[2])
+        stalled.sendall(hello_line(Hello(2, 1, 1)))
+        self.assertTrue(wait_for(lambda: first.states()[1].connected is not None))
+        for number in range(6):
+            first.publish(0, f"{number} " + "x" * 2_000_000)
+            time.sleep(0.1)
+        began = time.monotonic()
+        first.close()
+        self.assertLess(time.monotonic() - began, 10)
 
     def test_in_a_group(self):
         given = [self.authority.give(name_of(site, "payroll")) for site in (0, 1)]

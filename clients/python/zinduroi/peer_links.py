@@ -2,6 +2,7 @@
 from __future__ import annotations
 
 import asyncio
+import contextlib
 import socket
 import ssl
 import time
@@ -85,6 +86,41 @@ def bound(host: str, port: int) -> socket.socket:
     return listener
 
 
+async def connected(host: str, port: int, seconds: float) -> socket.socket:
+    """A connection to the first address of a host that answers; each has its part of the time. Raises `OSError`, and
+    `ValueError` for a name that can't be a host's."""
+    loop = asyncio.get_running_loop()
+    try:
+        found = socket.getaddrinfo(host, port, type=socket.SOCK_STREAM, flags=socket.AI_NUMERICHOST)
+    except socket.gaierror:
+        found = await loop.getaddrinfo(host, port, type=socket.SOCK_STREAM)
+    failure = OSError("the host has no address")
+    for family, kind, protocol, _, address in found:
+        end = socket.socket(family, kind, protocol)
+        end.setblocking(False)
+        try:
+            async with asyncio.timeout(seconds / len(found)):
+                await loop.sock_connect(end, address)
+            return end
+        except OSError as error:
+            end.close()
+            failure = error
+        except BaseException:
+            end.close()
+            raise
+    raise failure
+
+
+async def throw_away(end: socket.socket) -> None:
+    """Closes the socket of a connection that has not come to be. If a transport was made of it, that closes it at its end:
+    asyncio forgets a transport of TLS that is cancelled before its first turn."""
+    with contextlib.suppress(OSError):
+        end.shutdown(socket.SHUT_RDWR)
+    for _ in range(5):
+        await asyncio.sleep(0)
+    end.close()
+
+
 async def first_line(reader: asyncio.StreamReader) -> bytes:
     """The first line, without LF, and nothing behind it. Raises `BadLine`, and `OSError` if the connection ends."""
     line = bytearray()
@@ -100,16 +136,20 @@ async def first_line(reader: asyncio.StreamReader) -> bytes:
 
 async def shut(writer: asyncio.StreamWriter, gently: bool) -> None:
     """Closes a connection; what was written before goes out first, within a second, if that is wanted."""
+    end = writer.get_extra_info("socket")
     if gently:
         writer.close()
-        try:
-            async with asyncio.timeout(1.0):
+        with contextlib.suppress(OSError, asyncio.CancelledError):
+            async with asyncio.timeout(1.5):
                 await writer.wait_closed()
-        except (OSError, asyncio.CancelledError):
-            pass
-    writer.transport.abort()
-    # The socket is closed behind the callbacks of this turn.
-    for _ in range(3):
+        # A transport of TLS can't be aborted once it was closed, and may wait for the other side for ever.
+        if end is not None:
+            with contextlib.suppress(OSError):
+                end.shutdown(socket.SHUT_RDWR)
+    else:
+        writer.transport.abort()
+    # The socket is closed behind the callbacks of the next turns.
+    for _ in range(5):
         await asyncio.sleep(0)
 
 
@@ -119,7 +159,7 @@ def failure_name(error: Exception) -> str:
         return "BadCertificate"
     if isinstance(error, ssl.SSLError):
         return "Refused" if "ALERT" in (error.reason or "") else "NoTls"
-    if isinstance(error, TimeoutError):
+    if isinstance(error, (TimeoutError, ConnectionAbortedError)):
         return "Silent"
     if isinstance(error, ConnectionError):
         return "Cut" if not isinstance(error, ConnectionRefusedError) else "Unreachable"

@@ -14,7 +14,7 @@ import time
 from types import TracebackType
 from typing import Any, Callable, Coroutine, Counter, Dict, Iterable, List, Mapping, Optional, Set, Tuple, Type, Union
 
-from .peer_links import CHUNK, Dropped, Link, bound, failure_name, first_line, lines_of, shut, write
+from .peer_links import CHUNK, Dropped, Link, bound, connected, failure_name, first_line, lines_of, shut, throw_away, write
 from .peer_names import Peer, Timing, check_own, is_loopback, name_of, parse_address, site_in, tls_contexts
 from .peer_texts import (ALIVE, SITES, Alive, BadLine, Heard, Hello, Line, Needs, Text, Texts, View, checked_lacks,
                          heard_line, hello_line, is_text, line_of, needs_line, text_line)
@@ -297,22 +297,29 @@ class Peers:
             oldest.cancel()
             self._count("TooMany")
         connection.setblocking(False)
-        task = self._spawn(self._answer(connection))
+        task = self._spawn(self._open(connection, None))
         # Where the task was ended before it began.
         task.add_done_callback(lambda _: connection.close())
         self._strangers[task] = None
 
-    async def _answer(self, connection: socket.socket) -> None:
-        """A connection that came in."""
+    async def _open(self, end: socket.socket, dialed: Optional[int]) -> None:
+        """A connection, from its handshake to its end. `dialed` is the site that this one connected to."""
         loop = asyncio.get_running_loop()
         reader = asyncio.StreamReader()
         protocol = asyncio.StreamReaderProtocol(reader)
         try:
-            transport, _ = await loop.connect_accepted_socket(lambda: protocol, connection, **self._tls(self._server))
-        except OSError as error:
-            self._count(failure_name(error))
+            if dialed is None:
+                transport, _ = await loop.connect_accepted_socket(lambda: protocol, end, **self._tls(self._server))
+            else:
+                name: Dict[str, Any] = {} if self._client is None else {"server_hostname": name_of(dialed, self.group)}
+                transport, _ = await loop.create_connection(lambda: protocol, sock=end, **self._tls(self._client), **name)
+        except BaseException as error:
+            await throw_away(end)
+            if not isinstance(error, OSError):
+                raise
+            self._count(failure_name(error), dialed)
             return
-        await self._hold(reader, asyncio.StreamWriter(transport, protocol, reader, loop), None)
+        await self._hold(reader, asyncio.StreamWriter(transport, protocol, reader, loop), dialed)
 
     def _tls(self, context: Optional[ssl.SSLContext]) -> Dict[str, Any]:
         if context is None:
@@ -325,30 +332,26 @@ class Peers:
         while True:
             began = time.monotonic()
             link = self._links.get(site)
-            if link is None:
-                await self._connect(site, host, port)
-            else:
+            if link is not None:
                 await link.gone.wait()
+            else:
+                try:
+                    await self._connect(site, host, port)
+                except Exception:
+                    # Whatever it is: the next attempt comes.
+                    self._count("Unexpected", site)
             lasted = time.monotonic() - began
             pause = self.timing.first_pause if lasted > self.timing.longest_pause else min(2 * pause, self.timing.longest_pause)
             await asyncio.sleep(pause * random.uniform(0.5, 1.0))
 
     async def _connect(self, site: int, host: str, port: int) -> None:
         """One connection to a peer, until it ends."""
-        loop = asyncio.get_running_loop()
-        reader = asyncio.StreamReader()
-        protocol = asyncio.StreamReaderProtocol(reader)
-        tls = self._tls(self._client)
-        if tls:
-            tls["server_hostname"] = name_of(site, self.group)
         try:
-            async with asyncio.timeout(self.timing.handshake):
-                transport, _ = await loop.create_connection(lambda: protocol, host, port, **tls)
+            end = await connected(host, port, self.timing.handshake)
         except (OSError, ValueError) as error:
-            # A name that can't be a host's is a ValueError.
             self._count(failure_name(error), site)
             return
-        await self._hold(reader, asyncio.StreamWriter(transport, protocol, reader, loop), site)
+        await self._open(end, site)
 
     async def _hold(self, reader: asyncio.StreamReader, writer: asyncio.StreamWriter, dialed: Optional[int]) -> None:
         """A connection from its first line to its end. `dialed` is the site that this one connected to."""
