@@ -1,7 +1,7 @@
 #!/usr/bin/env python3
 """An operator's day: what happens to a store and a service where the disk, other programs, the clock or a terminal get in the way.
 
-Usage: checks/operator.py [--program PATH] [--seed S]
+Usage: checks/operating.py [--program PATH] [--seed S]
 
 Tries a disk that is full, one that is or becomes read-only, a store that is moved, copied or removed while it is served, one
 that sqlite3 vacuums, two services of one store, a clock that goes back, and signals at random moments to `serve`, `ask`
