@@ -2,18 +2,14 @@
 from __future__ import annotations
 
 import argparse
-import asyncio
 import json
-import sqlite3
 import sys
 import time
 from typing import Any, Dict, List, Optional, Sequence
 
 from .errors import ZinduroiError
 from .node.client import DEFAULT_SOCKET, NodeClient, NodeGone
-from .node.config import ConfigError, read_config
 from .node.lock import HELP, NO_NODE, run_lock
-from .node.server import serve
 from .watch import add_watch, rows_of, run_watch, table
 
 # Exit statuses of sysexits.h: the configuration is wrong.
@@ -88,6 +84,11 @@ def main(words: Optional[Sequence[str]] = None) -> int:
 
 def run_node(config: str, create: bool) -> int:
     """Serves a site until a signal comes."""
+    import asyncio
+    import sqlite3
+
+    from .node.config import ConfigError, read_config
+    from .node.server import serve
     try:
         asyncio.run(serve(read_config(config), create))
         return 0

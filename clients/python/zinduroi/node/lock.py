@@ -84,6 +84,11 @@ class Lock:
         assert self.client is not None
         return self.client.ask(line)
 
+    def close(self) -> None:
+        """Closes this process's end of the connection."""
+        if self.client is not None:
+            self.client.close()
+
     # A node that ended
 
     def _return(self, end: float, keep: bool) -> Optional[str]:
@@ -109,8 +114,7 @@ class Lock:
         except NodeGone:
             client.close()
             raise
-        if self.client is not None:
-            self.client.close()
+        self.close()
         self.client = client
         if words[0] != "resumed":
             self.token = ""
@@ -233,11 +237,12 @@ def run_lock(path: Optional[str], record: str, reads: bool, timeout: Optional[fl
     """Carries out `lock`, and gives the exit status."""
     lock = Lock(path, record, reads, timeout, strict)
     try:
-        fence = lock.enter()
+        return lock.run(command, lock.enter())
     except Refused as refused:
         print(f"zinduroi: {refused}", file=sys.stderr)
         return refused.status
     except NodeGone as gone:
         print(f"zinduroi: {gone}", file=sys.stderr)
         return NO_NODE
-    return lock.run(command, fence)
+    finally:
+        lock.close()
