@@ -21,6 +21,8 @@ FIRST_PAUSE, LONGEST_PAUSE = 0.05, 2.0
 # How many seconds the node is waited for once the command has ended, and a command that was asked to end.
 AFTERWARDS = 60.0
 GRACE = 10.0
+# The signals that go on to the command.
+PASSED_ON = (signal.SIGTERM, signal.SIGHUP)
 
 HELP = """Runs COMMAND inside RECORD: as the only one at all sites, or with --read beside other readers. The exit status is that of
 COMMAND, 128 and the number of its signal if one ended it; else
@@ -128,23 +130,28 @@ class Lock:
         """Runs the command, and gives the exit status."""
         lifeline, held = os.pipe()
         before = {number: signal.signal(number, signal.SIG_IGN) for number in (signal.SIGINT, signal.SIGQUIT)}
-        process, status = self._start(command, fence, held, before)
+        # A signal that comes meanwhile is for the command, and waits until it is there.
+        mask = signal.pthread_sigmask(signal.SIG_BLOCK, PASSED_ON)
+        process, status = self._start(command, fence, held, before, mask)
         os.close(held)
         lost = False
         if process is not None:
-            for number in (signal.SIGTERM, signal.SIGHUP):
+            for number in PASSED_ON:
                 signal.signal(number, lambda got, _: process.send_signal(got))
+            signal.pthread_sigmask(signal.SIG_SETMASK, mask)
             lost = self._watch(process)
             status = process.returncode if process.returncode >= 0 else 128 - process.returncode
-            for number in (signal.SIGTERM, signal.SIGHUP):
+            for number in PASSED_ON:
                 signal.signal(number, signal.SIG_DFL)
         self._leave(lifeline)
         os.close(lifeline)
         return NO_NODE if lost and self.strict else status
 
-    def _start(self, command: Sequence[str], fence: str, held: int, before: Dict[int, Any]) -> "Tuple[Optional[subprocess.Popen[bytes]], int]":
-        """Starts the command with the connection, or gives the exit status."""
+    def _start(self, command: Sequence[str], fence: str, held: int, before: Dict[int, Any],
+               mask: Any) -> "Tuple[Optional[subprocess.Popen[bytes]], int]":
+        """Starts the command with the connection, and with the signals as they were; or gives the exit status."""
         def take_signals() -> None:
+            signal.pthread_sigmask(signal.SIG_SETMASK, mask)
             for number, handler in before.items():
                 signal.signal(number, signal.SIG_IGN if handler == signal.SIG_IGN else signal.SIG_DFL)
 

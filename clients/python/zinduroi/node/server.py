@@ -184,7 +184,8 @@ class Node:
 
     def _more(self) -> Dict[str, object]:
         """What a status has beside the records."""
-        state: Dict[str, object] = {"group": self.config.group, "connections": len(self._connections)}
+        assert self._site is not None
+        state: Dict[str, object] = {"group": self.config.group, "connections": len(self._connections), "service": self._site.pid}
         if self._exchange is not None:
             failure = self._exchange.failure
             state["exchange"] = {**vars(self._exchange.tally()), "failure": None if failure is None else str(failure)}
