@@ -150,7 +150,7 @@ class PythonCaller:
         if not self.enter(record, verb, kind, word, self.chance.random() * 6):
             return
         self.note(f"in {record} {kind}")
-        time.sleep(self.chance.random() * 0.08)
+        time.sleep(self.chance.random() * (1.5 if self.chance.random() < 0.1 else 0.08))
         end = self.chance.choice(["close", "keep", "child"] + ["leave"] * 5)
         if end == "close":
             self.note(f"out {record}")
@@ -218,7 +218,7 @@ class PythonCaller:
 
 
 # A command that `lock` runs: writes down that it is inside, and when it leaves.
-INSIDE = 'echo ${EPOCHREALTIME/./}000 in $2 $3 >>"$1"; sleep 0.$((RANDOM % 3)); echo ${EPOCHREALTIME/./}000 out $2 >>"$1"'
+INSIDE = 'echo ${EPOCHREALTIME/./}000 in $2 $3 >>"$1"; sleep $((RANDOM % 8 == 0)).$((RANDOM % 3)); echo ${EPOCHREALTIME/./}000 out $2 >>"$1"'
 
 
 # From outside
@@ -575,6 +575,7 @@ def storm(folder, given):
     finally:
         world.close()
         world.errors.close()
+        world.wrong += [line for line in (folder / "errors").read_text().splitlines() if "is not alone" in line or "failed" in line]
     found, waits = visits(world)
     world.wrong += [f"inside together: {pair}" for pair in overlaps(found)[:5]]
     verdict = judge(world)

@@ -139,7 +139,7 @@ static void visit(const char *record, const char *verb, const char *kind, const 
     int end = random_below(8);
     if (!enter(record, verb, kind, word, random_below(60) / 10.0)) return;
     note("in %s %s", record, kind);
-    pause_for(random_below(80) / 1000.0);
+    pause_for(random_below(random_below(10) ? 80 : 1500) / 1000.0);
     if (end == 0) { /* the connection ends, and the node leaves */
         note("out %s", record);
         return;

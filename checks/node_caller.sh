@@ -54,7 +54,7 @@ visit() { # record, verb, kind, seconds
         esac
     fi
     note in "$1" "$3"
-    sleep 0.0$((RANDOM % 9))
+    sleep $((RANDOM % 10 == 0)).0$((RANDOM % 9))
     if ! ask "fence $1 $name"; then
         take_up || return
         case $reply in

@@ -8,7 +8,7 @@ import signal
 import subprocess
 import sys
 import time
-from typing import Any, Dict, List, Optional, Sequence, Tuple
+from typing import Any, Callable, Dict, List, Optional, Sequence, Tuple
 
 from .client import NodeClient, NodeGone
 
@@ -137,7 +137,7 @@ class Lock:
         lost = False
         if process is not None:
             for number in PASSED_ON:
-                signal.signal(number, lambda got, _: process.send_signal(got))
+                signal.signal(number, _passes_on(process))
             signal.pthread_sigmask(signal.SIG_SETMASK, mask)
             lost = self._watch(process)
             status = process.returncode if process.returncode >= 0 else 128 - process.returncode
@@ -147,7 +147,7 @@ class Lock:
         os.close(lifeline)
         return NO_NODE if lost and self.strict else status
 
-    def _start(self, command: Sequence[str], fence: str, held: int, before: Dict[int, Any],
+    def _start(self, command: Sequence[str], fence: str, held: int, before: Dict[Any, Any],
                mask: Any) -> "Tuple[Optional[subprocess.Popen[bytes]], int]":
         """Starts the command with the connection, and with the signals as they were; or gives the exit status."""
         def take_signals() -> None:
@@ -228,6 +228,11 @@ class Lock:
         poll = select.poll()
         poll.register(self.client.fileno(), 0)
         return self.kept or bool(poll.poll(0))
+
+
+def _passes_on(process: "subprocess.Popen[bytes]") -> Callable[[int, Any], None]:
+    """A handler that passes a signal on to the command."""
+    return lambda number, _: process.send_signal(number)
 
 
 def _end(process: "subprocess.Popen[bytes]") -> None:

@@ -2,11 +2,12 @@
 from __future__ import annotations
 
 import asyncio
+import contextlib
 import resource
 import signal
 import socket
 import sys
-from typing import Dict, Iterable, List, Optional, Set
+from typing import Callable, Dict, Iterable, List, Optional, Set
 
 from ..exchange import Exchange
 from ..errors import StoreRefused
@@ -121,8 +122,7 @@ class Node:
         self._book.recall(stored)
         self._answers = Answers(link, self._book, records, self._more)
         self._hang_ups = HangUps()
-        loop, wake = asyncio.get_running_loop(), self._answers.queues.wake_all
-        self._site.merged = lambda: loop.call_soon_threadsafe(wake)
+        self._site.merged = _on_loop(self._answers.queues.wake_all)
         self._start_exchange(self._site, records)
         _allow_files(config.socket.connections + OTHER_FILES)
 
@@ -190,6 +190,16 @@ class Node:
             failure = self._exchange.failure
             state["exchange"] = {**vars(self._exchange.tally()), "failure": None if failure is None else str(failure)}
         return state
+
+
+def _on_loop(function: Callable[[], None]) -> Callable[[], None]:
+    """A function for any thread, which has another one called on the thread of the loop."""
+    loop = asyncio.get_running_loop()
+
+    def call() -> None:
+        with contextlib.suppress(RuntimeError):
+            loop.call_soon_threadsafe(function)
+    return call
 
 
 def _turn_away(accepted: socket.socket) -> None:
