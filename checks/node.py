@@ -218,7 +218,7 @@ class PythonCaller:
 
 
 # A command that `lock` runs: writes down that it is inside, and when it leaves.
-INSIDE = 'echo ${EPOCHREALTIME/./}000 in $2 $3 >>"$1"; sleep $((RANDOM % 8 == 0)).$((RANDOM % 3)); echo ${EPOCHREALTIME/./}000 out $2 >>"$1"'
+INSIDE = 'echo ${EPOCHREALTIME/./}000 in $2 $3 >>"$1"; sleep $((RANDOM % 2)).$((RANDOM % 5)); echo ${EPOCHREALTIME/./}000 out $2 >>"$1"'
 
 
 # From outside
@@ -265,6 +265,11 @@ class Caller:
             return True
         except ProcessLookupError:
             return False
+
+    def is_inside(self):
+        """Whether the last note says so."""
+        lines = self.notes.read_text().splitlines() if self.notes.exists() else []
+        return bool(lines) and lines[-1].split(" ")[1] == "in"
 
     def kill(self):
         """Kills the caller; it was inside no longer than until now."""
@@ -409,11 +414,13 @@ class World:
         self.later(seconds, lambda: resume_group(process))
 
     def kill_lock(self, node, seconds):
-        """Kills a `lock` alone: its command lives."""
-        caller = self.chance.choice([it for it in self.callers if it.site == node.site and it.kind == "lock"])
-        if caller.process.poll() is None:
+        """Kills a `lock` alone: its command lives, if it was inside."""
+        locks = [it for it in self.callers if it.kind == "lock" and it.process.poll() is None]
+        inside = [it for it in locks if it.is_inside()]
+        for caller in inside or locks[:1]:
             caller.process.kill()
             caller.process.wait()
+            self.done["kill lock inside"] += bool(inside)
 
     # What an operator does
 

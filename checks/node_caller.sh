@@ -42,7 +42,7 @@ visit() { # record, verb, kind, seconds
         case $reply in
             admitted) note wait $((${EPOCHREALTIME/./} - began)) ;;
             "timeout refused "*) return ;;
-            *) note "fault wait: $reply"; return ;;
+            *) note "fault wait $4 $2 $1 $name: $reply"; return ;;
         esac
     else
         take_up || return
