@@ -107,7 +107,8 @@ def try_node(folder, lines):
     """The node, as one script."""
     script = "\n".join(block(lines, "printf 'site"))
     output, status = run(folder, f"{script}\nwait")
-    tell(output == "0\nalone, with number 17592186044416\n" and status == 0, "a node, and a lock", (status, output))
+    wanted = r"zinduroi: site 0 at .*/node\.sock\n0\nalone, with number 17592186044416\n"
+    tell(status == 0 and re.fullmatch(wanted, output) is not None, "a node, and a lock", (status, output))
 
 
 def main():

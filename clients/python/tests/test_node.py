@@ -684,6 +684,8 @@ class Commands(NodeCase):
         self.says(self.connect(), ("read a x", "admitted"))
         self.assertEqual(self.ran("--timeout", "0.2", "a", "--", "true"), (75, "", "zinduroi: timeout refused MissingSeats 2 3\n"))
         self.assertEqual(self.ran("--read", "--timeout", "0", "a", "--", "true"), (0, "", ""))
+        self.assertEqual(self.ran("a", "--read", "--", "echo", "--", "x"), (0, "-- x\n", ""))
+        self.assertEqual([self.ran("a", "true")[0], self.ran("a", "--")[0], self.ran("--timeout", "-1", "a", "--", "true")[0]], [2, 2, 2])
 
     def test_killed_lock(self):
         """The session of a `lock` that was killed stays as long as its command lives."""

@@ -5,7 +5,7 @@ import argparse
 import json
 import sys
 import time
-from typing import Any, Dict, List, Optional, Sequence
+from typing import Any, Callable, Dict, List, Optional, Sequence, Tuple
 
 from .errors import ZinduroiError
 from .node.client import DEFAULT_SOCKET, NodeClient, NodeGone
@@ -39,7 +39,6 @@ def parser() -> argparse.ArgumentParser:
     lock.add_argument("--strict", action="store_true", help="end the command if the node ends")
     _add_socket(lock)
     lock.add_argument("record", metavar="RECORD")
-    lock.add_argument("words", nargs=argparse.REMAINDER, metavar="COMMAND")
     ask = commands.add_parser("ask", help="send a line to the node", description=_ASK, formatter_class=raw)
     _add_socket(ask)
     ask.add_argument("line", nargs="+", metavar="LINE", help="the line, or its words")
@@ -64,16 +63,35 @@ def _seconds(text: str) -> float:
 def main(words: Optional[Sequence[str]] = None) -> int:
     """Carries out the command line, and gives the exit status."""
     made = parser()
-    given = made.parse_args(words)
+    before, command = _split(list(sys.argv[1:] if words is None else words))
+    given = made.parse_args(before)
     if given.command == "watch":
         return run_watch(given, made)
     if given.command == "node":
         return run_node(given.config, given.create)
     if given.command == "lock":
-        command = given.words[1:] if given.words[:1] == ["--"] else given.words
         if not command:
             made.error("lock: give a command behind --")
-        return run_lock(given.socket, given.record, given.read, given.timeout, given.strict, command)
+        return _interruptible(lambda: run_lock(given.socket, given.record, given.read, given.timeout, given.strict, command))
+    return _interruptible(lambda: _ask(given))
+
+
+def _split(words: List[str]) -> Tuple[List[str], List[str]]:
+    """The words of `lock` before `--`, and those of its command."""
+    at = words.index("--") if words[:1] == ["lock"] and "--" in words else len(words)
+    return words[:at], words[at + 1:]
+
+
+def _interruptible(run: Callable[[], int]) -> int:
+    """Runs a command that Ctrl-C ends without a traceback."""
+    try:
+        return run()
+    except KeyboardInterrupt:
+        return 130
+
+
+def _ask(given: argparse.Namespace) -> int:
+    """Carries out `ask` or `status`."""
     try:
         with NodeClient(given.socket) as client:
             return run_ask(client, given.line) if given.command == "ask" else run_status(client, given.json)

@@ -85,6 +85,11 @@ class Answers:
                 print(f"zinduroi: {session.record} {session.word} is not left: {reply}", file=sys.stderr, flush=True)
                 session.tied = None
 
+    def release(self, caller: Caller) -> None:
+        """The node ends the connection: what sessions it still has belong to nobody, and are not left."""
+        for session in self.book.tied_to(caller):
+            session.tied = None
+
     async def status(self) -> Dict[str, object]:
         """The state of the site and of its sessions, for JSON."""
         records: Dict[str, object] = {}

@@ -3,6 +3,7 @@ from __future__ import annotations
 
 import asyncio
 import socket
+import traceback
 from typing import Callable, List, Optional, Union
 
 from .answers import Answers, Caller
@@ -41,6 +42,8 @@ class Connection:
                 self._busy = True
                 await self._answers.end(self.caller)
         finally:
+            # Where the node ends the connection, its sessions stay, and belong to nobody.
+            self._answers.release(self.caller)
             self._hang_ups.forget(self._socket)
             self._socket.close()
 
@@ -71,9 +74,16 @@ class Connection:
         for line in lines:
             if not self._stops():
                 self._busy = True
-                reply = f"refused {line}" if isinstance(line, str) else await self._answers.answer(self.caller, line)
-                await self._send(reply)
+                await self._send(f"refused {line}" if isinstance(line, str) else await self._answer(line))
                 self._busy = False
+
+    async def _answer(self, line: bytes) -> str:
+        """The reply to a line. A fault of the node's own ends neither the connection nor a session."""
+        try:
+            return await self._answers.answer(self.caller, line)
+        except Exception:
+            traceback.print_exc()
+            return "refused NodeFault"
 
     async def _receive(self) -> bytes:
         try:
