@@ -254,7 +254,7 @@ class Caller:
     def lock_words(self, socket):
         chance = self.world.chance
         record, reads = chance.choice("ab"), chance.random() < 0.7
-        return [sys.executable, "-m", "zinduroi", "lock", "--socket", socket, "--timeout", f"{chance.random() * 6:.1f}", *["--read"] * reads,
+        return [sys.executable, "-m", "zinduroi", "lock", "--socket", socket, "--timeout", f"{2 + chance.random() * 6:.1f}", *["--read"] * reads,
                 record, "--", "bash", "-c", INSIDE, "bash", str(self.notes), record, "reader" if reads else "writer"]
 
     def is_alive(self):
@@ -440,6 +440,9 @@ class World:
         for node in self.nodes:
             began, status = node.began, node.status()
             if status is None:
+                if node.process.poll() not in (None, -9):
+                    self.wrong.append(f"site {node.site}: the node ended by itself, with status {node.process.returncode}")
+                    node.start()
                 continue
             here = set()
             for it in status["callers"]:

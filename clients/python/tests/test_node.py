@@ -463,8 +463,7 @@ class Restarts(NodeCase):
     def test_faults_of_the_start(self):
         for change, status, fault in ((("0.db", "none.db"), 1, "zinduroi: store refused NoStore\n"),
                                       (("layout.toml", "none.toml"), 1, "zinduroi: layout refused NotRead\n"),
-                                      (("site = 0", "site = 99"), 78, "zinduroi: {config}: site: is not from 0 to 15: 99\n"),
-                                      (("deltas", "none"), 1, "zinduroi: [Errno 2] No such file or directory: '{folder}/none'\n")):
+                                      (("site = 0", "site = 99"), 78, "zinduroi: {config}: site: is not from 0 to 15: 99\n")):
             with self.open():
                 pass
             config = self.write_config()
@@ -472,6 +471,20 @@ class Restarts(NodeCase):
             process = self.spawn(config)
             errors = process.communicate(timeout=60)[1]
             self.assertEqual((errors, process.returncode), (fault.format(config=config, folder=self.folder), status))
+
+    def test_folder_away(self):
+        """A folder that is not there was mistyped at the first start; later it may be away."""
+        config = self.write_config()
+        (self.folder / "deltas").rmdir()
+        process = self.spawn(config, "--create")
+        errors = process.communicate(timeout=60)[1]
+        self.assertEqual((errors, process.returncode), (f"zinduroi: [Errno 2] No such file or directory: '{self.folder}/deltas'\n", 1))
+        self.process = self.spawn(config)
+        self.assertTrue(wait_for(self.answers))
+        (self.folder / "deltas").mkdir()
+        self.says(self.connect(), ("announce a w", "announced 1"), ("leave a w", "withdrawn"))
+        self.assertTrue(wait_for((self.folder / "deltas" / "0.delta").exists))
+        self.assertIn("a transport fails; it is tried again", self.end()[1])
 
 
 class Waits(NodeCase):

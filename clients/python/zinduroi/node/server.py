@@ -123,16 +123,19 @@ class Node:
         self._answers = Answers(link, self._book, records, self._more)
         self._hang_ups = HangUps()
         self._site.merged = _on_loop(self._answers.queues.wake_all)
-        self._start_exchange(self._site, records)
+        self._start_exchange(self._site, records, create)
         _allow_files(config.socket.connections + OTHER_FILES)
 
-    def _start_exchange(self, site: NodeSite, records: Iterable[str]) -> None:
+    def _start_exchange(self, site: NodeSite, records: Iterable[str], create: bool) -> None:
+        """Starts the exchange. At the first start of a site a folder that is not there was mistyped."""
         transports = [make() for make in self.config.transports]
         if transports:
             transport = transports[0] if len(transports) == 1 else Several(transports)
             self._exchange = Exchange(site, transport, self.config.interval, self.config.every, tuple(records))
             self._exchange.helps = self.config.helps
-            self._exchange.start()
+            self._exchange.start(patient=not create)
+            if self._exchange.tally().failed:
+                print("zinduroi: a transport fails; it is tried again", file=sys.stderr, flush=True)
 
     async def _accept(self, listening: socket.socket) -> None:
         loop = asyncio.get_running_loop()
