@@ -108,7 +108,7 @@ class PythonCaller:
         self.name, self.socket, self.stop = name, socket, pathlib.Path(stop)
         self.notes = os.open(notes, os.O_WRONLY | os.O_APPEND | os.O_CREAT, 0o644)
         self.chance = random.Random(seed)
-        self.client, self.token = None, None
+        self.client, self.token, self.visits = None, None, 0
 
     def note(self, text):
         os.write(self.notes, f"{time.time_ns()} {text}\n".encode())
@@ -146,7 +146,8 @@ class PythonCaller:
     def visit(self):
         record = self.chance.choice("ab")
         verb, kind = self.chance.choice([("write", "writer")] + [("read", "reader")] * 3)
-        word = self.chance.choice([self.name, self.name, "-"])
+        self.visits += 1
+        word = self.chance.choice([f"{self.name}/{self.visits}", "-"])
         if not self.enter(record, verb, kind, word, self.chance.random() * 6):
             return
         self.note(f"in {record} {kind}")
@@ -183,9 +184,13 @@ class PythonCaller:
 
     def enter_again(self, record, kind, word):
         reply = self.take_up()
-        if reply.endswith(" waiting"):
-            self.client.ask(f"leave {record} {word}")
-        elif reply != "refused NoToken" and not reply.endswith(kind):
+        while reply.endswith(" waiting"):
+            try:
+                self.client.ask(f"leave {record} {word}")
+                return False
+            except NodeGone:
+                reply = self.take_up()
+        if reply != "refused NoToken" and not reply.endswith(kind):
             self.note(f"fault resume behind wait: {reply}")
         return reply.endswith(kind)
 
@@ -211,7 +216,7 @@ class PythonCaller:
             reply = self.client.ask(f"leave {record} {word}")
         except NodeGone:
             if self.take_up() != "refused NoToken":
-                self.client.ask(f"leave {record} {word}")
+                self.leave(record, kind, word)
             return
         if reply != f"left {kind}":
             self.note(f"fault leave: {reply}")
@@ -427,13 +432,13 @@ class World:
     def is_dead(self, holder, pid):
         """Whether nobody lives who may be inside under this holder."""
         for caller in self.callers:
-            if holder == caller.word() or pid == caller.process.pid:
+            if holder.split("/")[0] == caller.word() or pid == caller.process.pid:
                 return not caller.is_alive()
         try:
             os.killpg(pid, 0)
             return False
         except ProcessLookupError:
-            return not any(caller.word() == holder for caller in self.callers)
+            return True
 
     def look(self):
         """Ends the sessions that belong to no connection and whose callers are dead, and says which should not be there."""
@@ -588,6 +593,7 @@ def storm(folder, given):
         world.wrong += [line for line in (folder / "errors").read_text().splitlines() if "is not alone" in line or "failed" in line]
     found, waits = visits(world)
     world.wrong += [f"inside together: {pair}" for pair in overlaps(found)[:5]]
+    world.wrong += [f"{world.statuses[status]} runs of lock ended with {status}" for status in world.statuses if status not in (0, 69, 75, -9)]
     verdict = judge(world)
     tell(world, found, waits, seconds, verdict)
     return not world.wrong

@@ -107,12 +107,11 @@ static int enter(const char *record, const char *verb, const char *kind, const c
         if (strncmp(reply, "timeout refused ", 16) != 0) note("fault wait: %s", reply);
         return 0;
     }
-    if (!take_up("") || strcmp(reply, "refused NoToken") == 0) return 0;
-    if (ends_with(kind)) return 1;
-    if (ends_with(" waiting"))
-        ask("leave %s %s", record, word);
-    else
-        note("fault resume behind wait: %s", reply);
+    while (take_up("") && strcmp(reply, "refused NoToken") != 0) {
+        if (ends_with(kind)) return 1;
+        if (!ends_with(" waiting")) note("fault resume behind wait: %s", reply);
+        if (ask("leave %s %s", record, word)) return 0;
+    }
     return 0;
 }
 
@@ -130,8 +129,9 @@ static void leave(const char *record, const char *kind, const char *word) {
     if (ask("leave %s %s", record, word)) {
         if (strcmp(reply, left) != 0) note("fault leave: %s", reply);
         if (random_below(4) == 0 && take_up("") && strcmp(reply, "refused NoToken") != 0) note("fault left, and still there: %s", reply);
-    } else if (take_up("") && strcmp(reply, "refused NoToken") != 0) {
-        ask("leave %s %s", record, word);
+    } else {
+        while (take_up("") && strcmp(reply, "refused NoToken") != 0)
+            if (ask("leave %s %s", record, word)) return;
     }
 }
 
@@ -160,10 +160,12 @@ int main(int count, char **words) {
     name = words[1], path = words[2], stop = words[4];
     notes = open(words[3], O_WRONLY | O_APPEND | O_CREAT, 0644);
     srand(atoi(words[5]));
-    while (access(stop, F_OK) != 0 && connect_to_node()) {
+    for (int visits = 0; access(stop, F_OK) != 0 && connect_to_node(); visits++) {
         int writes = random_below(4) == 0;
+        char word[64] = "-";
+        if (random_below(3)) snprintf(word, sizeof word, "%s/%d", name, visits);
         token[0] = 0;
-        visit(random_below(2) ? "a" : "b", writes ? "write" : "read", writes ? "writer" : "reader", random_below(3) ? name : "-");
+        visit(random_below(2) ? "a" : "b", writes ? "write" : "read", writes ? "writer" : "reader", word);
         leave_node();
         pause_for(random_below(1200) / 1000.0);
         token[0] = 0;

@@ -5,7 +5,7 @@
 #
 # Writes into NOTES when it was inside: from the reply that admitted it to the moment before it leaves.
 trap '' PIPE
-name=$1 socket=$2 notes=$3 stop=$4 reply= token= to= from=
+word=$1 socket=$2 notes=$3 stop=$4 name= reply= token= to= from=
 
 note() { echo "${EPOCHREALTIME/./}000 $*" >>"$notes"; }
 
@@ -34,6 +34,10 @@ take_up() {
     return 1
 }
 
+leave_surely() { # record; the reply is that of a `take_up`
+    while [ "$reply" != "refused NoToken" ] && ! ask "leave $1 $name"; do take_up || return; done
+}
+
 visit() { # record, verb, kind, seconds
     ask token || return
     token=${reply#token }
@@ -49,7 +53,7 @@ visit() { # record, verb, kind, seconds
         case $reply in
             "refused NoToken") return ;;
             *" $3") ;;
-            *" waiting") ask "leave $1 $name"; return ;;
+            *" waiting") leave_surely "$1"; return ;;
             *) note "fault resume behind wait: $reply"; return ;;
         esac
     fi
@@ -66,14 +70,13 @@ visit() { # record, verb, kind, seconds
     if ask "leave $1 $name"; then
         [ "$reply" = "left $3" ] || note "fault leave: $reply"
     else
-        take_up && case $reply in
-            "refused NoToken") ;;
-            *) ask "leave $1 $name" ;;
-        esac
+        take_up && leave_surely "$1"
     fi
 }
 
+visits=0
 while [ ! -e "$stop" ] && token= && connect; do
+    visits=$((visits + 1)) name=$word/$visits
     case $((RANDOM % 8)) in
         0) visit a write writer $((1 + RANDOM % 8)) ;;
         1) visit b write writer $((1 + RANDOM % 8)) ;;

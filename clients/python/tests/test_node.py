@@ -1,4 +1,5 @@
 """A node: its lines and sessions, callers that wait, its end and its start, and the commands that use it."""
+import asyncio
 import contextlib
 import io
 import json
@@ -16,9 +17,10 @@ import unittest
 from zinduroi.command_line import main
 from zinduroi.node import NodeClient, NodeGone
 from zinduroi.node.book import Book, stored_sessions
+from zinduroi.node.desk import Desk
 from zinduroi.node.config import ConfigError, read_config
 from zinduroi.node.lines import LONGEST_LINE, BadWord, Call, Cutter, Plain, Resume, Shared, fits, parse
-from zinduroi.node.listening import SocketRefused
+from zinduroi.node.link import Interrupted
 
 from .common import PACKAGE, PROGRAM, Case, wait_for
 
@@ -185,6 +187,53 @@ class Books(Case):
     def test_listed(self):
         self.assertEqual(stored_sessions("0"), [])
         self.assertEqual(stored_sessions("2 7 reader, 9 waiting"), [(7, "reader"), (9, "waiting")])
+
+
+class StubLink:
+    """A link whose service ends at the first call, with the store as it says then; later calls are admitted."""
+
+    def __init__(self, phase):
+        self.phase = phase
+        self.lines = []
+        self.site = self
+
+    def tell_listeners(self):
+        pass
+
+    async def ask(self, line):
+        self.lines.append(line.rsplit(" ", 1)[0])
+        if len(self.lines) == 1:
+            raise Interrupted
+        return {"announce": "announced 1", "leave": "left reader"}.get(line.split(" ")[0], "admitted")
+
+    async def ask_until(self, line):
+        if line.startswith("leave"):
+            self.lines.append("withdraw")
+            return "withdrawn"
+        return "0" if self.phase is None else f"2 1 reader, {self.number} {self.phase}"
+
+
+class Interruptions(Case):
+    """A call during which the service ended is made again, unless the store shows that it was carried out."""
+
+    def test_settled(self):
+        for verb, before, found, reply, again in (
+                ("read", None, None, "admitted", ["read a"]), ("read", None, "reader", "admitted", []),
+                ("announce", None, None, "announced 1", ["announce a"]), ("announce", None, "waiting", "announced 1", ["withdraw", "announce a"]),
+                ("write", "waiting", "waiting", "admitted", ["write a"]), ("write", "waiting", "writer", "admitted", []),
+                ("leave", "reader", None, "left reader", []), ("leave", "writer", None, "left writer", []),
+                ("leave", "waiting", None, "withdrawn", []), ("leave", None, None, "refused NotHere", []),
+                ("leave", "reader", "reader", "left reader", ["leave a"])):
+            book, link = Book(self.folder / f"{verb}{before}{found}"), StubLink(found)
+            session = book.begin("a", "x", "t", self, 7)
+            session.phase, link.number = before, session.number
+            desk = Desk(link, book, lambda record: None)
+            with self.subTest(verb=verb, before=before, found=found):
+                self.assertEqual(asyncio.run(desk.ask(session, verb)), reply)
+                self.assertEqual(link.lines, [f"{verb} a", *again])
+                self.assertEqual(session.phase, {"admitted": "writer" if verb == "write" else "reader", "announced 1": "waiting"}.get(reply))
+                self.assertEqual(book.is_here(session), verb != "leave")
+            book.close()
 
 
 class NodeCase(Case):

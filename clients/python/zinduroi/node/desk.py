@@ -52,7 +52,7 @@ class Desk:
             # Its number is lost. A writer that never asked for its seats is withdrawn, and announced again.
             await self.link.ask_until(f"leave {session.record} {session.number}")
             return None
-        return "admitted" if phase == {"read": "reader", "write": "writer"}.get(verb) else None
+        return "admitted" if (verb, phase) in (("read", "reader"), ("write", "writer")) else None
 
     def _note(self, session: Session, verb: str, reply: str) -> None:
         """Writes down what a reply says."""
