@@ -366,7 +366,7 @@ class World:
 
     def disturb(self):
         end = time.monotonic() + self.given.seconds
-        acts = {"cut": 3, "kill node": 2, "kill service": 1, "kill caller": 6, "pause caller": 5, "kill lock": 4}
+        acts = {"cut": 3, "kill node": 2, "kill service": 2, "kill caller": 6, "pause caller": 5, "kill lock": 4}
         looked = 0.0
         while time.monotonic() < end:
             what = self.chance.choices(list(acts), list(acts.values()))[0]

@@ -3,7 +3,6 @@ from __future__ import annotations
 
 import json
 import sqlite3
-import sys
 import time
 from typing import Awaitable, Callable, Dict, Optional, Set, Tuple, Union
 
@@ -12,6 +11,7 @@ from .desk import Desk
 from .lines import BadWord, Call, Plain, Resume, parse, resumed_text
 from .link import Interrupted, Link
 from .waiting import Queues, Waiter
+from .report import report
 
 
 class Caller:
@@ -74,7 +74,7 @@ class Answers:
                 return "refused NoRecord"
             return await (self._calls[asked.verb] if asked.wait is None else self._wait)(caller, asked)
         except (sqlite3.Error, NumbersUsedUp) as fault:
-            print(f"zinduroi: the file of sessions: {fault}", file=sys.stderr, flush=True)
+            report(f"the file of sessions: {fault}")
             return "refused BookFault"
 
     async def end(self, caller: Caller) -> None:
@@ -82,7 +82,7 @@ class Answers:
         for session in self.book.tied_to(caller):
             reply = await self.desk.ask(session, "leave")
             if self.book.is_here(session):
-                print(f"zinduroi: {session.record} {session.word} is not left: {reply}", file=sys.stderr, flush=True)
+                report(f"{session.record} {session.word} is not left: {reply}")
                 session.tied = None
 
     def release(self, caller: Caller) -> None:

@@ -16,6 +16,8 @@ from ..transports import Command, Folder, Mqtt, Transport
 
 # The most bytes of a Unix socket's path on Linux, without the zero byte behind it.
 LONGEST_PATH = 107
+# The most bytes that the name has under which the socket is made beside its path.
+FIRST_NAME = 9
 
 
 class ConfigError(ZinduroiError):
@@ -173,8 +175,9 @@ def _config(top: Table) -> Config:
 
 def _socket(table: Table) -> SocketConfig:
     path = table.path("path")
-    if len(os.fsencode(os.path.abspath(path))) > LONGEST_PATH:
-        raise table.fault("path", f"has more than {LONGEST_PATH} bytes: {os.path.abspath(path)}")
+    whole = os.path.abspath(path)
+    if max(len(os.fsencode(whole)), len(os.fsencode(os.path.dirname(whole))) + FIRST_NAME) > LONGEST_PATH:
+        raise table.fault("path", f"has more than {LONGEST_PATH} bytes, or its folder more than {LONGEST_PATH - FIRST_NAME}: {whole}")
     mode = table.text("mode", "600", r"[0-7]{3,4}", "three octal digits")
     made = SocketConfig(path, int(mode, 8), table.text("group", None), table.number("connections", 1, 65536, 512))
     table.done()

@@ -9,6 +9,7 @@ from typing import Callable, List, Optional, Union
 from .answers import Answers, Caller
 from .lines import OWN_BYTES, Cutter, Shared
 from .listening import HangUps, is_hung_up, peer_pid
+from .report import report
 
 # How many bytes are read at once. No more are read before the lines in them are answered.
 CHUNK = 65_536
@@ -74,7 +75,10 @@ class Connection:
         for line in lines:
             if not self._stops():
                 self._busy = True
-                await self._send(f"refused {line}" if isinstance(line, str) else await self._answer(line))
+                reply = f"refused {line}" if isinstance(line, str) else await self._answer(line)
+                # A wait that the stop of the node cut short is not over: its caller goes on at the next node.
+                if not (self._stops() and reply.startswith("timeout ")):
+                    await self._send(reply)
                 self._busy = False
 
     async def _answer(self, line: bytes) -> str:
@@ -82,7 +86,7 @@ class Connection:
         try:
             return await self._answers.answer(self.caller, line)
         except Exception:
-            traceback.print_exc()
+            report(traceback.format_exc())
             return "refused NodeFault"
 
     async def _receive(self) -> bytes:

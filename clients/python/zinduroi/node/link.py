@@ -2,12 +2,12 @@
 from __future__ import annotations
 
 import asyncio
-import sys
 from typing import Callable, Optional, Sequence, Union
 
 from ..errors import ZinduroiError
 from ..service import Call
 from ..site import Path, Site
+from .report import report
 
 # How many seconds a start waits for a store that another process still has: that of a node that was killed.
 STORE_WAIT = 10.0
@@ -83,10 +83,10 @@ class Link:
             while True:
                 try:
                     if await asyncio.to_thread(self.site.reopen):
-                        print(f"zinduroi: {why}; started anew", file=sys.stderr, flush=True)
+                        report(f"{why}; started anew")
                     return
                 except ZinduroiError as failure:
-                    print(f"zinduroi: the service does not start: {failure}", file=sys.stderr, flush=True)
+                    report(f"the service does not start: {failure}")
                 await asyncio.sleep(pause)
                 pause = min(pause * 2, LONGEST_PAUSE)
 

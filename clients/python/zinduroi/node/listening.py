@@ -50,7 +50,7 @@ class Listener:
 
     def listen(self) -> socket.socket:
         """Puts the socket in its place, with its mode and group, and listens."""
-        part = self.path.with_name(f".{self.path.name[:8]}.{os.getpid()}")
+        part = self.path.with_name(f".{os.getpid()}")
         made = socket.socket(socket.AF_UNIX)
         try:
             part.unlink(missing_ok=True)

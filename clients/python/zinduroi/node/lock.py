@@ -6,11 +6,11 @@ import os
 import select
 import signal
 import subprocess
-import sys
 import time
 from typing import Any, Callable, Dict, List, Optional, Sequence, Tuple
 
 from .client import NodeClient, NodeGone
+from .report import report
 
 # Exit statuses, as in sysexits.h: refused for another reason than time; no node answers; the time is over; the command can't be run.
 REFUSED, NO_NODE, TIME_OVER = 64, 69, 75
@@ -160,7 +160,7 @@ class Lock:
             return subprocess.Popen(command, pass_fds=(self.client.fileno(), held), env={**os.environ, "ZINDUROI_FENCE": fence},
                                     preexec_fn=take_signals), 0
         except OSError as error:
-            print(f"zinduroi: {command[0]}: {error.strerror}", file=sys.stderr)
+            report(f"{command[0]}: {error.strerror}")
             return None, NOT_FOUND if isinstance(error, FileNotFoundError) else NOT_RUN
 
     def _watch(self, process: "subprocess.Popen[bytes]") -> bool:
@@ -196,7 +196,7 @@ class Lock:
 
     def _say_lost(self, phase: Optional[str]) -> None:
         if phase is None:
-            print(f"zinduroi: the session of {self.record} is gone: the command is not alone any more", file=sys.stderr, flush=True)
+            report(f"the session of {self.record} is gone: the command is not alone any more")
 
     # Leaving
 
@@ -219,8 +219,7 @@ class Lock:
                 except NodeGone:
                     self._return(end, keep=False)
         except NodeGone:
-            print(f"zinduroi: no node answers, and the session of {self.record} is still in the store: see zinduroi status",
-                  file=sys.stderr)
+            report(f"no node answers, and the session of {self.record} is still in the store: see zinduroi status")
 
     def _must_wait(self) -> bool:
         """Whether the session doesn't hang on the connection that the command's children hold."""
@@ -251,10 +250,10 @@ def run_lock(path: Optional[str], record: str, reads: bool, timeout: Optional[fl
     try:
         return lock.run(command, lock.enter())
     except Refused as refused:
-        print(f"zinduroi: {refused}", file=sys.stderr)
+        report(str(refused))
         return refused.status
     except NodeGone as gone:
-        print(f"zinduroi: {gone}", file=sys.stderr)
+        report(str(gone))
         return NO_NODE
     finally:
         lock.close()

@@ -6,7 +6,6 @@ import contextlib
 import resource
 import signal
 import socket
-import sys
 from typing import Callable, Dict, Iterable, List, Optional, Set
 
 from ..exchange import Exchange
@@ -20,6 +19,7 @@ from .connection import Connection
 from .lines import Shared
 from .link import Link, NodeSite
 from .listening import HangUps, Listener
+from .report import report
 
 # How many seconds a stop waits for lines in work.
 LAST_ANSWERS = 5.0
@@ -95,7 +95,7 @@ class Node:
             await self._open(create)
             listening = self._listener.listen()
             accepting = asyncio.create_task(self._accept(listening))
-            print(f"zinduroi: site {self.config.site} at {self._listener.path}", file=sys.stderr, flush=True)
+            report(f"site {self.config.site} at {self._listener.path}")
             await self._stopping.wait()
         finally:
             if accepting is not None:
@@ -135,7 +135,7 @@ class Node:
             self._exchange.helps = self.config.helps
             self._exchange.start(patient=not create)
             if self._exchange.tally().failed:
-                print("zinduroi: a transport fails; it is tried again", file=sys.stderr, flush=True)
+                report("a transport fails; it is tried again")
 
     async def _accept(self, listening: socket.socket) -> None:
         loop = asyncio.get_running_loop()
@@ -143,7 +143,7 @@ class Node:
             try:
                 accepted, _ = await loop.sock_accept(listening)
             except OSError as error:
-                print(f"zinduroi: accept: {error}", file=sys.stderr, flush=True)
+                report(f"accept: {error}")
                 await asyncio.sleep(0.1)
                 continue
             accepted.setblocking(False)
@@ -162,7 +162,7 @@ class Node:
     def _ended(self, connection: Connection, task: "asyncio.Task[None]") -> None:
         self._connections.discard(connection)
         if not task.cancelled() and task.exception() is not None:
-            print(f"zinduroi: a connection failed: {task.exception()!r}", file=sys.stderr, flush=True)
+            report(f"a connection failed: {task.exception()!r}")
 
     async def _close(self) -> None:
         """Answers the lines in work, and closes all in the order opposite to the start."""
