@@ -314,6 +314,14 @@ class NodeCase(Case):
             found += data
         return found.decode()
 
+    def serves(self):
+        """Whether a connection is served."""
+        try:
+            with NodeClient(self.socket) as client:
+                return client.ask("show a").startswith("rights")
+        except NodeGone:
+            return False
+
     def queue(self, record):
         return json.loads(self.connect().ask("status"))["records"][record]["queue"]
 
@@ -675,13 +683,6 @@ class Crowds(NodeCase):
         first.close()
         self.assertTrue(wait_for(self.serves))
 
-    def serves(self):
-        try:
-            with NodeClient(self.socket) as client:
-                return client.ask("show a").startswith("rights")
-        except NodeGone:
-            return False
-
 
 class Commands(NodeCase):
     """`zinduroi lock`, `ask`, `status` and `watch`."""
@@ -810,6 +811,13 @@ class Commands(NodeCase):
         process.communicate(timeout=60)
         self.assertEqual(process.returncode, 69)
         self.says(self.connect(), ("sessions a", "0"))
+
+    def test_no_room(self):
+        self.start(socket="connections = 1")
+        self.assertTrue(wait_for(self.serves))
+        holder = self.connect()
+        self.says(holder, ("show a", "rights 3 inside 0 unfinished 0"))
+        self.assertEqual(self.ran("a", "--", "true"), (69, "", "zinduroi: refused TooManyConnections\n"))
 
     def test_signals(self):
         self.start()

@@ -69,9 +69,9 @@ class Lock:
         while True:
             try:
                 if not self.token:
-                    self.token = self._ask("token").split(" ")[1]
+                    self.token = self._word("token")
                 inside = inside or self._wait()
-                return self._ask(f"fence {self.record} -").split(" ")[1]
+                return self._word(f"fence {self.record} -")
             except NodeGone:
                 inside = self._return(self.end, keep=False) in ("reader", "writer")
 
@@ -81,6 +81,13 @@ class Lock:
         if reply != "admitted":
             raise Refused(TIME_OVER if reply.startswith("timeout ") else REFUSED, reply)
         return True
+
+    def _word(self, line: str) -> str:
+        """The word that a reply has behind the line's verb."""
+        reply = self._ask(line)
+        if reply.startswith("refused"):
+            raise Refused(NO_NODE if reply == "refused TooManyConnections" else REFUSED, reply)
+        return reply.split(" ")[1]
 
     def _ask(self, line: str) -> str:
         assert self.client is not None
@@ -112,17 +119,19 @@ class Lock:
         """Connects anew once, and takes up the session. A session whose command runs is kept: it doesn't hold this connection."""
         client = NodeClient(self.path)
         try:
-            words = client.ask(f"resume {self.token}" + (" keep" if keep else "")).split(" ")
+            reply = client.ask(f"resume {self.token}" + (" keep" if keep else ""))
+            if reply != "refused NoToken" and not reply.startswith("resumed "):
+                raise NodeGone(f"the node at {self.path} answers {reply}")
         except NodeGone:
             client.close()
             raise
         self.close()
         self.client = client
-        if words[0] != "resumed":
+        self.kept = keep and reply.startswith("resumed ")
+        if reply == "refused NoToken":
             self.token = ""
             return None
-        self.kept = keep
-        return words[-1]
+        return reply.split(" ")[-1]
 
     # The command
 
