@@ -314,13 +314,19 @@ class NodeCase(Case):
             found += data
         return found.decode()
 
-    def serves(self):
-        """Whether a connection is served."""
-        try:
-            with NodeClient(self.socket) as client:
-                return client.ask("show a").startswith("rights")
-        except NodeGone:
-            return False
+    def find_room(self):
+        """A connection that is served, once there is room for it."""
+        found = []
+
+        def tries():
+            client = self.connect()
+            try:
+                found.append(client if client.ask("show a").startswith("rights") else None)
+            except NodeGone:
+                return False
+            return found[-1] is not None
+        self.assertTrue(wait_for(tries))
+        return found[-1]
 
     def queue(self, record):
         return json.loads(self.connect().ask("status"))["records"][record]["queue"]
@@ -673,15 +679,11 @@ class Crowds(NodeCase):
 
     def test_too_many(self):
         self.start(socket="connections = 2")
-        self.assertTrue(wait_for(lambda: self.connect().ask("show a").startswith("rights")))
-        for client in self.clients:
-            client.close()
-        first, second = self.connect(), self.connect()
-        self.assertTrue(wait_for(lambda: first.ask("show a").startswith("rights")))
-        self.assertTrue(wait_for(lambda: second.ask("show a").startswith("rights")))
+        first, second = self.find_room(), self.find_room()
+        self.says(second, ("read a x", "admitted"))
         self.assertEqual(self.connect().socket.recv(100), b"refused TooManyConnections\n")
         first.close()
-        self.assertTrue(wait_for(self.serves))
+        self.says(self.find_room(), ("sessions a", "1 x reader"))
 
 
 class Commands(NodeCase):
@@ -814,9 +816,7 @@ class Commands(NodeCase):
 
     def test_no_room(self):
         self.start(socket="connections = 1")
-        self.assertTrue(wait_for(self.serves))
-        holder = self.connect()
-        self.says(holder, ("show a", "rights 3 inside 0 unfinished 0"))
+        self.find_room()
         self.assertEqual(self.ran("a", "--", "true"), (69, "", "zinduroi: refused TooManyConnections\n"))
 
     def test_signals(self):

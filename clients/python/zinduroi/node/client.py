@@ -1,6 +1,7 @@
 """A connection to a node, for programs in Python."""
 from __future__ import annotations
 
+import contextlib
 import os
 import socket
 from types import TracebackType
@@ -37,7 +38,9 @@ class NodeClient:
         if "\n" in line:
             raise ValueError("a line has no line feed in it")
         try:
-            self.socket.sendall(line.encode("utf-8", "surrogateescape") + b"\n")
+            # A node that turned the connection away has said so, and doesn't read the line.
+            with contextlib.suppress(BrokenPipeError, ConnectionResetError):
+                self.socket.sendall(line.encode("utf-8", "surrogateescape") + b"\n")
             parts = [self._read]
             while b"\n" not in parts[-1]:
                 parts.append(self.socket.recv(65536))

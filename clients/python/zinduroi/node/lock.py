@@ -73,6 +73,8 @@ class Lock:
                 inside = inside or self._wait()
                 return self._word(f"fence {self.record} -")
             except NodeGone:
+                if not self.token:
+                    raise
                 inside = self._return(self.end, keep=False) in ("reader", "writer")
 
     def _wait(self) -> bool:
