@@ -49,7 +49,7 @@ JUDGED = 16_777_216
 
 # Wrong rules for the node
 
-async def restart_leaves(recall, answers):
+async def restart_leaves(answers):
     """What a node with this wrong rule does behind its start."""
     for session in answers.book.sessions():
         await answers.desk.ask(session, "leave")
@@ -74,7 +74,7 @@ def plant(name):
 
     async def open_and_leave(self, create):
         await opens(self, create)
-        await restart_leaves(self, self._answers)
+        await restart_leaves(self._answers)
 
     async def open_and_look(self, create):
         await opens(self, create)
@@ -259,8 +259,8 @@ class Caller:
     def lock_words(self, socket):
         chance = self.world.chance
         record, reads = chance.choice("ab"), chance.random() < 0.7
-        return [sys.executable, "-m", "zinduroi", "lock", "--socket", socket, "--timeout", f"{2 + chance.random() * 6:.1f}", *["--read"] * reads,
-                record, "--", "bash", "-c", INSIDE, "bash", str(self.notes), record, "reader" if reads else "writer"]
+        return [sys.executable, "-m", "zinduroi", "lock", "--socket", socket, "--timeout", f"{2 + chance.random() * 6:.1f}",
+                *["--read"] * reads, record, "--", "bash", "-c", INSIDE, "bash", str(self.notes), record, "reader" if reads else "writer"]
 
     def is_alive(self):
         """Whether some process of the caller is there."""
@@ -304,7 +304,8 @@ class Machine:
         self.link.symlink_to("deltas")
         self.config = world.folder / f"{site}.toml"
         self.config.write_text(
-            f'site = {site}\nstore = "{site}.db"\nlayout = "layout.toml"\ngroup = "storm"\nlog = "{site}.log"\nprogram = "{world.given.program}"\n'
+            f'site = {site}\nstore = "{site}.db"\nlayout = "layout.toml"\ngroup = "storm"\nlog = "{site}.log"\n'
+            f'program = "{world.given.program}"\n'
             f'[socket]\npath = "{site}.sock"\n[exchange]\ninterval = 0.1\n[[transport]]\nkind = "folder"\npath = "link_{site}"\n')
         self.process = None
         self.began = 0.0
@@ -352,7 +353,8 @@ class World:
         self.done = collections.Counter()
         self.statuses = collections.Counter()
         text = f"sites = {SITES}\n" + "".join(
-            f'[[record]]\nname = "{name}"\nseats = {seats}\nhome = {home}\nproblem = {problem}\n' for name, (seats, home, problem) in RECORDS.items())
+            f'[[record]]\nname = "{name}"\nseats = {seats}\nhome = {home}\nproblem = {problem}\n'
+            for name, (seats, home, problem) in RECORDS.items())
         (folder / "layout.toml").write_text(text, encoding="utf-8")
         (folder / "deltas").mkdir()
         subprocess.run(["cc", "-O1", "-o", folder / "node_caller", TOP / "checks/node_caller.c"], check=True)
@@ -565,7 +567,8 @@ def judge(world):
     logs = b"".join((world.folder / f"{site}.log").read_bytes() for site in range(SITES))
     if len(logs) > JUDGED:
         return f"not asked: the logs have {len(logs)} bytes"
-    ran = subprocess.run([world.given.program, "judge", "--layout", world.folder / "layout.toml"], input=logs, capture_output=True, check=False)
+    ran = subprocess.run([world.given.program, "judge", "--layout", world.folder / "layout.toml"], input=logs, capture_output=True,
+                         check=False)
     verdict = ran.stdout.decode().splitlines()[-1:] or [f"status {ran.returncode}"]
     if verdict != ["consistent"]:
         world.wrong.append(f"judge: {verdict[0]}")
@@ -605,8 +608,8 @@ def tell(world, found, waits, seconds, verdict):
     print("admitted:", ", ".join(f"{count} {phase}s in {kind}" for (kind, phase), count in sorted(by_kind.items())))
     print("lock ended with:", dict(sorted(world.statuses.items(), key=str)))
     if waits:
-        print(f"{len(waits) / seconds:.1f} admissions a second by connections; waited {waits[len(waits) // 2] * 1000:.1f} ms in the middle, "
-              f"{waits[int(len(waits) * 0.99)]:.3f} s at the 99th percentile")
+        print(f"{len(waits) / seconds:.1f} admissions a second by connections; "
+              f"waited {waits[len(waits) // 2] * 1000:.1f} ms in the middle, {waits[int(len(waits) * 0.99)]:.3f} s at the 99th percentile")
     print(f"logs: {verdict}")
     for fault in world.wrong[:20]:
         print("FAILED", fault)
