@@ -604,7 +604,7 @@ def storm(folder, given):
 
 def tell(world, found, waits, seconds, verdict):
     print(f"seed {world.given.seed}, {seconds:.0f} s:", ", ".join(f"{what} {count}" for what, count in sorted(world.done.items())))
-    by_kind = collections.Counter((visit[4].rstrip("0123456789.").rstrip("0123456789."), visit[3]) for visit in found)
+    by_kind = collections.Counter((visit[4].rstrip("0123456789."), visit[3]) for visit in found)
     print("admitted:", ", ".join(f"{count} {phase}s in {kind}" for (kind, phase), count in sorted(by_kind.items())))
     print("lock ended with:", dict(sorted(world.statuses.items(), key=str)))
     if waits:
