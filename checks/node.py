@@ -223,7 +223,7 @@ class PythonCaller:
 
 
 # A command that `lock` runs: writes down that it is inside, and when it leaves.
-INSIDE = 'echo ${EPOCHREALTIME/./}000 in $2 $3 >>"$1"; sleep $((RANDOM % 2)).$((RANDOM % 5)); echo ${EPOCHREALTIME/./}000 out $2 >>"$1"'
+INSIDE = 'echo ${EPOCHREALTIME/./}000 in $2 $3 >>"$1"; sleep $((RANDOM % 2)).$((RANDOM % 10)); echo ${EPOCHREALTIME/./}000 out $2 >>"$1"'
 
 
 # From outside
@@ -362,7 +362,6 @@ class World:
         self.nodes += [Machine(self, site) for site in range(SITES)]
         self.undo = []
         self.callers = [Caller(self, site, kind, number) for site in range(SITES) for number, kind in enumerate(kinds())]
-        self.early = collections.defaultdict(set)
 
     # Disturbances
 
@@ -428,6 +427,9 @@ class World:
             caller.process.kill()
             caller.process.wait()
             self.done["kill lock inside"] += bool(inside)
+        if inside:
+            time.sleep(0.3)
+            self.look()
 
     # What an operator does
 
@@ -445,22 +447,24 @@ class World:
     def look(self):
         """Ends the sessions that belong to no connection and whose callers are dead, and says which should not be there."""
         for node in self.nodes:
+            locks = [it for it in self.callers if it.site == node.site and it.kind == "lock" and it.is_inside() and it.is_alive()]
             began, status = node.began, node.status()
             if status is None:
                 if node.process.poll() not in (None, -9):
                     self.wrong.append(f"site {node.site}: the node ended by itself, with status {node.process.returncode}")
                     node.start()
                 continue
-            here = set()
+            here = {it["pid"] for it in status["callers"]}
+            self.wrong += [f"{it.name}: its command lives, and its session is left" for it in locks
+                           if it.process.pid not in here and it.is_inside() and it.is_alive()]
             for it in status["callers"]:
-                if not it["connected"] and it["phase"] is not None and self.is_dead(it["holder"], it["pid"]):
-                    if it["known"] and not it["kept"] and it["since"] > began + 0.5 and began == node.began:
-                        here.add((it["record"], it["holder"], it["since"]))
-                        if (it["record"], it["holder"], it["since"]) in self.early[node.site]:
-                            self.wrong.append(f"site {node.site}: not left though its connection ended: {it}")
+                if it["connected"] or it["phase"] is None:
+                    continue
+                if it["known"] and not it["kept"] and it["since"] > began:
+                    self.wrong.append(f"site {node.site}: not left though its connection ended: {it}")
+                if self.is_dead(it["holder"], it["pid"]):
                     reply = node.ask(f"evict {it['record']} {it['holder']}")
                     self.done["evicted"] += reply is not None and reply.startswith(("left", "withdrawn"))
-            self.early[node.site] = here
 
     # The end
 
