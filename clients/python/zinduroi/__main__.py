@@ -1,6 +1,7 @@
-"""`python -m zinduroi`"""
+"""`python -m zinduroi`, and the command `zinduroi`"""
 import sys
 
-from .watch import main
+from .command_line import main
 
-sys.exit(main())
+if __name__ == "__main__":
+    sys.exit(main())

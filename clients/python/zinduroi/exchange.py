@@ -77,11 +77,12 @@ class Exchange:
         self._guard = threading.Lock()
         self._thread: Optional[threading.Thread] = None
 
-    def start(self) -> Exchange:
+    def start(self, patient: bool = False) -> Exchange:
         """Takes the texts that have arrived, and starts the thread. Raises `OwnRowAhead` if they show that the store is older
-        than what the site once published, and `OSError` if the folder for texts is not there."""
+        than what the site once published, and `OSError` if the folder for texts is not there. With `patient` such a folder is
+        looked for again, as one that goes away later."""
         if self._thread is None:
-            self._take_all(starts=True)
+            self._take_all(starts=not patient)
             self.site.listen(self.wake)
             listen: Optional[Callable[[Callable[[], None]], None]] = getattr(self.transport, "listen", None)
             if listen is not None:

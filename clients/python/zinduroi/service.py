@@ -5,7 +5,7 @@ import queue
 import subprocess
 import tempfile
 import threading
-from typing import IO, List, Optional, Sequence, Tuple, Union
+from typing import IO, Callable, List, Optional, Sequence, Tuple, Union
 
 from .errors import LayoutRefused, LogRefused, ServiceEnded, StoreRefused, ZinduroiError
 
@@ -15,14 +15,15 @@ _NAMED = {"store refused ": StoreRefused, "layout refused ": LayoutRefused, "log
 class Call:
     """Lines on their way to the service, and their replies on the way back. No other call comes between them."""
 
-    __slots__ = ("lines", "replies", "failure", "claim", "done")
+    __slots__ = ("lines", "replies", "failure", "claim", "done", "then")
 
-    def __init__(self, *lines: bytes) -> None:
+    def __init__(self, *lines: bytes, then: Optional[Callable[["Call"], None]] = None) -> None:
         self.lines = lines
         self.replies: List[str] = []
         self.failure: Optional[ZinduroiError] = None
         self.claim = threading.Lock()
         self.done = threading.Event()
+        self.then = then
 
     @property
     def reply(self) -> Optional[str]:
@@ -66,10 +67,7 @@ class Service:
         """Waits for the replies. An exception that comes meanwhile drops the call if it has not begun; else the replies are
         waited for, so that `call.reply` says what happened, and then the exception goes on."""
         try:
-            with self._door:
-                if self._closed:
-                    raise ServiceEnded(0, "it was closed") if self._ended is None else ending(*self._ended)
-                self._calls.put(call)
+            self.submit(call)
             call.done.wait()
         except BaseException:
             if not call.claim.acquire(blocking=False):
@@ -78,6 +76,14 @@ class Service:
         if call.failure is not None:
             raise call.failure
         return call.replies
+
+    def submit(self, call: Call) -> None:
+        """Puts a call behind those that wait, and does not wait for it. Once it is done, `call.then` is called on the service's
+        thread. Raises `ServiceEnded` after `close`."""
+        with self._door:
+            if self._closed:
+                raise ServiceEnded(0, "it was closed") if self._ended is None else ending(*self._ended)
+            self._calls.put(call)
 
     def close(self) -> int:
         """Serves the calls that wait, ends the service and gives its exit status."""
@@ -100,6 +106,8 @@ class Service:
             if call.claim.acquire(blocking=False):
                 self._carry_out(call)
                 call.done.set()
+                if call.then is not None:
+                    call.then(call)
         self._end()
 
     def _carry_out(self, call: Call) -> None:

@@ -157,6 +157,11 @@ class Site:
         """The reply to a line, as docs/FORMATS.md has it. Raises the refusal if it is one."""
         return self._answers(_call_of(line))[0]
 
+    def submit(self, line: bytes, then: Callable[[Call], None]) -> None:
+        """Has a line answered, and does not wait. `then` gets the call, with `replies` or with `failure`, on another thread; it
+        must not raise. Raises `ServiceEnded` if the site was closed."""
+        self._service.submit(Call(line + b"\n", then=then))
+
     def _answers(self, call: Call) -> List[str]:
         replies = self._service.run(call)
         for reply in replies:

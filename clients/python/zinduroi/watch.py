@@ -10,10 +10,12 @@ from typing import Any, Dict, List, Optional, Sequence
 
 from .errors import ZinduroiError
 from .exchange import status_of
+from .node.client import NodeClient
 from .site import Site, read_layout
 
-NOTES = """A site's store can be used by one process at a time. So there are two ways to look:
+NOTES = """A site's store can be used by one process at a time. So there are three ways to look:
 
+  watch --socket PATH          while a node serves the site: asks the node
   watch --status FILE ..       while sites are served: each Exchange writes the state of its site into the file that it was given
                                as `status`; one table for all files
   watch --site I --store FILE  while the site is not served: opens the store, and lets nobody else use it meanwhile
@@ -89,12 +91,28 @@ def watch_store(site: Site, interval: float, once: bool) -> int:
         time.sleep(interval)
 
 
+def watch_node(path: str, interval: float, once: bool) -> int:
+    """Shows the state that a node tells."""
+    with NodeClient(path) as client:
+        while True:
+            show(table(rows_of([json.loads(client.ask("status"))], time.time())), once)
+            if once:
+                return 0
+            time.sleep(interval)
+
+
 def parser() -> argparse.ArgumentParser:
-    """The command line."""
+    """The command line of `watch` alone."""
     made = argparse.ArgumentParser(prog="python -m zinduroi", description="Looks at sites of Zinduroi.")
-    commands = made.add_subparsers(dest="command", required=True, metavar="watch")
+    add_watch(made.add_subparsers(dest="command", required=True, metavar="watch"))
+    return made
+
+
+def add_watch(commands: "argparse._SubParsersAction[argparse.ArgumentParser]") -> None:
+    """Adds the command `watch`."""
     watch = commands.add_parser("watch", help="a table that renews itself", description=__doc__, epilog=NOTES,
                                 formatter_class=argparse.RawDescriptionHelpFormatter)
+    watch.add_argument("--socket", metavar="PATH", help="the socket of a node")
     watch.add_argument("--status", nargs="+", metavar="FILE", help="files that exchanges write")
     watch.add_argument("--site", type=int, metavar="I", help="the site's number")
     watch.add_argument("--store", metavar="FILE", help="the site's store")
@@ -104,16 +122,21 @@ def parser() -> argparse.ArgumentParser:
     watch.add_argument("--program", default="seat_cli", metavar="PATH", help="the program (default: seat_cli)")
     watch.add_argument("--interval", type=float, default=1.0, metavar="SECONDS", help="how often the table is renewed (default: 1)")
     watch.add_argument("--once", action="store_true", help="print one table, and end")
-    return made
 
 
 def main(words: Optional[Sequence[str]] = None) -> int:
     """Carries out the command line, and gives the exit status."""
     made = parser()
-    given = made.parse_args(words)
-    if bool(given.status) == (given.site is not None and given.store is not None):
-        made.error("give either --status, or --site and --store")
+    return run_watch(made.parse_args(words), made)
+
+
+def run_watch(given: argparse.Namespace, made: argparse.ArgumentParser) -> int:
+    """Carries out `watch` as it was given, and gives the exit status."""
+    if [bool(given.socket), bool(given.status), given.site is not None and given.store is not None].count(True) != 1:
+        made.error("give one of --socket, --status, or --site and --store")
     try:
+        if given.socket:
+            return watch_node(given.socket, given.interval, given.once)
         if given.status:
             return watch_files(given.status, given.interval, given.once)
         with Site(given.store, given.site, given.layout, given.group, wait=given.wait, program=given.program) as site:

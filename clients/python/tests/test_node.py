@@ -1,0 +1,832 @@
+"""A node: its lines and sessions, callers that wait, its end and its start, and the commands that use it."""
+import asyncio
+import contextlib
+import io
+import json
+import os
+import pathlib
+import signal
+import socket
+import sqlite3
+import subprocess
+import sys
+import threading
+import time
+import unittest
+
+from zinduroi.command_line import main
+from zinduroi.node import NodeClient, NodeGone
+from zinduroi.node.book import Book, stored_sessions
+from zinduroi.node.desk import Desk
+from zinduroi.node.config import ConfigError, read_config
+from zinduroi.node.lines import LONGEST_LINE, BadWord, Call, Cutter, Plain, Resume, Shared, fits, parse
+from zinduroi.node.link import Interrupted
+
+from .common import PACKAGE, PROGRAM, Case, wait_for
+
+
+class Lines(unittest.TestCase):
+    """What a line asks for, and how lines are cut."""
+
+    def test_calls(self):
+        for line, asked in {
+                "read a x": Call("read", "a", "x"), "announce b-1 -": Call("announce", "b-1", None), "write a 7": Call("write", "a", "7"),
+                "leave a ?7": Call("leave", "a", "?7"), "fence a -5": Call("fence", "a", "-5"), "keep a x": Call("keep", "a", "x"),
+                "evict a -5": Call("evict", "a", "-5"), "wait 5 read a -": Call("read", "a", None, 5.0),
+                "wait 0.25 write a backup@host3": Call("write", "a", "backup@host3", 0.25), "token": Plain("token"),
+                "status": Plain("status"), "resume " + "0a" * 16: Resume("0a" * 16, False),
+                "resume " + "0a" * 16 + " keep": Resume("0a" * 16, True)}.items():
+            self.assertEqual(parse(line.encode()), asked, line)
+        for line in ("", "send", "take x", "give a 1 2", "show a", "sessions a", "Read a x", " read a x", "reading a x"):
+            self.assertIsNone(parse(line.encode()), line)
+
+    def test_wrong_words(self):
+        for line, place in {
+                "read": 2, "read A x": 2, "read a": 3, "read a ": 3, "read a x y": 4, "read a x ": 4, "read  a x": 2, "read a -5": 3, "read a ?5": 3,
+                "read a x,y": 3, "read a x\t": 3, "leave a x\r": 3, "read a " + "x" * 65: 3, "wait": 2, "wait x": 2, "wait -1 read a x": 2,
+                "wait 1e3 read a x": 2, "wait 1": 3, "wait 1 leave a x": 3, "wait 1 read": 4, "wait 1 read a": 5, "wait 1 read a x y": 6,
+                "resume": 2, "resume 0A": 2, "resume " + "00" * 16 + " kept": 3, "resume " + "00" * 16 + " keep x": 4, "token x": 2,
+                "status ": 2}.items():
+            self.assertEqual(parse(line.encode()), BadWord(place), line)
+        self.assertEqual(parse(b"read a \xff"), BadWord(3))
+
+    def test_words(self):
+        for word in ("x", "-", "7", "backup@host3", "é", "x" * 64, "é" * 32, "a-", "a?"):
+            self.assertTrue(fits(word), word)
+        for word in ("", "x" * 65, "é" * 33, "-x", "?x", "a b", "a,b", "a\x00", "a\u2028"):
+            self.assertFalse(fits(word), word)
+
+    def test_cutting(self):
+        shared = Shared(1000)
+        cutter = Cutter(shared)
+        self.assertEqual(cutter.feed(b"ab"), [])
+        self.assertTrue(cutter.has_part())
+        self.assertEqual(cutter.feed(b"c\n\nd\ne"), [b"abc", b"", b"d"])
+        self.assertEqual(cutter.feed(b"x" * 66_000), [])
+        self.assertEqual(shared.room, 1000 - (66_001 - 65_536))
+        self.assertEqual(cutter.feed(b"y" * 1000), [])
+        self.assertEqual(shared.room, 1000)
+        self.assertEqual(cutter.feed(b"z" * 70_000 + b"\nnext\n"), ["Memory", b"next"])
+        self.assertFalse(cutter.has_part())
+        wide = Cutter(Shared(1 << 30))
+        self.assertEqual(wide.feed(b"x" * LONGEST_LINE + b"\n"), [b"x" * LONGEST_LINE])
+        self.assertEqual(wide.feed(b"x" * LONGEST_LINE), [])
+        self.assertEqual(wide.feed(b"x"), [])
+        self.assertEqual(wide.feed(b"\n"), ["TooLong"])
+
+
+class Configs(Case):
+    """The file of a node, and what is wrong with it."""
+
+    def config(self, text):
+        path = self.folder / "node.toml"
+        path.write_text(text, encoding="utf-8")
+        return path
+
+    def test_whole(self):
+        read = read_config(self.config(
+            'site = 2\nstore = "s.db"\nlayout = "/l.toml"\ngroup = "crew"\nlog = "s.log"\nprogram = "bin/seat_cli"\n'
+            '[socket]\npath = "s.sock"\nmode = "660"\ngroup = "users"\nconnections = 9\n[exchange]\ninterval = 2\nevery = 3\nhelps = false\n'
+            '[[transport]]\nkind = "folder"\npath = "deltas"\n[[transport]]\nkind = "mqtt"\ngroup = "crew"\nhost = "h"\noptions = ["-u", "me"]\n'
+            '[[transport]]\nkind = "command"\npublish = "cat"\nmessages = "true"\ntimeout = 1.5\n'))
+        self.assertEqual((read.site, read.store, read.layout), (2, self.folder / "s.db", pathlib.Path("/l.toml")))
+        self.assertEqual((read.group, read.log, read.program), ("crew", self.folder / "s.log", str(self.folder / "bin/seat_cli")))
+        self.assertEqual((read.socket.path, read.socket.mode, read.socket.group, read.socket.connections), (self.folder / "s.sock", 0o660, "users", 9))
+        self.assertEqual((read.interval, read.every, read.helps), (2.0, 3, False))
+        self.assertEqual([type(make()).__name__ for make in read.transports], ["Folder", "Mqtt", "Command"])
+
+    def test_faults(self):
+        right = 'site = 0\nstore = "s.db"\n[socket]\npath = "s.sock"\n'
+        self.assertEqual(read_config(self.config(right)).socket.mode, 0o600)
+        for text, fault in {
+                "site = ": "is not TOML: Invalid value (at end of document)",
+                "x = 1\n" + right: "x: is not a key of this table",
+                right.replace("site = 0\n", ""): "site: is missing",
+                right.replace("0", "16"): "site: is not from 0 to 15: 16",
+                right.replace("0", "true"): "site: is not a whole number",
+                right.replace('"s.db"', "7"): "store: is not a text",
+                right.replace('"s.db"', '""'): "store: is not a text without zero bytes, not empty: ''",
+                'group = "Crew"\n' + right: "group: is not 1 to 32 lowercase letters, digits and -, the first a letter: 'Crew'",
+                'site = 0\nstore = "s.db"\n': "socket.path: is missing",
+                right + 'mode = "689"\n': "socket.mode: is not three octal digits: '689'",
+                right + "mode = 660\n": "socket.mode: is not a text",
+                right.replace("s.sock", "s" * 200): f"socket.path: has more than 107 bytes, or its folder more than 98: {self.folder / ('s' * 200)}",
+                right + "[exchange]\ninterval = 0\n": "exchange.interval: is not from 0.02 to 86400 seconds: 0",
+                right + "[exchange]\nhelp = true\n": "exchange.help: is not a key of this table",
+                "transport = 7\n" + right: "transport: is not an array of tables",
+                right + '[[transport]]\nkind = "pigeon"\n': "transport 1.kind: is none of command, folder, mqtt: 'pigeon'",
+                right + '[[transport]]\nkind = "folder"\n': "transport 1.path: is missing",
+                right + '[[transport]]\nkind = "folder"\npath = "d"\n[[transport]]\nkind = "folder"\npath = "d"\nx = 1\n':
+                    "transport 2.x: is not a key of this table"}.items():
+            path = self.config(text)
+            with self.assertRaises(ConfigError) as caught:
+                read_config(path)
+            self.assertEqual(str(caught.exception), f"{path}: {fault}", text)
+        with self.assertRaises(ConfigError) as caught:
+            read_config(self.folder / "none.toml")
+        self.assertEqual(str(caught.exception), f"{self.folder / 'none.toml'}: No such file or directory")
+
+
+class Books(Case):
+    """The book, and its file."""
+
+    def open_book(self):
+        book = Book(self.folder / "s.db.sessions")
+        self.addCleanup(book.close)
+        return book
+
+    def test_sessions(self):
+        book, connection = self.open_book(), object()
+        first = book.begin("a", "x", "t", connection, 7)
+        second = book.begin("a", None, "t", connection, 7)
+        self.assertEqual(second.number, first.number + 1)
+        self.assertEqual(second.word, f"-{second.number}")
+        self.assertEqual(book.tied_to(connection), [first, second])
+        book.keep(first)
+        self.assertEqual(book.tied_to(connection), [second])
+        book.end(second)
+        self.assertFalse(book.is_here(second))
+        self.assertEqual(book.of_token("t"), [first])
+        self.assertIsNone(book.find("b", "x"))
+        self.assertGreater(book.begin("b", "x", "u", connection, 7).number, second.number)
+
+    def test_recall(self):
+        book = self.open_book()
+        kept, left, gone = (book.begin("a", word, "t", self, 7) for word in "xyz")
+        book.keep(kept)
+        book.close()
+        again = self.open_book()
+        again.recall({"a": [(kept.number, "reader"), (left.number, "waiting"), (7, "reader")], "b": [(gone.number, "reader")]})
+        found = [(it.record, it.word, it.token, it.phase, it.tied, it.kept, it.known) for it in again.sessions()]
+        self.assertEqual(found, [("a", "?7", "", "reader", None, True, False), ("a", "x", "t", "reader", None, True, True),
+                                 ("a", "y", "t", "waiting", None, False, True), ("b", f"?{gone.number}", "", "reader", None, True, False)])
+        self.assertEqual(again.of_token(""), [])
+        self.assertGreater(again.begin("a", "z", "u", self, 7).number, gone.number)
+        again.close()
+        other = self.open_book()
+        other.recall({})
+        self.assertEqual(other.sessions(), [])
+
+    def test_numbers(self):
+        """A number is never given twice, whether the file is there or lost."""
+        book = self.open_book()
+        last = [book.begin("a", None, "t", self, 7) for _ in range(2500)][-1].number
+        book.close()
+        again = self.open_book()
+        self.assertGreater(again.begin("a", None, "t", self, 7).number, last)
+        again.close()
+        os.unlink(self.folder / "s.db.sessions")
+        time.sleep(3)
+        self.assertGreater(self.open_book().begin("a", None, "t", self, 7).number, last)
+
+    def test_not_a_book(self):
+        (self.folder / "s.db.sessions").write_bytes(b"no database, but a text that is long enough to be looked at" * 100)
+        with self.assertRaises(sqlite3.DatabaseError):
+            self.open_book()
+
+    def test_listed(self):
+        self.assertEqual(stored_sessions("0"), [])
+        self.assertEqual(stored_sessions("2 7 reader, 9 waiting"), [(7, "reader"), (9, "waiting")])
+
+
+class StubLink:
+    """A link whose service ends at the first call, with the store as it says then; later calls are admitted."""
+
+    def __init__(self, phase):
+        self.phase = phase
+        self.lines = []
+        self.site = self
+
+    def tell_listeners(self):
+        pass
+
+    async def ask(self, line):
+        self.lines.append(line.rsplit(" ", 1)[0])
+        if len(self.lines) == 1:
+            raise Interrupted
+        return {"announce": "announced 1", "leave": "left reader"}.get(line.split(" ")[0], "admitted")
+
+    async def ask_until(self, line):
+        if line.startswith("leave"):
+            self.lines.append("withdraw")
+            return "withdrawn"
+        return "0" if self.phase is None else f"2 1 reader, {self.number} {self.phase}"
+
+
+class Interruptions(Case):
+    """A call during which the service ended is made again, unless the store shows that it was carried out."""
+
+    def test_settled(self):
+        for verb, before, found, reply, again in (
+                ("read", None, None, "admitted", ["read a"]), ("read", None, "reader", "admitted", []),
+                ("announce", None, None, "announced 1", ["announce a"]), ("announce", None, "waiting", "announced 1", ["withdraw", "announce a"]),
+                ("write", "waiting", "waiting", "admitted", ["write a"]), ("write", "waiting", "writer", "admitted", []),
+                ("leave", "reader", None, "left reader", []), ("leave", "writer", None, "left writer", []),
+                ("leave", "waiting", None, "withdrawn", []), ("leave", None, None, "refused NotHere", []),
+                ("leave", "reader", "reader", "left reader", ["leave a"])):
+            book, link = Book(self.folder / f"{verb}{before}{found}"), StubLink(found)
+            session = book.begin("a", "x", "t", self, 7)
+            session.phase, link.number = before, session.number
+            desk = Desk(link, book, lambda record: None)
+            with self.subTest(verb=verb, before=before, found=found):
+                self.assertEqual(asyncio.run(desk.ask(session, verb)), reply)
+                self.assertEqual(link.lines, [f"{verb} a", *again])
+                self.assertEqual(session.phase, {"admitted": "writer" if verb == "write" else "reader", "announced 1": "waiting"}.get(reply))
+                self.assertEqual(book.is_here(session), verb != "leave")
+            book.close()
+
+
+class NodeCase(Case):
+    """A test with a node, which is a process of its own."""
+
+    def setUp(self):
+        super().setUp()
+        self.socket = self.folder / "0.sock"
+        self.process = None
+        self.clients = []
+        self.addCleanup(self.end_all)
+
+    def write_config(self, more="", socket="", site=0):
+        path = self.folder / f"{site}.toml"
+        path.write_text(f'site = {site}\nstore = "{site}.db"\nlayout = "layout.toml"\nlog = "{site}.log"\nprogram = "{PROGRAM}"\n{more}\n'
+                        f'[socket]\npath = "{site}.sock"\n{socket}\n[exchange]\ninterval = 0.05\nhelps = false\n[[transport]]\nkind = "folder"\npath = "deltas"\n')
+        (self.folder / "deltas").mkdir(exist_ok=True)
+        return path
+
+    def spawn(self, config, *words):
+        """A process of a node."""
+        return subprocess.Popen([sys.executable, "-W", "error", "-m", "zinduroi", "node", "--config", config, *words],
+                                env={**os.environ, "PYTHONPATH": str(PACKAGE)}, stderr=subprocess.PIPE, text=True)
+
+    def start(self, more="", socket=""):
+        words = [] if (self.folder / "0.db").exists() else ["--create"]
+        self.process = self.spawn(self.write_config(more, socket), *words)
+        self.assertTrue(wait_for(self.answers, 60), "the node does not start")
+
+    def answers(self):
+        try:
+            NodeClient(self.socket).close()
+        except NodeGone:
+            return False
+        return True
+
+    def end(self, how=signal.SIGTERM):
+        """Ends the node, and gives its exit status and what it printed."""
+        self.process.send_signal(how)
+        _, errors = self.process.communicate(timeout=60)
+        status, self.process = self.process.returncode, None
+        return status, errors
+
+    def end_all(self):
+        for client in self.clients:
+            client.close()
+        if self.process is not None:
+            self.assertEqual(self.end()[0], 0)
+
+    def connect(self):
+        client = NodeClient(self.socket)
+        client.socket.settimeout(60)
+        self.clients.append(client)
+        return client
+
+    def says(self, client, *pairs):
+        """A connection's lines have these replies."""
+        for line, reply in pairs:
+            self.assertEqual(client.ask(line), reply, line)
+
+    def comes(self, line, reply, seconds=20):
+        """A line comes to have this reply."""
+        client = self.connect()
+        self.assertTrue(wait_for(lambda: client.ask(line) == reply, seconds), (line, client.ask(line)))
+
+    def asks(self, line):
+        """A connection that has sent a line, and its reply by a function."""
+        client = self.connect()
+        client.socket.sendall(line.encode() + b"\n")
+        client.socket.settimeout(60)
+        return client, lambda: client.socket.recv(65536).decode().rstrip("\n")
+
+    @staticmethod
+    def rest(client):
+        """What comes until the node closes the connection."""
+        found = b""
+        while data := client.socket.recv(65536):
+            found += data
+        return found.decode()
+
+    def find_room(self):
+        """A connection that is served, once there is room for it."""
+        found = []
+
+        def tries():
+            client = self.connect()
+            try:
+                found.append(client if client.ask("show a").startswith("rights") else None)
+            except NodeGone:
+                return False
+            return found[-1] is not None
+        self.assertTrue(wait_for(tries))
+        return found[-1]
+
+    def queue(self, record):
+        return json.loads(self.connect().ask("status"))["records"][record]["queue"]
+
+
+class Sessions(NodeCase):
+    """Whose a session is, and when it is left."""
+
+    def test_lines(self):
+        self.start()
+        client = self.connect()
+        self.says(client, ("read a backup@host3", "admitted"), ("read a backup@host3", "refused AlreadyHere"),
+                  ("sessions a", "1 backup@host3 reader"), ("show a", "rights 2 inside 1 unfinished 0"), ("read c x", "refused NoRecord"),
+                  ("fence a backup@host3", "fence 17592186044416"), ("fence a x", "refused NotHere"), ("write a x", "refused NotAnnounced"),
+                  ("leave a x", "refused NotHere"), ("announce a w", "announced 1"), ("fence a w", "refused NotHere"),
+                  ("write a w", "refused MissingSeats 2 3"), ("read a y", "refused WriterAnnounced 0"),
+                  ("sessions a", "2 backup@host3 reader, w waiting"), ("leave a backup@host3", "left reader"), ("write a w", "admitted"),
+                  ("write a w", "refused AlreadyInside"), ("sessions a", "1 w writer"), ("leave a w", "left writer"), ("sessions a", "0"),
+                  ("reed", "refused BadWord 1"), ("give a 0 1", "refused ToSelf"), ("help b", "refused NoPlan"), ("take x", "refused NoMark"),
+                  ("give a 1 1", "given"), ("announce c w", "refused NoRecord"), ("wait 1 read c w", "refused NoRecord"))
+
+    def test_chosen_words(self):
+        self.start()
+        client, other = self.connect(), self.connect()
+        self.says(client, ("write a -", "refused NotAnnounced"), ("leave a -", "refused NotHere"), ("fence a -", "refused NotHere"),
+                  ("read a -", "admitted"), ("read a -", "refused AlreadyHere"), ("read b -", "refused NoSeat 0"),
+                  ("fence a -", "fence 17592186044416"))
+        self.says(other, ("leave a -", "refused NotHere"), ("read a -", "admitted"), ("leave a -", "left reader"))
+        number = client.ask("sessions a").split(" ")[1]
+        self.assertRegex(number, "^-[0-9]+$")
+        self.says(other, (f"leave a {number}", "refused NotYours"), (f"fence a {number}", "fence 17592186044416"))
+        self.says(client, ("leave a -", "left reader"), ("announce a -", "announced 1"), ("write a -", "admitted"), ("leave a -", "left writer"))
+
+    def test_end_of_a_connection(self):
+        self.start()
+        client, other = self.connect(), self.connect()
+        self.says(client, ("read a x", "admitted"), ("read a y", "admitted"), ("announce b w", "announced 1"))
+        self.says(other, ("read a z", "admitted"), ("leave a x", "refused NotYours"), ("evict a x", "refused InUse"))
+        client.close()
+        self.comes("sessions a", "1 z reader")
+        self.comes("sessions b", "0")
+        self.says(other, ("leave a z", "left reader"))
+
+    def test_shut_down(self):
+        """A connection that says no more, but is not closed, has not ended."""
+        self.start()
+        client = self.connect()
+        self.says(client, ("read a x", "admitted"))
+        client.socket.shutdown(socket.SHUT_WR)
+        time.sleep(0.3)
+        self.says(self.connect(), ("sessions a", "1 x reader"))
+        client.close()
+        self.comes("sessions a", "0")
+        idle, reply = self.asks("show b")
+        idle.socket.shutdown(socket.SHUT_WR)
+        self.assertEqual(reply(), "rights 0 inside 0 unfinished 0")
+        self.assertEqual(reply(), "")
+
+    def test_a_copy_is_held(self):
+        self.start()
+        client = self.connect()
+        self.says(client, ("read a x", "admitted"))
+        child = subprocess.Popen(["cat"], stdin=subprocess.PIPE, pass_fds=[client.fileno()])
+        client.close()
+        time.sleep(0.3)
+        self.says(self.connect(), ("sessions a", "1 x reader"))
+        child.communicate()
+        self.comes("sessions a", "0")
+
+    def test_lines_before_the_end(self):
+        """The lines that a connection sent before it ended are carried out, and its sessions left behind them."""
+        self.start()
+        client = self.connect()
+        client.socket.sendall(b"read a x\nread a y\nkeep a y\ngive a 1 1\nread a z\n")
+        client.close()
+        self.comes("show a", "rights 1 inside 1 unfinished 0")
+        self.comes("sessions a", "1 y reader")
+        client = self.connect()
+        client.socket.sendall(b"leave a x\nsend a\nleave a y")
+        client.socket.shutdown(socket.SHUT_WR)
+        self.assertEqual(self.rest(client), "refused NotHere\nrefused BadWord 2\nrefused BadWord\n")
+
+    def test_keep_and_resume(self):
+        self.start()
+        client, other = self.connect(), self.connect()
+        token = client.ask("token").split(" ")[1]
+        self.says(client, ("token", f"token {token}"), ("read a x", "admitted"), ("read a y", "admitted"), ("keep a x", f"kept {token}"),
+                  ("keep a z", "refused NotHere"), ("keep a -", "refused NotHere"))
+        self.says(other, ("keep a x", "refused NotYours"), ("resume " + "0" * 32, "refused NoToken"))
+        client.close()
+        self.comes("sessions a", "1 x reader")
+        self.says(other, ("leave a x", "refused NotYours"), (f"resume {token}", "resumed 1 a x reader"), (f"resume {token}", "resumed 1 a x reader"))
+        third = self.connect()
+        self.says(third, (f"resume {token}", "refused InUse"))
+        other.close()
+        self.comes("sessions a", "0")
+        self.says(third, (f"resume {token}", "refused NoToken"), ("read a v", "admitted"))
+        token = third.ask("keep a v").split(" ")[1]
+        self.says(third, (f"resume {token} keep", "resumed 1 a v reader"), ("leave a v", "left reader"), ("read a v", "admitted"),
+                  ("keep a v", f"kept {token}"))
+        self.says(self.connect(), ("evict a v", "left reader"), ("evict a v", "refused NotHere"))
+
+
+class Restarts(NodeCase):
+    """A node that ends, and one that is started again."""
+
+    def test_sessions_of_before(self):
+        self.start()
+        client = self.connect()
+        token = client.ask("token").split(" ")[1]
+        self.says(client, ("read a x", "admitted"), ("read a -", "admitted"), ("announce b w", "announced 1"))
+        other = self.connect()
+        self.says(other, ("read a y", "admitted"))
+        self.assertEqual(self.end(signal.SIGKILL)[0], -9)
+        with self.assertRaises(NodeGone):
+            client.ask("show a")
+        self.start()
+        number = next(it["number"] for it in json.loads(self.connect().ask("status"))["callers"] if it["holder"].startswith("-"))
+        self.says(self.connect(), ("sessions a", f"3 x reader, -{number} reader, y reader"), ("sessions b", "1 w waiting"),
+                  ("leave a x", "refused NotYours"), ("read a x", "refused AlreadyHere"))
+        again = self.connect()
+        self.says(again, (f"resume {token}", f"resumed 3 a x reader, a -{number} reader, b w waiting"), ("leave a -", "left reader"),
+                  ("token", f"token {token}"), ("leave b w", "withdrawn"))
+        again.close()
+        self.comes("sessions a", "1 y reader")
+        time.sleep(0.3)
+        self.says(self.connect(), ("sessions a", "1 y reader"), ("evict a y", "left reader"))
+
+    def test_stop(self):
+        """A stop leaves no session, but withdraws who waits, without an answer."""
+        self.start()
+        client = self.connect()
+        self.says(client, ("read a x", "admitted"))
+        _, reply = self.asks("wait 60 write a w")
+        self.comes("sessions a", "2 x reader, w waiting")
+        status, errors = self.end()
+        self.assertEqual((status, errors), (0, f"zinduroi: site 0 at {self.socket}\n"))
+        self.assertEqual(reply(), "")
+        self.assertFalse(self.socket.exists())
+        self.start()
+        self.says(self.connect(), ("sessions a", "1 x reader"))
+
+    def test_strangers(self):
+        """A session that the node doesn't know is listed, and left by an operator alone."""
+        with self.open() as site:
+            site.call("read a 7")
+        self.start()
+        client = self.connect()
+        self.says(client, ("sessions a", "1 ?7 reader"), ("leave a ?7", "refused NotYours"), ("read a 7", "admitted"),
+                  ("sessions a", "2 ?7 reader, 7 reader"), ("evict a ?7", "left reader"), ("evict a 7", "refused InUse"))
+
+    def test_lost_book(self):
+        self.start()
+        client = self.connect()
+        token = client.ask("token").split(" ")[1]
+        self.says(client, ("read a x", "admitted"))
+        self.end(signal.SIGKILL)
+        for path in self.folder.glob("0.db.sessions*"):
+            path.unlink()
+        self.start()
+        word = self.connect().ask("sessions a").split(" ")[1]
+        self.says(self.connect(), (f"resume {token}", "refused NoToken"), (f"leave a {word}", "refused NotYours"), (f"evict a {word}", "left reader"))
+
+    def test_service_ends(self):
+        """The service is started anew, and calls that it had not answered are made again, or are found to be carried out."""
+        self.start()
+        client = self.connect()
+        self.says(client, ("read a x", "admitted"))
+        os.kill(json.loads(client.ask("status"))["service"], signal.SIGKILL)
+        self.says(client, ("read a y", "admitted"), ("sessions a", "2 x reader, y reader"), ("announce b w", "announced 1"))
+        client.close()
+        self.comes("sessions a", "0")
+
+    def test_socket(self):
+        self.start(socket='mode = "640"')
+        self.assertEqual(self.socket.stat().st_mode & 0o777, 0o640)
+        second = self.spawn(self.write_config())
+        self.assertEqual(second.communicate(timeout=60)[1], f"zinduroi: socket refused InUse: {self.socket}\n")
+        self.assertEqual(second.returncode, 1)
+        self.end(signal.SIGKILL)
+        self.assertTrue(self.socket.exists())
+        self.start()
+        self.end()
+        self.socket.write_text("")
+        second = self.spawn(self.write_config())
+        self.assertEqual(second.communicate(timeout=60)[1], f"zinduroi: socket refused NotASocket: {self.socket}\n")
+        self.socket.unlink()
+        with socket.socket(socket.AF_UNIX) as other:
+            other.bind(str(self.socket))
+            other.listen()
+            second = self.spawn(self.write_config())
+            self.assertEqual(second.communicate(timeout=60)[1], f"zinduroi: socket refused InUse: {self.socket}\n")
+        for more, name in (('group = "nobody-has-this"', "NoGroup: 0.sock: nobody-has-this"),):
+            second = self.spawn(self.write_config(socket=more))
+            self.assertIn(name.split(":")[0], second.communicate(timeout=60)[1])
+
+    def test_faults_of_the_start(self):
+        for change, status, fault in ((("0.db", "none.db"), 1, "zinduroi: store refused NoStore\n"),
+                                      (("layout.toml", "none.toml"), 1, "zinduroi: layout refused NotRead\n"),
+                                      (("site = 0", "site = 99"), 78, "zinduroi: {config}: site: is not from 0 to 15: 99\n")):
+            with self.open():
+                pass
+            config = self.write_config()
+            config.write_text(config.read_text().replace(*change))
+            process = self.spawn(config)
+            errors = process.communicate(timeout=60)[1]
+            self.assertEqual((errors, process.returncode), (fault.format(config=config, folder=self.folder), status))
+
+    def test_folder_away(self):
+        """A folder that is not there was mistyped at the first start; later it may be away."""
+        config = self.write_config()
+        (self.folder / "deltas").rmdir()
+        process = self.spawn(config, "--create")
+        errors = process.communicate(timeout=60)[1]
+        self.assertEqual((errors, process.returncode), (f"zinduroi: [Errno 2] No such file or directory: '{self.folder}/deltas'\n", 1))
+        self.process = self.spawn(config)
+        self.assertTrue(wait_for(self.answers))
+        (self.folder / "deltas").mkdir()
+        self.says(self.connect(), ("announce a w", "announced 1"), ("leave a w", "withdrawn"))
+        self.assertTrue(wait_for((self.folder / "deltas" / "0.delta").exists))
+        self.assertIn("a transport fails; it is tried again", self.end()[1])
+
+
+class Waits(NodeCase):
+    """Callers that wait."""
+
+    def test_readers_and_writers_in_order(self):
+        self.start()
+        holder = self.connect()
+        self.says(holder, ("announce a h", "announced 1"), ("write a h", "admitted"))
+        waiting = []
+        for word, verb in (("r1", "read"), ("r2", "read"), ("w1", "write"), ("r3", "read"), ("w2", "write")):
+            waiting.append(self.asks(f"wait 60 {verb} a {word}"))
+            self.assertTrue(wait_for(lambda: self.queue("a")[-1:] == [word]))
+        self.assertEqual(self.queue("a"), ["r1", "r2", "w1", "r3", "w2"])
+        self.says(holder, ("leave a h", "left writer"))
+        self.assertEqual([waiting[at][1]() for at in (0, 1)], ["admitted", "admitted"])
+        self.comes("sessions a", "3 r1 reader, r2 reader, w1 waiting")
+        waiting[0][0].close()
+        waiting[1][0].close()
+        self.assertEqual(waiting[2][1](), "admitted")
+        self.says(self.connect(), ("sessions a", "1 w1 writer"))
+        waiting[2][0].close()
+        self.assertEqual(waiting[3][1](), "admitted")
+        self.comes("sessions a", "2 r3 reader, w2 waiting")
+        waiting[3][0].close()
+        self.assertEqual(waiting[4][1](), "admitted")
+
+    def test_time_over(self):
+        self.start()
+        holder = self.connect()
+        self.says(holder, ("read a h", "admitted"))
+        began = time.monotonic()
+        self.says(self.connect(), ("wait 0 write a w", "timeout refused MissingSeats 2 3"), ("wait 0.3 write a -", "timeout refused MissingSeats 2 3"),
+                  ("sessions a", "1 h reader"), ("wait 0 read b x", "timeout refused NoSeat 0"), ("wait 5 read a h", "refused AlreadyHere"))
+        self.assertGreater(time.monotonic() - began, 0.3)
+        _, first = self.asks("wait 1 write a w")
+        self.comes("sessions a", "2 h reader, w waiting")
+        _, second = self.asks("wait 0.2 read a x")
+        self.assertEqual(second(), "timeout refused Queued 1")
+        self.assertEqual(first(), "timeout refused MissingSeats 2 3")
+        self.says(self.connect(), ("sessions a", "1 h reader"), ("wait 0 read a x", "admitted"))
+
+    def test_end_of_a_connection_that_waits(self):
+        self.start()
+        holder = self.connect()
+        self.says(holder, ("read a h", "admitted"))
+        writer, _ = self.asks("wait 60 write a w")
+        self.comes("sessions a", "2 h reader, w waiting")
+        reader, _ = self.asks("wait 60 read a r")
+        self.assertTrue(wait_for(lambda: self.queue("a") == ["w", "r"]))
+        writer.close()
+        self.comes("sessions a", "2 h reader, r reader")
+        reader.close()
+        self.comes("sessions a", "1 h reader")
+        self.assertEqual(self.queue("a"), [])
+
+    def test_announced_before(self):
+        """A writer that is announced already doesn't wait for a reader that waits for it."""
+        self.start()
+        client, holder = self.connect(), self.connect()
+        self.says(holder, ("read a h", "admitted"))
+        self.says(client, ("announce a w", "announced 1"))
+        reader, read = self.asks("wait 60 read a r")
+        self.assertTrue(wait_for(lambda: self.queue("a") == ["r"]))
+        client.socket.sendall(b"wait 60 write a w\n")
+        self.assertTrue(wait_for(lambda: self.queue("a") == ["r", "w"]))
+        self.says(holder, ("leave a h", "left reader"))
+        self.assertEqual(client.socket.recv(100), b"admitted\n")
+        self.says(client, ("leave a w", "left writer"))
+        self.assertEqual(read(), "admitted")
+
+    def test_lines_behind_a_wait(self):
+        self.start()
+        holder = self.connect()
+        self.says(holder, ("announce a h", "announced 1"), ("write a h", "admitted"))
+        client, _ = self.asks("wait 60 read a x\nshow a\nleave a x\nshow a")
+        client.socket.shutdown(socket.SHUT_WR)
+        self.assertTrue(wait_for(lambda: self.queue("a") == ["x"]))
+        self.says(holder, ("leave a h", "left writer"))
+        self.assertEqual(self.rest(client), "admitted\nrights 2 inside 1 unfinished 0\nleft reader\nrights 3 inside 0 unfinished 0\n")
+
+    def test_woken_by_another_site(self):
+        """A delta wakes who waits: with a safety net of 5 seconds, it takes less."""
+        self.start()
+        other = self.open(1)
+        client = self.connect()
+        self.says(client, ("wait 0 read b x", "timeout refused NoSeat 0"))
+        _, reply = self.asks("wait 60 read b x")
+        self.assertTrue(wait_for(lambda: self.queue("b") == ["x"]))
+        time.sleep(0.2)
+        other.give("b", 0, 1)
+        began = time.monotonic()
+        text = other.send()
+        part = self.folder / "deltas" / "part"
+        part.write_text(text + "\n")
+        part.rename(self.folder / "deltas" / "1.delta")
+        self.assertEqual(reply(), "admitted")
+        self.assertLess(time.monotonic() - began, 4)
+
+
+class Crowds(NodeCase):
+    """Long lines, floods, and clients that never read: the others are served."""
+
+    def test_others_are_served(self):
+        self.start(socket="connections = 20")
+        flood, deaf, long = self.connect(), self.connect(), self.connect()
+        for client, data in ((flood, b"show a\n" * 200_000), (deaf, b"send\n" * 200_000), (long, b"x" * 5_000_000)):
+            threading.Thread(target=self.push, args=(client.socket, data), daemon=True).start()
+        time.sleep(0.5)
+        client = self.connect()
+        began = time.monotonic()
+        for _ in range(50):
+            self.says(client, ("read a x", "admitted"), ("leave a x", "left reader"))
+        self.assertLess(time.monotonic() - began, 30)
+        long.socket.settimeout(30)
+        self.push(long.socket, b"\nshow b\n")
+        found = b""
+        while found.count(b"\n") < 2 and (data := long.socket.recv(100)):
+            found += data
+        self.assertEqual(found, b"refused TooLong\nrights 0 inside 0 unfinished 0\n")
+        flood.close()
+        deaf.close()
+        self.comes("sessions a", "0")
+
+    @staticmethod
+    def push(to, data):
+        with contextlib.suppress(OSError):
+            to.sendall(data)
+
+    def test_too_many(self):
+        self.start(socket="connections = 2")
+        first, second = self.find_room(), self.find_room()
+        self.says(second, ("read a x", "admitted"))
+        self.assertEqual(self.connect().socket.recv(100), b"refused TooManyConnections\n")
+        first.close()
+        self.says(self.find_room(), ("sessions a", "1 x reader"))
+
+
+class Commands(NodeCase):
+    """`zinduroi lock`, `ask`, `status` and `watch`."""
+
+    def run_command(self, *words):
+        """The exit status and the output of a command of this process."""
+        output, errors = io.StringIO(), io.StringIO()
+        with contextlib.redirect_stdout(output), contextlib.redirect_stderr(errors):
+            try:
+                status = main([words[0], "--socket", str(self.socket), *words[1:]])
+            except SystemExit as ended:
+                status = ended.code
+        return status, output.getvalue(), errors.getvalue()
+
+    def lock(self, *words, **options):
+        """A process of `lock`."""
+        options = {"stdout": subprocess.PIPE, "stderr": subprocess.PIPE, "text": True, **options}
+        process = subprocess.Popen([sys.executable, "-W", "error", "-m", "zinduroi", "lock", "--socket", self.socket, *words],
+                                   env={**os.environ, "PYTHONPATH": str(PACKAGE)}, start_new_session=True, **options)
+        self.addCleanup(self.end_group, process)
+        return process
+
+    @staticmethod
+    def end_group(process):
+        """Ends a `lock` and its command, if a test has failed."""
+        with contextlib.suppress(ProcessLookupError):
+            os.killpg(process.pid, signal.SIGKILL)
+        if process.returncode is None:
+            process.communicate()
+
+    def ran(self, *words):
+        process = self.lock(*words)
+        output, errors = process.communicate(timeout=60)
+        return process.returncode, output, errors
+
+    def test_ask_and_status(self):
+        self.assertEqual(self.run_command("ask", "show a"), (69, "", f"zinduroi: no node answers at {self.socket}: No such file or directory\n"))
+        self.start()
+        self.assertEqual(self.run_command("ask", "read", "a", "x"), (0, "admitted\n", ""))
+        self.comes("sessions a", "0")
+        self.assertEqual(self.run_command("ask", "leave a x"), (1, "refused NotHere\n", ""))
+        self.assertEqual(self.run_command("ask", "wait 0 read b x"), (1, "timeout refused NoSeat 0\n", ""))
+        client = self.connect()
+        self.says(client, ("read a x", "admitted"), ("read a y", "admitted"))
+        client.ask("keep a y")
+        status, output, _ = self.run_command("status")
+        self.assertEqual(status, 0)
+        table = "record  site  free  taken  writers  age  sessions\na          0     1      2        0  0 s  x reader, y reader\n"
+        self.assertTrue(output.startswith(table), output)
+        self.assertIn(f"without a connection: a y reader, entered 0 s ago by process {os.getpid()}, kept", output)
+        self.assertEqual(self.run_command("watch", "--once")[1].splitlines()[:2], table.splitlines())
+        self.assertEqual(json.loads(self.run_command("status", "--json")[1])["site"], 0)
+
+    def test_lock(self):
+        self.assertEqual(self.ran("a", "--", "true")[0], 69)
+        self.start()
+        self.assertEqual(self.ran("a", "--", "sh", "-c", "echo $ZINDUROI_FENCE; exit 3"), (3, "17592186044416\n", ""))
+        self.assertEqual(self.ran("--read", "a", "--", "sh", "-c", "echo $ZINDUROI_FENCE; kill -9 $$"), (137, "17592186044417\n", ""))
+        self.assertEqual(self.ran("c", "--", "true"), (64, "", "zinduroi: refused NoRecord\n"))
+        self.assertEqual(self.ran("a", "--", "no-such-command"), (127, "", "zinduroi: no-such-command: No such file or directory\n"))
+        self.says(self.connect(), ("sessions a", "0"))
+        self.says(self.connect(), ("read a x", "admitted"))
+        self.assertEqual(self.ran("--timeout", "0.2", "a", "--", "true"), (75, "", "zinduroi: timeout refused MissingSeats 2 3\n"))
+        self.assertEqual(self.ran("--read", "--timeout", "0", "a", "--", "true"), (0, "", ""))
+        self.assertEqual(self.ran("a", "--read", "--", "echo", "--", "x"), (0, "-- x\n", ""))
+        self.assertEqual([self.ran("a", "true")[0], self.ran("a", "--")[0], self.ran("--timeout", "-1", "a", "--", "true")[0]], [2, 2, 2])
+
+    def test_killed_lock(self):
+        """The session of a `lock` that was killed stays as long as its command lives."""
+        self.start()
+        process = self.lock("a", "--", "sh", "-c", "echo inside; read line; echo out", stdin=subprocess.PIPE)
+        self.assertEqual(process.stdout.readline(), "inside\n")
+        process.kill()
+        process.wait()
+        time.sleep(0.3)
+        self.assertEqual(self.connect().ask("sessions a").split(" ")[2], "writer")
+        process.stdin.write("\n")
+        process.stdin.flush()
+        self.assertEqual(process.stdout.readline(), "out\n")
+        self.comes("sessions a", "0")
+        process.communicate()
+
+    def test_children_of_the_command(self):
+        self.start()
+        process = self.lock("a", "--", "sh", "-c", "sleep 6 >/dev/null 2>&1 </dev/null & echo inside")
+        self.assertEqual(process.communicate(timeout=60), ("inside\n", ""))
+        self.assertEqual(self.connect().ask("sessions a").split(" ")[2], "writer")
+        self.comes("sessions a", "0")
+
+    def test_node_ends_under_a_command(self):
+        self.start()
+        process = self.lock("a", "--", "sh", "-c", "echo inside; read line; exit 5", stdin=subprocess.PIPE)
+        self.assertEqual(process.stdout.readline(), "inside\n")
+        self.end(signal.SIGKILL)
+        time.sleep(0.3)
+        self.start()
+        kept = lambda: [it["kept"] for it in json.loads(self.connect().ask("status"))["callers"]]  # noqa: E731
+        self.assertTrue(wait_for(lambda: kept() == [True]))
+        self.assertEqual(self.connect().ask("sessions a").split(" ")[2], "writer")
+        self.assertEqual(process.communicate("\n", timeout=60), ("", ""))
+        self.assertEqual(process.returncode, 5)
+        self.says(self.connect(), ("sessions a", "0"))
+
+    def test_node_ends_while_lock_waits(self):
+        self.start()
+        holder = self.connect()
+        token = holder.ask("token").split(" ")[1]
+        self.says(holder, ("read a x", "admitted"))
+        process = self.lock("a", "--", "echo", "inside")
+        self.assertTrue(wait_for(lambda: holder.ask("sessions a").endswith("waiting")))
+        self.end(signal.SIGKILL)
+        self.start()
+        holder = self.connect()
+        self.says(holder, (f"resume {token}", "resumed 1 a x reader"))
+        self.assertTrue(wait_for(lambda: len(self.queue("a")) == 1))
+        self.says(holder, ("leave a x", "left reader"))
+        self.assertEqual(process.communicate(timeout=60), ("inside\n", ""))
+        self.says(holder, ("sessions a", "0"))
+
+    def test_strict(self):
+        self.start()
+        process = self.lock("--strict", "a", "--", "sh", "-c", "echo inside; exec sleep 100")
+        self.assertEqual(process.stdout.readline(), "inside\n")
+        self.end(signal.SIGKILL)
+        self.start()
+        process.communicate(timeout=60)
+        self.assertEqual(process.returncode, 69)
+        self.says(self.connect(), ("sessions a", "0"))
+
+    def test_no_room(self):
+        self.start(socket="connections = 1")
+        self.find_room()
+        self.assertEqual(self.ran("a", "--", "true"), (69, "", "zinduroi: refused TooManyConnections\n"))
+
+    def test_signals(self):
+        self.start()
+        process = self.lock("a", "--", "sh", "-c", "trap 'echo ended; exit 4' TERM; echo inside; while :; do sleep 0.05; done")
+        self.assertEqual(process.stdout.readline(), "inside\n")
+        process.terminate()
+        self.assertEqual(process.communicate(timeout=60)[0], "ended\n")
+        self.assertEqual(process.returncode, 4)
+
+
+if __name__ == "__main__":
+    unittest.main()

@@ -1,0 +1,151 @@
+"""The command `zinduroi`."""
+from __future__ import annotations
+
+import argparse
+import json
+import sys
+import time
+from typing import Any, Callable, Dict, List, Optional, Sequence, Tuple
+
+from .errors import ZinduroiError
+from .node.client import DEFAULT_SOCKET, NodeClient, NodeGone
+from .node.lock import HELP, NO_NODE, run_lock
+from .watch import add_watch, rows_of, run_watch, table
+
+# Exit statuses of sysexits.h: the configuration is wrong.
+BAD_CONFIG = 78
+
+_NODE = """Serves a site to the programs of this machine, until SIGTERM or Ctrl-C. docs/OPERATING.md has the configuration file and
+what happens when a node ends: sessions stay in the store."""
+_ASK = """Sends one line to the node and prints the reply; the status is 0, 1 if it was refused or its time was over, or 69 where no
+node answers. A session that the line enters ends with this command, unless a line says `keep`."""
+_STATUS = """Prints a table of the node's site, and the sessions that belong to no connection: those that were kept, those of
+connections to an earlier run of the node, and those that the node doesn't know. The node never leaves them by itself. Once the
+caller of one is dead, `zinduroi ask evict RECORD HOLDER` does."""
+
+
+def parser() -> argparse.ArgumentParser:
+    """The command line."""
+    made = argparse.ArgumentParser(prog="zinduroi", description="Sites of Zinduroi, a reader-writer lock for records.")
+    commands = made.add_subparsers(dest="command", required=True, metavar="COMMAND")
+    raw = argparse.RawDescriptionHelpFormatter
+    node = commands.add_parser("node", help="serve a site to this machine", description=_NODE, formatter_class=raw)
+    node.add_argument("--config", required=True, metavar="FILE", help="the configuration, in TOML")
+    node.add_argument("--create", action="store_true", help="make the store first, once for each site")
+    lock = commands.add_parser("lock", help="run a command inside a record", epilog=HELP, formatter_class=raw,
+                               usage="zinduroi lock [--read] [--timeout S] [--strict] [--socket PATH] RECORD -- COMMAND ..")
+    lock.add_argument("--read", action="store_true", help="enter as a reader; without it, as the writer")
+    lock.add_argument("--timeout", type=_seconds, metavar="S", help="how many seconds to wait (default: for ever)")
+    lock.add_argument("--strict", action="store_true", help="end the command if the node ends")
+    _add_socket(lock)
+    lock.add_argument("record", metavar="RECORD")
+    ask = commands.add_parser("ask", help="send a line to the node", description=_ASK, formatter_class=raw)
+    _add_socket(ask)
+    ask.add_argument("line", nargs="+", metavar="LINE", help="the line, or its words")
+    status = commands.add_parser("status", help="print the state of the node", description=_STATUS, formatter_class=raw)
+    _add_socket(status)
+    status.add_argument("--json", action="store_true", help="as the node tells it")
+    add_watch(commands)
+    return made
+
+
+def _add_socket(to: argparse.ArgumentParser) -> None:
+    to.add_argument("--socket", metavar="PATH", help=f"the node's socket (default: ZINDUROI_SOCKET, or {DEFAULT_SOCKET})")
+
+
+def _seconds(text: str) -> float:
+    seconds = float(text)
+    if not 0 <= seconds < 1e9:
+        raise argparse.ArgumentTypeError("not from 0 to 999999999 seconds")
+    return seconds
+
+
+def main(words: Optional[Sequence[str]] = None) -> int:
+    """Carries out the command line, and gives the exit status."""
+    made = parser()
+    before, command = _split(list(sys.argv[1:] if words is None else words))
+    given = made.parse_args(before)
+    if given.command == "watch":
+        return run_watch(given, made)
+    if given.command == "node":
+        return run_node(given.config, given.create)
+    if given.command == "lock":
+        if not command:
+            made.error("lock: give a command behind --")
+        return _interruptible(lambda: run_lock(given.socket, given.record, given.read, given.timeout, given.strict, command))
+    return _interruptible(lambda: _ask(given))
+
+
+def _split(words: List[str]) -> Tuple[List[str], List[str]]:
+    """The words of `lock` before `--`, and those of its command."""
+    at = words.index("--") if words[:1] == ["lock"] and "--" in words else len(words)
+    return words[:at], words[at + 1:]
+
+
+def _interruptible(run: Callable[[], int]) -> int:
+    """Runs a command that Ctrl-C ends without a traceback."""
+    try:
+        return run()
+    except KeyboardInterrupt:
+        return 130
+
+
+def _ask(given: argparse.Namespace) -> int:
+    """Carries out `ask` or `status`."""
+    try:
+        with NodeClient(given.socket) as client:
+            return run_ask(client, given.line) if given.command == "ask" else run_status(client, given.json)
+    except NodeGone as gone:
+        print(f"zinduroi: {gone}", file=sys.stderr)
+        return NO_NODE
+
+
+def run_node(config: str, create: bool) -> int:
+    """Serves a site until a signal comes."""
+    import asyncio
+    import sqlite3
+
+    from .node.config import ConfigError, read_config
+    from .node.server import serve
+    try:
+        asyncio.run(serve(read_config(config), create))
+        return 0
+    except ConfigError as error:
+        print(f"zinduroi: {error}", file=sys.stderr)
+        return BAD_CONFIG
+    except (ZinduroiError, OSError, sqlite3.Error) as error:
+        print(f"zinduroi: {error}", file=sys.stderr)
+        return 1
+
+
+def run_ask(client: NodeClient, words: List[str]) -> int:
+    """Prints the reply to a line."""
+    line = " ".join(words)
+    if "\n" in line:
+        print("zinduroi: a line has no line feed in it", file=sys.stderr)
+        return 2
+    reply = client.ask(line)
+    print(reply)
+    return 1 if reply.split(" ")[0] in ("refused", "timeout") else 0
+
+
+def run_status(client: NodeClient, as_json: bool) -> int:
+    """Prints the state of the node."""
+    text = client.ask("status")
+    print(text if as_json else status_text(json.loads(text), time.time()))
+    return 0
+
+
+def status_text(state: Dict[str, Any], now: float) -> str:
+    """The table of a state, who waits, and the sessions of no connection."""
+    lines = [table(rows_of([state], now))]
+    for record, shown in state["records"].items():
+        if shown["queue"]:
+            lines.append(f"wait for {record}: {', '.join(shown['queue'])}")
+    for it in state["callers"]:
+        if not it["connected"]:
+            of = f"entered {now - it['since']:.0f} s ago by process {it['pid']}" if it["known"] else "of nobody that this node knows"
+            kept = ", kept" if it["known"] and it["kept"] else ""
+            lines.append(f"without a connection: {it['record']} {it['holder']} {it['phase']}, {of}{kept}")
+    failure = state.get("exchange", {}).get("failure")
+    return "\n".join(lines + ([f"exchange: {failure}"] if failure else []))

@@ -1,0 +1,72 @@
+"""A connection to a node, for programs in Python."""
+from __future__ import annotations
+
+import contextlib
+import os
+import socket
+from types import TracebackType
+from typing import Optional, Type
+
+from ..errors import ZinduroiError
+
+# The socket of a node where neither an option nor the variable ZINDUROI_SOCKET names one.
+DEFAULT_SOCKET = "/run/zinduroi/node.sock"
+
+
+class NodeGone(ZinduroiError):
+    """No node answers at the socket, or the connection ended before the reply. Then the call may have been carried out."""
+
+
+class NodeClient:
+    """A connection to the node at a socket. Its sessions are left when it is closed by its last holder, and a child process that
+    inherits it holds it too. One thread at a time may use it.
+
+    Raises `NodeGone` if no node answers."""
+
+    def __init__(self, path: "str | os.PathLike[str] | None" = None) -> None:
+        self.path = socket_path(path)
+        self.socket = socket.socket(socket.AF_UNIX)
+        self._read = b""
+        try:
+            self.socket.connect(self.path)
+        except OSError as error:
+            self.socket.close()
+            raise NodeGone(f"no node answers at {self.path}: {error.strerror or error}") from None
+
+    def ask(self, line: str) -> str:
+        """The node's reply to a line. Raises `NodeGone`."""
+        if "\n" in line:
+            raise ValueError("a line has no line feed in it")
+        try:
+            # A node that turned the connection away has said so, and doesn't read the line.
+            with contextlib.suppress(BrokenPipeError, ConnectionResetError):
+                self.socket.sendall(line.encode("utf-8", "surrogateescape") + b"\n")
+            parts = [self._read]
+            while b"\n" not in parts[-1]:
+                parts.append(self.socket.recv(65536))
+                if not parts[-1]:
+                    raise NodeGone(f"the node at {self.path} ended")
+        except OSError as error:
+            raise NodeGone(f"the node at {self.path} ended: {error.strerror or error}") from None
+        reply, _, self._read = b"".join(parts).partition(b"\n")
+        return reply.decode("utf-8", "replace")
+
+    def fileno(self) -> int:
+        """The number of the connection's file."""
+        return self.socket.fileno()
+
+    def close(self) -> None:
+        """Closes this process's end. The sessions are left if no other process holds it."""
+        self.socket.close()
+
+    def __enter__(self) -> NodeClient:
+        return self
+
+    def __exit__(self, kind: Optional[Type[BaseException]], value: Optional[BaseException],
+                 trace: Optional[TracebackType]) -> None:
+        self.close()
+
+
+def socket_path(path: "str | os.PathLike[str] | None" = None) -> str:
+    """The path that is given, or that of ZINDUROI_SOCKET, or the default one."""
+    return os.fspath(path) if path is not None else os.environ.get("ZINDUROI_SOCKET") or DEFAULT_SOCKET

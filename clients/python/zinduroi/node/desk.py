@@ -1,0 +1,67 @@
+"""What the node asks of the store for its callers, with the book kept in step with the answers.
+
+Each `leave` of the node goes to the program from here."""
+from __future__ import annotations
+
+from typing import Callable, Optional
+
+from .book import Book, Session, stored_sessions
+from .link import Interrupted, Link
+
+_LEFT = {"reader": "left reader", "writer": "left writer", "waiting": "withdrawn", None: "refused NotHere"}
+
+
+class Desk:
+    """Asks for sessions. `changed` is called with a record when a session of it has ended, which may let others in."""
+
+    def __init__(self, link: Link, book: Book, changed: Callable[[str], None]) -> None:
+        self.link = link
+        self.book = book
+        self._changed = changed
+
+    async def ask(self, session: Session, verb: str) -> str:
+        """The reply to `read`, `announce`, `write` or `leave` of a session. If the service ends meanwhile, the store tells whether
+        the call was carried out, and it is made again if it was not. Nothing is asked for a session that was ended meanwhile."""
+        while True:
+            if not self.book.is_here(session):
+                return "refused NotAnnounced" if verb == "write" else "refused NotHere"
+            try:
+                reply = await self.link.ask(f"{verb} {session.record} {session.number}")
+            except Interrupted:
+                found = await self._settle(session, verb)
+                if found is None:
+                    continue
+                reply = found
+            self._note(session, verb, reply)
+            return reply
+
+    def drop(self, session: Session, reply: str) -> None:
+        """Forgets a session that the store has refused. After `StoreFault` it may be there."""
+        if session.phase is None and reply != "refused StoreFault":
+            self.book.end(session)
+
+    async def _settle(self, session: Session, verb: str) -> Optional[str]:
+        """The reply to a call that was interrupted; `None` where it has to be made again."""
+        listed = await self.link.ask_until(f"sessions {session.record}")
+        if listed.startswith("refused"):
+            return listed
+        phase = dict(stored_sessions(listed)).get(session.number)
+        if verb == "leave":
+            return _LEFT[session.phase] if phase is None else None
+        if verb == "announce" and phase == "waiting":
+            # Its number is lost. A writer that never asked for its seats is withdrawn, and announced again.
+            await self.link.ask_until(f"leave {session.record} {session.number}")
+            return None
+        return "admitted" if (verb, phase) in (("read", "reader"), ("write", "writer")) else None
+
+    def _note(self, session: Session, verb: str, reply: str) -> None:
+        """Writes down what a reply says."""
+        if reply == "admitted":
+            session.phase = "reader" if verb == "read" else "writer"
+        elif reply.startswith("announced "):
+            session.phase = "waiting"
+        elif verb == "leave" and (reply in _LEFT.values()):
+            self.book.end(session)
+            self._changed(session.record)
+        if reply in ("left writer", "withdrawn") or reply.startswith("announced "):
+            self.link.site.tell_listeners()

@@ -1,0 +1,96 @@
+"""The node's link to the program: lines go there one after the other, and a service that ended is started anew."""
+from __future__ import annotations
+
+import asyncio
+from typing import Callable, Optional, Sequence, Union
+
+from ..errors import ZinduroiError
+from ..service import Call
+from ..site import Path, Site
+from .report import report
+
+# How many seconds a start waits for a store that another process still has: that of a node that was killed.
+STORE_WAIT = 10.0
+# The longest pause, in seconds, between two starts of a service that doesn't start.
+LONGEST_PAUSE = 5.0
+
+
+class Interrupted(Exception):
+    """The service ended during a call, which may have been carried out, and has been started anew."""
+
+
+class NodeSite(Site):
+    """A site that tells when a delta has brought something new."""
+
+    def __init__(self, store: Path, site: int, layout: Optional[Path], group: Optional[str], create: bool, log: Optional[Path],
+                 program: Union[str, Sequence[str]]) -> None:
+        super().__init__(store, site, layout, group, create, STORE_WAIT, log, program)
+        self.merged: Callable[[], None] = lambda: None
+
+    def take(self, text: str) -> int:
+        rose = super().take(text)
+        if rose > 0:
+            self.merged()
+        return rose
+
+
+class Link:
+    """Lines of the node's callers on their way to the program. Used on the thread of the loop."""
+
+    def __init__(self, site: NodeSite) -> None:
+        self.site = site
+        self._loop = asyncio.get_running_loop()
+        self._opening = asyncio.Lock()
+
+    async def ask(self, line: str) -> str:
+        """The reply to a line. Replies are handed out in the order in which the program wrote them. Raises `Interrupted`."""
+        return await self.ask_bytes(line.encode("utf-8"))
+
+    async def ask_bytes(self, line: bytes) -> str:
+        """The reply to a line that may be anything but have an LF in it."""
+        future: asyncio.Future[Call] = self._loop.create_future()
+        failure: Optional[ZinduroiError]
+        try:
+            self.site.submit(line, lambda call: self._deliver(future, call))
+            call = await future
+            failure = call.failure
+        except ZinduroiError as closed:
+            failure = closed
+        if failure is None:
+            return call.replies[0]
+        await self._reopen(failure)
+        raise Interrupted
+
+    async def ask_until(self, line: str) -> str:
+        """The reply to a line that changes nothing: it is asked again if it was interrupted."""
+        while True:
+            try:
+                return await self.ask(line)
+            except Interrupted:
+                continue
+
+    def _deliver(self, future: "asyncio.Future[Call]", call: Call) -> None:
+        """On the service's thread: hands a call that is done to the loop, if that still runs."""
+        try:
+            self._loop.call_soon_threadsafe(_settle, future, call)
+        except RuntimeError:
+            pass
+
+    async def _reopen(self, why: ZinduroiError) -> None:
+        """Starts the service anew. Of several calls that need it one does."""
+        pause = 0.1
+        async with self._opening:
+            while True:
+                try:
+                    if await asyncio.to_thread(self.site.reopen):
+                        report(f"{why}; started anew")
+                    return
+                except ZinduroiError as failure:
+                    report(f"the service does not start: {failure}")
+                await asyncio.sleep(pause)
+                pause = min(pause * 2, LONGEST_PAUSE)
+
+
+def _settle(future: "asyncio.Future[Call]", call: Call) -> None:
+    if not future.done():
+        future.set_result(call)

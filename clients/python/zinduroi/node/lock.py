@@ -1,0 +1,270 @@
+"""`zinduroi lock`: runs a command inside a record."""
+from __future__ import annotations
+
+import math
+import os
+import select
+import signal
+import subprocess
+import time
+from typing import Any, Callable, Dict, List, Optional, Sequence, Tuple
+
+from .client import NodeClient, NodeGone
+from .report import report
+
+# Exit statuses, as in sysexits.h: refused for another reason than time; no node answers; the time is over; the command can't be run.
+REFUSED, NO_NODE, TIME_OVER = 64, 69, 75
+NOT_FOUND, NOT_RUN = 127, 126
+# The seconds of a `wait` without an end, and the first and the longest pause before a node that ended is looked for again.
+FOR_EVER = 999_999_999
+FIRST_PAUSE, LONGEST_PAUSE = 0.05, 2.0
+# How many seconds the node is waited for once the command has ended, and a command that was asked to end.
+AFTERWARDS = 60.0
+GRACE = 10.0
+# The signals that go on to the command.
+PASSED_ON = (signal.SIGTERM, signal.SIGHUP)
+
+HELP = """Runs COMMAND inside RECORD: as the only one at all sites, or with --read beside other readers. The exit status is that of
+COMMAND, 128 and the number of its signal if one ended it; else
+
+  64  refused, not for want of time    69  no node answers    75  the time was over    126, 127  COMMAND can't be run
+
+COMMAND has the session's fencing number in ZINDUROI_FENCE. It inherits the connection to the node, and its children do too. The
+session is left once the last of them has ended, or closed it, even if `lock` itself was killed.
+
+If the node ends meanwhile, the session stays in the site's store and nobody else gets in. COMMAND goes on, and `lock` takes the
+session up again by its token once the node is back. From then on `lock` leaves it, when COMMAND and its children have ended; if
+`lock` is killed then, an operator has to (`zinduroi status` lists it). With --strict COMMAND gets SIGTERM when the node ends, and
+SIGKILL 10 seconds later; the status is 69. If the node is not back within a minute after the end of COMMAND, `lock` ends, and says
+that the session is still there."""
+
+
+class Refused(Exception):
+    """The node refused, or the time is over. `status` is the exit status."""
+
+    def __init__(self, status: int, text: str) -> None:
+        super().__init__(text)
+        self.status = status
+
+
+class Lock:
+    """One run of `lock`: a session, which is entered, taken up again, and left."""
+
+    def __init__(self, path: Optional[str], record: str, reads: bool, timeout: Optional[float], strict: bool) -> None:
+        self.path = path
+        self.record = record
+        self.verb = "read" if reads else "write"
+        self.strict = strict
+        self.end = math.inf if timeout is None else time.monotonic() + timeout
+        self.client: Optional[NodeClient] = None
+        self.token = ""
+        self.kept = False
+
+    # Entering
+
+    def enter(self) -> str:
+        """Waits until the session is inside, and gives its fencing number. Raises `Refused` and `NodeGone`."""
+        self.client = NodeClient(self.path)
+        inside = False
+        while True:
+            try:
+                if not self.token:
+                    self.token = self._word("token")
+                inside = inside or self._wait()
+                return self._word(f"fence {self.record} -")
+            except NodeGone:
+                if not self.token:
+                    raise
+                inside = self._return(self.end, keep=False) in ("reader", "writer")
+
+    def _wait(self) -> bool:
+        left = min(max(0.0, self.end - time.monotonic()), FOR_EVER)
+        reply = self._ask(f"wait {left:.3f} {self.verb} {self.record} -")
+        if reply != "admitted":
+            raise Refused(TIME_OVER if reply.startswith("timeout ") else REFUSED, reply)
+        return True
+
+    def _word(self, line: str) -> str:
+        """The word that a reply has behind the line's verb."""
+        reply = self._ask(line)
+        if reply.startswith("refused"):
+            raise Refused(NO_NODE if reply == "refused TooManyConnections" else REFUSED, reply)
+        return reply.split(" ")[1]
+
+    def _ask(self, line: str) -> str:
+        assert self.client is not None
+        return self.client.ask(line)
+
+    def close(self) -> None:
+        """Closes this process's end of the connection."""
+        if self.client is not None:
+            self.client.close()
+
+    # A node that ended
+
+    def _return(self, end: float, keep: bool) -> Optional[str]:
+        """Connects anew until the end, and takes up the session. Gives its phase; `None` where it is not in the store. Raises
+        `NodeGone`."""
+        pause = FIRST_PAUSE
+        while True:
+            try:
+                phase = self._take_up(keep)
+                break
+            except NodeGone:
+                if time.monotonic() + pause > end:
+                    raise
+            time.sleep(pause)
+            pause = min(pause * 2, LONGEST_PAUSE)
+        return phase
+
+    def _take_up(self, keep: bool) -> Optional[str]:
+        """Connects anew once, and takes up the session. A session whose command runs is kept: it doesn't hold this connection."""
+        client = NodeClient(self.path)
+        try:
+            reply = client.ask(f"resume {self.token}" + (" keep" if keep else ""))
+            if reply != "refused NoToken" and not reply.startswith("resumed "):
+                raise NodeGone(f"the node at {self.path} answers {reply}")
+        except NodeGone:
+            client.close()
+            raise
+        self.close()
+        self.client = client
+        self.kept = keep and reply.startswith("resumed ")
+        if reply == "refused NoToken":
+            self.token = ""
+            return None
+        return reply.split(" ")[-1]
+
+    # The command
+
+    def run(self, command: Sequence[str], fence: str) -> int:
+        """Runs the command, and gives the exit status."""
+        lifeline, held = os.pipe()
+        before = {number: signal.signal(number, signal.SIG_IGN) for number in (signal.SIGINT, signal.SIGQUIT)}
+        # A signal that comes meanwhile is for the command, and waits until it is there.
+        mask = signal.pthread_sigmask(signal.SIG_BLOCK, PASSED_ON)
+        process, status = self._start(command, fence, held, before, mask)
+        os.close(held)
+        lost = False
+        if process is not None:
+            for number in PASSED_ON:
+                signal.signal(number, _passes_on(process))
+            signal.pthread_sigmask(signal.SIG_SETMASK, mask)
+            lost = self._watch(process)
+            status = process.returncode if process.returncode >= 0 else 128 - process.returncode
+            for number in PASSED_ON:
+                signal.signal(number, signal.SIG_DFL)
+        self._leave(lifeline)
+        os.close(lifeline)
+        return NO_NODE if lost and self.strict else status
+
+    def _start(self, command: Sequence[str], fence: str, held: int, before: Dict[Any, Any],
+               mask: Any) -> "Tuple[Optional[subprocess.Popen[bytes]], int]":
+        """Starts the command with the connection, and with the signals as they were; or gives the exit status."""
+        def take_signals() -> None:
+            signal.pthread_sigmask(signal.SIG_SETMASK, mask)
+            for number, handler in before.items():
+                signal.signal(number, signal.SIG_IGN if handler == signal.SIG_IGN else signal.SIG_DFL)
+
+        assert self.client is not None
+        try:
+            return subprocess.Popen(command, pass_fds=(self.client.fileno(), held), env={**os.environ, "ZINDUROI_FENCE": fence},
+                                    preexec_fn=take_signals), 0
+        except OSError as error:
+            report(f"{command[0]}: {error.strerror}")
+            return None, NOT_FOUND if isinstance(error, FileNotFoundError) else NOT_RUN
+
+    def _watch(self, process: "subprocess.Popen[bytes]") -> bool:
+        """Waits for the command. Says whether the node ended meanwhile."""
+        lost, due, pause = False, math.inf, FIRST_PAUSE
+        ended = os.pidfd_open(process.pid)
+        try:
+            while process.poll() is None:
+                if self._waits_until_gone(ended, due):
+                    lost = True
+                    if self.strict:
+                        _end(process)
+                    due, pause = time.monotonic(), FIRST_PAUSE
+                if time.monotonic() >= due and process.poll() is None:
+                    try:
+                        self._say_lost(self._take_up(keep=True))
+                        due = math.inf
+                    except NodeGone:
+                        due, pause = time.monotonic() + pause, min(pause * 2, LONGEST_PAUSE)
+        finally:
+            os.close(ended)
+        return lost
+
+    def _waits_until_gone(self, ended: int, due: float) -> bool:
+        """Waits for the command's end, or until it is due to look for the node. Says whether the connection was found to have
+        ended."""
+        poll = select.poll()
+        poll.register(ended, select.POLLIN)
+        if due == math.inf and self.client is not None:
+            poll.register(self.client.fileno(), 0)
+        found = poll.poll(None if due == math.inf else max(0.0, due - time.monotonic()) * 1000)
+        return any(number != ended for number, _ in found)
+
+    def _say_lost(self, phase: Optional[str]) -> None:
+        if phase is None:
+            report(f"the session of {self.record} is gone: the command is not alone any more")
+
+    # Leaving
+
+    def _leave(self, lifeline: int) -> None:
+        """Leaves, if no child of the command lives on. Else a connection that they hold leaves when it ends; a session that was
+        taken up again is left by this process, behind them."""
+        poll = select.poll()
+        poll.register(lifeline, 0)
+        if not poll.poll(0):
+            if not self._must_wait():
+                return
+            poll.poll()
+        end = time.monotonic() + AFTERWARDS
+        try:
+            while True:
+                try:
+                    if self.token:
+                        self._ask(f"leave {self.record} -")
+                    return
+                except NodeGone:
+                    self._return(end, keep=False)
+        except NodeGone:
+            report(f"no node answers, and the session of {self.record} is still in the store: see zinduroi status")
+
+    def _must_wait(self) -> bool:
+        """Whether the session doesn't hang on the connection that the command's children hold."""
+        assert self.client is not None
+        poll = select.poll()
+        poll.register(self.client.fileno(), 0)
+        return self.kept or bool(poll.poll(0))
+
+
+def _passes_on(process: "subprocess.Popen[bytes]") -> Callable[[int, Any], None]:
+    """A handler that passes a signal on to the command."""
+    return lambda number, _: process.send_signal(number)
+
+
+def _end(process: "subprocess.Popen[bytes]") -> None:
+    """Has a command end: by SIGTERM, and later by SIGKILL."""
+    process.terminate()
+    try:
+        process.wait(GRACE)
+    except subprocess.TimeoutExpired:
+        process.kill()
+        process.wait()
+
+
+def run_lock(path: Optional[str], record: str, reads: bool, timeout: Optional[float], strict: bool, command: List[str]) -> int:
+    """Carries out `lock`, and gives the exit status."""
+    lock = Lock(path, record, reads, timeout, strict)
+    try:
+        return lock.run(command, lock.enter())
+    except Refused as refused:
+        report(str(refused))
+        return refused.status
+    except NodeGone as gone:
+        report(str(gone))
+        return NO_NODE
+    finally:
+        lock.close()

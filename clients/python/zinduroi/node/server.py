@@ -1,0 +1,231 @@
+"""The node: it serves a site to the programs of its machine."""
+from __future__ import annotations
+
+import asyncio
+import contextlib
+import resource
+import signal
+import socket
+from typing import Callable, Dict, Iterable, List, Optional, Set
+
+from ..exchange import Exchange
+from ..errors import StoreRefused
+from ..site import read_layout
+from ..transports import Transport
+from .answers import Answers
+from .book import Book, stored_sessions
+from .config import Config
+from .connection import Connection
+from .lines import Shared
+from .link import Link, NodeSite
+from .listening import HangUps, Listener
+from .report import report
+
+# How many seconds a stop waits for lines in work.
+LAST_ANSWERS = 5.0
+# Files that the node needs beside its connections.
+OTHER_FILES = 100
+
+
+class Several:
+    """Several transports as one: a text goes to each, and those of all arrive."""
+
+    def __init__(self, transports: List[Transport]) -> None:
+        self._transports = transports
+
+    def publish(self, site: int, text: str) -> None:
+        """Publishes by each; then raises the failure of the last one that failed."""
+        failed: Optional[Exception] = None
+        for transport in self._transports:
+            try:
+                transport.publish(site, text)
+            except Exception as failure:
+                failed = failure
+        if failed is not None:
+            raise failed
+
+    def messages(self) -> Iterable[str]:
+        """The texts of all; raises if none could be asked."""
+        texts: List[str] = []
+        failures: List[Exception] = []
+        for transport in self._transports:
+            try:
+                texts.extend(transport.messages())
+            except Exception as failure:
+                failures.append(failure)
+        if len(failures) == len(self._transports):
+            raise failures[-1]
+        return texts
+
+    def listen(self, listener: object) -> None:
+        """Passes the listener on to those that know such."""
+        for transport in self._transports:
+            listen = getattr(transport, "listen", None)
+            if listen is not None:
+                listen(listener)
+
+    def close(self) -> None:
+        """Closes those that have to be closed."""
+        for transport in self._transports:
+            close = getattr(transport, "close", None)
+            if close is not None:
+                close()
+
+
+class Node:
+    """A node from its start to its end, on one thread with a loop; the service and the exchange have threads of their own."""
+
+    def __init__(self, config: Config) -> None:
+        self.config = config
+        self._listener = Listener(config.socket)
+        self._site: Optional[NodeSite] = None
+        self._book: Optional[Book] = None
+        self._exchange: Optional[Exchange] = None
+        self._answers: Optional[Answers] = None
+        self._hang_ups: Optional[HangUps] = None
+        self._connections: Set[Connection] = set()
+        self._shared = Shared()
+        self._stopping = asyncio.Event()
+
+    async def run(self, create: bool) -> None:
+        """Serves until `stop` is called. With `create` the store is made first. Raises what the site, the exchange or the socket
+        raise at their start."""
+        accepting: Optional[asyncio.Task[None]] = None
+        try:
+            await self._open(create)
+            listening = self._listener.listen()
+            accepting = asyncio.create_task(self._accept(listening))
+            report(f"site {self.config.site} at {self._listener.path}")
+            await self._stopping.wait()
+        finally:
+            if accepting is not None:
+                accepting.cancel()
+                await asyncio.gather(accepting, return_exceptions=True)
+            await self._close()
+
+    def stop(self) -> None:
+        """Ends the node. Sessions stay in the store, but for those that still waited."""
+        self._stopping.set()
+
+    async def _open(self, create: bool) -> None:
+        config = self.config
+        records = tuple(record.name for record in read_layout(config.layout, config.program).records)
+        self._site = NodeSite(config.store, config.site, config.layout, config.group, create, config.log, config.program)
+        self._book = Book(f"{config.store}.sessions")
+        link = Link(self._site)
+        stored = {}
+        for record in records:
+            listed = await link.ask_until(f"sessions {record}")
+            if listed.startswith("refused"):
+                raise StoreRefused(listed.split(" ")[1])
+            stored[record] = stored_sessions(listed)
+        self._book.recall(stored)
+        self._answers = Answers(link, self._book, records, self._more)
+        self._hang_ups = HangUps()
+        self._site.merged = _on_loop(self._answers.queues.wake_all)
+        self._start_exchange(self._site, records, create)
+        _allow_files(config.socket.connections + OTHER_FILES)
+
+    def _start_exchange(self, site: NodeSite, records: Iterable[str], create: bool) -> None:
+        """Starts the exchange. At the first start of a site a folder that is not there was mistyped."""
+        transports = [make() for make in self.config.transports]
+        if transports:
+            transport = transports[0] if len(transports) == 1 else Several(transports)
+            self._exchange = Exchange(site, transport, self.config.interval, self.config.every, tuple(records))
+            self._exchange.helps = self.config.helps
+            self._exchange.start(patient=not create)
+            if self._exchange.tally().failed:
+                report("a transport fails; it is tried again")
+
+    async def _accept(self, listening: socket.socket) -> None:
+        loop = asyncio.get_running_loop()
+        while True:
+            try:
+                accepted, _ = await loop.sock_accept(listening)
+            except OSError as error:
+                report(f"accept: {error}")
+                await asyncio.sleep(0.1)
+                continue
+            accepted.setblocking(False)
+            if len(self._connections) >= self.config.socket.connections:
+                _turn_away(accepted)
+            else:
+                self._begin(accepted)
+
+    def _begin(self, accepted: socket.socket) -> None:
+        assert self._answers is not None and self._hang_ups is not None
+        connection = Connection(accepted, self._answers, self._shared, self._hang_ups, self._stopping.is_set)
+        self._connections.add(connection)
+        connection.task = asyncio.create_task(connection.run())
+        connection.task.add_done_callback(lambda task: self._ended(connection, task))
+
+    def _ended(self, connection: Connection, task: "asyncio.Task[None]") -> None:
+        self._connections.discard(connection)
+        if not task.cancelled() and task.exception() is not None:
+            report(f"a connection failed: {task.exception()!r}")
+
+    async def _close(self) -> None:
+        """Answers the lines in work, and closes all in the order opposite to the start."""
+        tasks = [connection.task for connection in self._connections if connection.task is not None]
+        for connection in list(self._connections):
+            connection.stop()
+        if tasks:
+            _, late = await asyncio.wait(tasks, timeout=LAST_ANSWERS)
+            for task in late:
+                task.cancel()
+            await asyncio.gather(*tasks, return_exceptions=True)
+        if self._exchange is not None:
+            await asyncio.to_thread(self._exchange.close)
+        if self._hang_ups is not None:
+            self._hang_ups.close()
+        if self._book is not None:
+            self._book.close()
+        if self._site is not None:
+            self._site.merged = lambda: None
+            await asyncio.to_thread(self._site.close)
+        self._listener.close()
+
+    def _more(self) -> Dict[str, object]:
+        """What a status has beside the records."""
+        assert self._site is not None
+        state: Dict[str, object] = {"group": self.config.group, "connections": len(self._connections), "service": self._site.pid}
+        if self._exchange is not None:
+            failure = self._exchange.failure
+            state["exchange"] = {**vars(self._exchange.tally()), "failure": None if failure is None else str(failure)}
+        return state
+
+
+def _on_loop(function: Callable[[], None]) -> Callable[[], None]:
+    """A function for any thread, which has another one called on the thread of the loop."""
+    loop = asyncio.get_running_loop()
+
+    def call() -> None:
+        with contextlib.suppress(RuntimeError):
+            loop.call_soon_threadsafe(function)
+    return call
+
+
+def _turn_away(accepted: socket.socket) -> None:
+    """Answers a connection that is one too many. It has no session yet."""
+    with accepted:
+        try:
+            accepted.send(b"refused TooManyConnections\n")
+        except OSError:
+            pass
+
+
+def _allow_files(number: int) -> None:
+    """Lets the process have so many files open, as far as its limit can be raised."""
+    soft, hard = resource.getrlimit(resource.RLIMIT_NOFILE)
+    wanted = number if hard == resource.RLIM_INFINITY else min(number, hard)
+    if soft != resource.RLIM_INFINITY and soft < wanted:
+        resource.setrlimit(resource.RLIMIT_NOFILE, (wanted, hard))
+
+
+async def serve(config: Config, create: bool) -> None:
+    """Runs a node until SIGTERM or SIGINT."""
+    node = Node(config)
+    loop = asyncio.get_running_loop()
+    for number in (signal.SIGTERM, signal.SIGINT):
+        loop.add_signal_handler(number, node.stop)
+    await node.run(create)
