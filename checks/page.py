@@ -269,6 +269,8 @@ class Story:
         self.connect(self.first).ask("give payroll-2026 1 2")
         self.comes("seats that were given to a node that doesn't run are on the way", lambda page: page["records"]["payroll-2026"]["sites"]["1"]["way"] == "2"
                    and self.has(page, "payroll-2026", 1, 0, 3, 2, 6))
+        self.look(360, "dark", "way")
+        self.look(1600, "light", "way")
         self.second.start()
         self.comes("and free once it runs", lambda page: [sum(int(row[name]) for row in page["records"]["payroll-2026"]["sites"].values())
                                                            for name in ("inside", "free", "way")] == [0, 6, 0])
@@ -291,8 +293,11 @@ class Story:
         self.connect(self.first).ask("announce payroll-2026 <i>writer</i>")
         for width in (360, 1600):
             for scheme in ("light", "dark"):
-                faults = self.browser.look(width, scheme, self.pictures / f"page_{width}_{scheme}.png")
-                tell(not faults, f"{width} pixels, {scheme}", faults)
+                self.look(width, scheme, "page")
+
+    def look(self, width, scheme, name):
+        faults = self.browser.look(width, scheme, self.pictures / f"{name}_{width}_{scheme}.png")
+        tell(not faults, f"{width} pixels, {scheme}", faults)
 
 
 def metrics(node):
