@@ -13,7 +13,7 @@ from zinduroi.node.metrics import Text, metrics_text
 from zinduroi.node.page import Page, is_own
 from zinduroi.node.seats import Share, rows_of, sender_of, shares_of
 from zinduroi.node.server import Several
-from zinduroi.node.tally import KEPT_ANSWERS, Histogram, Tally, shown_line, shown_reply
+from zinduroi.node.tally import KEPT_ANSWERS, Histogram, Tally, shown_line, shown_reply, verb_of
 from zinduroi.node.view import View
 from zinduroi.site import Layout, Record
 
@@ -38,14 +38,14 @@ class Tallies(unittest.TestCase):
         self.assertEqual(tally.timeouts, {("read", "NoSeat"): 1, ("read", "other"): 1})
         self.assertEqual({key: it.sum for key, it in tally.waits.items()}, {("read", "timeout"): 0.25, ("write", "admitted"): 0.25})
         self.assertEqual(tally.recent(60), {"NoSeat": 2, "BadWord": 1, "TooLong": 1, "other": 2})
-        self.assertEqual([it["line"] for it in tally.last][:5], ["read a x", "read a y", "wait 5 read a y", "wait 1 write a z", "leave a x"])
+        self.assertEqual([it["line"] for it in tally.last()][:5], ["read a x", "read a y", "wait 5 read a y", "wait 1 write a z", "leave a x"])
 
     def test_bounds(self):
         tally = Tally()
         for at in range(1000):
             tally.answered(7, f"verb{at} a".encode(), f"refused Name{at}", 0.0)
             tally.called(f"verb{at} a".encode(), 0.0)
-        self.assertEqual((len(tally.last), len(tally.answers), len(tally.calls), list(tally.refusals)), (KEPT_ANSWERS, 1, 1, [("other", "other")]))
+        self.assertEqual((len(tally.last()), len(tally.answers), len(tally.calls), list(tally.refusals)), (KEPT_ANSWERS, 1, 1, [("other", "other")]))
 
     def test_recent(self):
         with unittest.mock.patch("zinduroi.node.tally.time.monotonic") as now:
@@ -59,18 +59,23 @@ class Tallies(unittest.TestCase):
 
     def test_shown_lines(self):
         for line, shown in {
-                b"read a x": ("read", False, "read a x"), b"read a -": ("read", False, "read a -"), b"wait 0.5 write a x": ("write", True, "wait 0.5 write a x"),
-                b"keep a x": ("keep", False, "keep a x"), b"give a 1 2": ("give", False, "give a 1 2"), b"sessions a": ("sessions", False, "sessions a"),
-                b"show " + TOKEN.encode(): ("show", False, "show (can't be read)"), b"resume " + TOKEN.encode(): ("resume", False, "resume (token)"),
-                b"resume " + TOKEN.encode() + b" keep": ("resume", False, "resume (token) keep"), b"token": ("token", False, "token"),
-                b"resume " + TOKEN.encode() + b" x": ("resume", False, "resume (can't be read)"), TOKEN.encode(): ("other", False, "(a line of another form)"),
-                b"read a": ("read", False, "read (can't be read)"), b"wait x": ("other", False, "wait (can't be read)"), b"take " + b"x" * 999: ("take", False, "take"),
-                b"give a \xff": ("give", False, "give (can't be read)"), b"": ("other", False, "(a line of another form)"),
-                "TooLong": ("other", False, "(a line that was not kept)")}.items():
+                b"read a x": "read a x", b"read a -": "read a -", b"wait 0.5 write a x": "wait 0.5 write a x",
+                b"keep a x": "keep a x", b"give a 1 2": "give a 1 2", b"sessions a": "sessions a",
+                b"show " + TOKEN.encode(): "show (can't be read)", b"resume " + TOKEN.encode(): "resume (token)",
+                b"resume " + TOKEN.encode() + b" keep": "resume (token) keep", b"token": "token",
+                b"resume " + TOKEN.encode() + b" x": "resume (can't be read)", TOKEN.encode(): "(a line of another form)",
+                b"read a": "read (can't be read)", b"wait x": "wait (can't be read)", b"take " + b"x" * 999: "take",
+                b"give a \xff": "give (can't be read)", b"": "(a line of another form)",
+                "TooLong": "(a line that was not kept)"}.items():
             self.assertEqual(shown_line(line), shown, line)
 
+    def test_verbs(self):
+        for line, verb in {b"read a x": ("read", False), b"wait 5 write a x": ("write", True), b"wait 5 leave a x": ("other", True), b"wait": ("other", True),
+                           b"send": ("send", False), b"sending": ("other", False), b"": ("other", False), "TooLong": ("other", False)}.items():
+            self.assertEqual(verb_of(line), verb)
+
     def test_shown_replies(self):
-        for verb, reply, shown in (("token", f"token {TOKEN}", "token"), ("keep", f"kept {TOKEN}", "kept"), ("send", marked("{}"), "(a delta of 30 bytes)"),
+        for verb, reply, shown in (("token", f"token {TOKEN}", "token"), ("keep", f"kept {TOKEN}", "kept"), ("send", marked("{}"), "(a delta)"),
                                    ("send", "refused Memory", "refused Memory"), ("sessions", "x" * 500, "x" * 120 + " .."), ("read", "admitted", "admitted")):
             self.assertEqual(shown_reply(verb, reply), shown)
 

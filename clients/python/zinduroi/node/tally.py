@@ -1,6 +1,6 @@
 """What a node counts of its answers, for its page and its metrics. One thread uses it.
 
-Tokens are in nothing of it, since everybody on the machine may see the page."""
+Tokens are in nothing that it shows, since everybody on the machine may see the page."""
 from __future__ import annotations
 
 import bisect
@@ -25,8 +25,12 @@ KEPT_REPLY = 120
 _LOOKED_AT = 300
 _PROGRAM = {"give", "help", "show", "sessions", "send", "take"}
 _VERBS = _PROGRAM | {"read", "announce", "write", "leave", "fence", "keep", "evict", "resume", "token", "status"}
+_VERB = {verb.encode("ascii"): verb for verb in _VERBS}
 _SHOWN = re.compile(r"(give|help|show|sessions)( [a-z0-9-]{1,16}){1,3}")
 _NAME = re.compile(r"[A-Za-z]{1,32}")
+
+# An answer that was kept: when, the process, the line, its verb, and the reply.
+Kept = Tuple[float, int, Union[bytes, str], str, str]
 
 
 class Histogram:
@@ -54,13 +58,13 @@ class Tally:
         self.timeouts: Counter[Tuple[str, str]] = collections.Counter()
         self.waits: DefaultDict[Tuple[str, str], Histogram] = collections.defaultdict(lambda: Histogram(WAIT_BOUNDS))
         self.calls: DefaultDict[str, Histogram] = collections.defaultdict(lambda: Histogram(CALL_BOUNDS))
-        self.last: Deque[Dict[str, object]] = collections.deque(maxlen=KEPT_ANSWERS)
         self.changed: Callable[[], None] = lambda: None
         self._recent: Deque[Tuple[int, Counter[str]]] = collections.deque(maxlen=PARTS)
+        self._last: Deque[Union[Kept, Dict[str, object]]] = collections.deque(maxlen=KEPT_ANSWERS)
 
     def answered(self, pid: int, line: Union[bytes, str], reply: str, seconds: float) -> None:
         """A line of a connection was answered after so many seconds. A text in place of the line is why it was not kept."""
-        verb, waits, shown = shown_line(line)
+        verb, waits = verb_of(line)
         outcome, name = outcome_of(reply)
         self.answers[verb, outcome] += 1
         if name is not None:
@@ -69,13 +73,21 @@ class Tally:
         if waits:
             self.waits[verb, outcome].add(seconds)
         if verb != "status":
-            self.last.append({"at": time.time(), "pid": pid, "line": shown, "reply": shown_reply(verb, reply)})
+            # What is shown of it is made when somebody looks.
+            self._last.append((time.time(), pid, line[:_LOOKED_AT], verb, reply[:_LOOKED_AT]))
             self.changed()
+
+    def last(self) -> List[Dict[str, object]]:
+        """The last answers, the oldest first."""
+        for at, kept in enumerate(self._last):
+            if isinstance(kept, tuple):
+                when, pid, line, verb, reply = kept
+                self._last[at] = {"at": when, "pid": pid, "line": shown_line(line), "reply": shown_reply(verb, reply)}
+        return [kept for kept in self._last if isinstance(kept, dict)]
 
     def called(self, line: bytes, seconds: float) -> None:
         """The program has replied to a line after so many seconds."""
-        verb = line[:16].split(b" ")[0].decode("utf-8", "replace")
-        self.calls[verb if verb in _VERBS else "other"].add(seconds)
+        self.calls[_VERB.get(line[:16].split(b" ", 1)[0], "other")].add(seconds)
 
     def recent(self, seconds: float) -> Counter[str]:
         """Refusals by name in the last seconds, to ten seconds."""
@@ -103,26 +115,35 @@ def outcome_of(reply: str) -> Tuple[str, Optional[str]]:
     return words[0], name if _NAME.fullmatch(name) else "other"
 
 
-def shown_line(line: Union[bytes, str]) -> Tuple[str, bool, str]:
-    """The verb of a line, whether it waits, and what is shown of it: nothing that may be a token."""
+def verb_of(line: Union[bytes, str]) -> Tuple[str, bool]:
+    """The verb of a line, and whether it waits; `other` where it has none that is known."""
     if isinstance(line, str):
-        return "other", False, "(a line that was not kept)"
-    head = line[:_LOOKED_AT]
-    asked = parse(head)
+        return "other", False
+    words = line[:_LOOKED_AT].split(b" ", 3)
+    if words[0] == b"wait":
+        return {b"read": "read", b"write": "write"}.get(words[2] if len(words) > 2 else b"", "other"), True
+    return _VERB.get(words[0], "other"), False
+
+
+def shown_line(line: Union[bytes, str]) -> str:
+    """What is shown of a line: nothing that may be a token."""
+    if isinstance(line, str):
+        return "(a line that was not kept)"
+    asked = parse(line[:_LOOKED_AT])
     if isinstance(asked, Call):
         before = "" if asked.wait is None else f"wait {asked.wait:g} "
-        return asked.verb, asked.wait is not None, f"{before}{asked.verb} {asked.record} {asked.word or '-'}"
+        return f"{before}{asked.verb} {asked.record} {asked.word or '-'}"
     if isinstance(asked, Resume):
-        return "resume", False, "resume (token)" + (" keep" if asked.keep else "")
+        return "resume (token)" + (" keep" if asked.keep else "")
     if isinstance(asked, Plain):
-        return asked.verb, False, asked.verb
-    text = head.decode("utf-8", "replace")
-    verb = text.split(" ")[0]
-    if verb not in _VERBS:
-        return "other", False, "wait (can't be read)" if verb == "wait" else "(a line of another form)"
-    if isinstance(asked, BadWord) or verb in ("send", "take"):
-        return verb, False, f"{verb} (can't be read)" if isinstance(asked, BadWord) else verb
-    return verb, False, text if _SHOWN.fullmatch(text) else f"{verb} (can't be read)"
+        return asked.verb
+    text = line[:_LOOKED_AT].decode("utf-8", "replace")
+    verb = text.split(" ", 1)[0]
+    if verb not in _VERBS and verb != "wait":
+        return "(a line of another form)"
+    if not isinstance(asked, BadWord) and (verb in ("send", "take") or _SHOWN.fullmatch(text)):
+        return verb if verb in ("send", "take") else text
+    return f"{verb} (can't be read)"
 
 
 def shown_reply(verb: str, reply: str) -> str:
@@ -131,5 +152,5 @@ def shown_reply(verb: str, reply: str) -> str:
     if word in ("token", "kept"):
         return word
     if verb == "send" and word != "refused":
-        return f"(a delta of {len(reply)} bytes)"
+        return "(a delta)"
     return reply if len(reply) <= KEPT_REPLY else reply[:KEPT_REPLY] + " .."

@@ -97,7 +97,7 @@ class View:
                 "connections": status.get("connections"), "exchange": status.get("exchange"),
                 "records": self._records(status), "peers": self.peers(),
                 "refused": [[name, minute[name], ten[name]] for name in sorted(ten, key=lambda name: (-ten[name], name))],
-                "answers": list(self.tally.last)}
+                "answers": self.tally.last()}
 
     def _records(self, status: State) -> List[State]:
         shares, ages = self.shares(), self.ages()
