@@ -264,6 +264,16 @@ class Slow(unittest.TestCase):
         with unittest.mock.patch.object(page, "PATIENCE", 0.3):
             self.serve(tests)
 
+    def test_fault(self):
+        """A fault of the node's own is answered, and the next request too."""
+        async def tests(served, port):
+            with unittest.mock.patch.object(page, "metrics_text", side_effect=KeyError("x")), unittest.mock.patch.object(page, "report"):
+                text = await asyncio.to_thread(request, port, b"GET /metrics HTTP/1.1\r\nHost: localhost\r\n\r\n")
+            self.assertTrue(text.startswith("HTTP/1.1 500 "))
+            text = await asyncio.to_thread(request, port, b"GET /health HTTP/1.1\r\nHost: [::1]:1\r\n\r\n")
+            self.assertTrue(text.startswith("HTTP/1.1 200 "))
+        self.serve(tests)
+
     def test_too_many(self):
         async def tests(served, port):
             idle = [await asyncio.open_connection("127.0.0.1", port) for _ in range(page.CONNECTIONS + 8)]

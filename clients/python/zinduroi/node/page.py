@@ -96,12 +96,15 @@ class Page:
             except Wrong as wrong:
                 more = "Allow: GET\r\n" if wrong.status == 405 else ""
                 await self._write(writer, _answer(wrong.status, "text/plain; charset=utf-8", wrong.text + "\n", more))
+            except (OSError, EOFError, asyncio.TimeoutError):
+                raise
+            except Exception:
+                report(traceback.format_exc())
+                await self._write(writer, _answer(500, "text/plain; charset=utf-8", "the node has a fault\n"))
             writer.close()
             await asyncio.wait_for(writer.wait_closed(), PATIENCE)
         except (OSError, EOFError, asyncio.TimeoutError):
             pass
-        except Exception:
-            report(traceback.format_exc())
         finally:
             writer.transport.abort()
 
