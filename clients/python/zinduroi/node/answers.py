@@ -12,6 +12,7 @@ from .lines import BadWord, Call, Plain, Resume, parse, resumed_text
 from .link import Interrupted, Link
 from .waiting import Queues, Waiter
 from .report import report
+from .tally import Tally
 
 
 class Caller:
@@ -53,6 +54,8 @@ class Answers:
         self.records = records
         self.queues = Queues()
         self.desk = Desk(link, book, self.queues.wake)
+        self.tally = Tally()
+        self.group: Optional[str] = None
         self._more = more
         self._calls: Dict[str, Callable[[Caller, Call], Awaitable[str]]] = {
             "read": self._enter, "announce": self._enter, "write": self._write, "leave": self._leave, "fence": self._fence,
@@ -100,7 +103,8 @@ class Answers:
                 records[record] = {"rights": int(words[1]), "inside": int(words[3]), "unfinished": int(words[5]),
                                    "sessions": [[self.book.word_of(record, number), phase] for number, phase in stored_sessions(listed)],
                                    "queue": self.queues.words(record)}
-        sessions = [{"record": it.record, "holder": it.word, "number": it.number, "phase": it.phase, "since": it.since, "pid": it.pid,
+        sessions = [{"record": it.record, "holder": it.word, "number": it.number, "phase": it.phase, "since": it.since,
+                     "entered": it.entered, "pid": it.pid,
                      "connected": it.tied is not None, "kept": it.kept, "known": it.known} for it in self.book.sessions()]
         return {"site": self.link.site.site, "time": time.time(), "records": records, "callers": sessions, **self._more()}
 

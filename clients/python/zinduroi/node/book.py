@@ -36,7 +36,7 @@ class Session:
     """A session at the site. `phase` is `reader`, `waiting` or `writer` as the store last said, and `None` before it said
     anything. `tied` is the connection whose end ends it, if there is one. `known` is false where the book has no row: the session
     belongs to nobody. `ending` holds while somebody else than its caller ends it. `since` is in seconds since 1970, and `pid`
-    the process that had connected."""
+    the process that had connected. `entered` is when this node saw it admitted."""
 
     record: str
     number: int
@@ -49,6 +49,7 @@ class Session:
     ending: bool = False
     pid: int = 0
     since: float = 0.0
+    entered: Optional[float] = None
 
 
 class Book:

@@ -37,7 +37,8 @@ class SocketConfig:
 
 @dataclasses.dataclass(frozen=True)
 class Config:
-    """What the file says. `transports` make the transports of the exchange; `interval` is in seconds."""
+    """What the file says. `transports` make the transports of the exchange; `interval` is in seconds. `page` is host and
+    port of the page."""
 
     site: int
     store: pathlib.Path
@@ -50,6 +51,7 @@ class Config:
     interval: float
     every: int
     helps: bool
+    page: Optional[Tuple[str, int]] = None
 
 
 class Table:
@@ -193,6 +195,7 @@ def _config(top: Table) -> Config:
         interval=exchange.seconds("interval", 0.02, 86400, 1.0),
         every=exchange.number("every", 1, 1_000_000, 10),
         helps=exchange.take("helps", bool, "true or false", True),
+        page=_page(top.table("page")),
     )
     exchange.done()
     top.done()
@@ -208,6 +211,22 @@ def _socket(table: Table) -> SocketConfig:
     made = SocketConfig(path, int(mode, 8), table.text("group", None), table.number("connections", 1, 65536, 512))
     table.done()
     return made
+
+
+def _page(table: Table) -> Optional[Tuple[str, int]]:
+    address = table.text("address", None)
+    table.done()
+    if address is None:
+        return None
+    # Here, as a node without a page needs no addresses.
+    from ..peer_names import is_loopback, parse_address
+    try:
+        host, port = parse_address(address)
+    except ValueError as error:
+        raise table.fault("address", str(error)) from None
+    if not is_loopback(host) or port == 0:
+        raise table.fault("address", f"is not a port of loopback, as 127.0.0.1:7480 or [::1]:7480: {address!r}")
+    return host, port
 
 
 def _transports(top: Table, site: int, group: Optional[str]) -> List[Callable[[], Transport]]:

@@ -3,6 +3,7 @@ from __future__ import annotations
 
 import asyncio
 import socket
+import time
 import traceback
 from typing import Callable, List, Optional, Union
 
@@ -75,9 +76,11 @@ class Connection:
         for line in lines:
             if not self._stops():
                 self._busy = True
+                began = time.monotonic()
                 reply = f"refused {line}" if isinstance(line, str) else await self._answer(line)
                 # A wait that the stop of the node cut short is not over: its caller goes on at the next node.
                 if not (self._stops() and reply.startswith("timeout ")):
+                    self._answers.tally.answered(self.caller.pid, line, reply, time.monotonic() - began)
                     await self._send(reply)
                 self._busy = False
 

@@ -3,6 +3,7 @@
 Each `leave` of the node goes to the program from here."""
 from __future__ import annotations
 
+import time
 from typing import Callable, Optional
 
 from .book import Book, Session, stored_sessions
@@ -57,7 +58,7 @@ class Desk:
     def _note(self, session: Session, verb: str, reply: str) -> None:
         """Writes down what a reply says."""
         if reply == "admitted":
-            session.phase = "reader" if verb == "read" else "writer"
+            session.phase, session.entered = "reader" if verb == "read" else "writer", time.time()
         elif reply.startswith("announced "):
             session.phase = "waiting"
         elif verb == "leave" and (reply in _LEFT.values()):

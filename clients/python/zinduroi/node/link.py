@@ -2,12 +2,14 @@
 from __future__ import annotations
 
 import asyncio
-from typing import Callable, Optional, Sequence, Union
+import time
+from typing import Callable, Dict, Optional, Sequence, Tuple, Union
 
 from ..errors import ZinduroiError
 from ..service import Call
 from ..site import Path, Site
 from .report import report
+from .seats import sender_of
 
 # How many seconds a start waits for a store that another process still has: that of a node that was killed.
 STORE_WAIT = 10.0
@@ -20,18 +22,28 @@ class Interrupted(Exception):
 
 
 class NodeSite(Site):
-    """A site that tells when a delta has brought something new."""
+    """A site that tells when a delta has brought something new. `last_sent` is its own last delta, and `heard` the last one that each
+    site made, with the time when it was taken."""
 
     def __init__(self, store: Path, site: int, layout: Optional[Path], group: Optional[str], create: bool, log: Optional[Path],
                  program: Union[str, Sequence[str]]) -> None:
         super().__init__(store, site, layout, group, create, STORE_WAIT, log, program)
         self.merged: Callable[[], None] = lambda: None
+        self.last_sent: Optional[str] = None
+        self.heard: Dict[int, Tuple[str, float]] = {}
 
     def take(self, text: str) -> int:
         rose = super().take(text)
+        sender = sender_of(text)
+        if sender is not None:
+            self.heard[sender] = (text, time.monotonic())
         if rose > 0:
             self.merged()
         return rose
+
+    def send(self) -> str:
+        self.last_sent = super().send()
+        return self.last_sent
 
 
 class Link:
@@ -39,6 +51,7 @@ class Link:
 
     def __init__(self, site: NodeSite) -> None:
         self.site = site
+        self.timed: Callable[[bytes, float], None] = lambda line, seconds: None
         self._loop = asyncio.get_running_loop()
         self._opening = asyncio.Lock()
 
@@ -50,6 +63,7 @@ class Link:
         """The reply to a line that may be anything but have an LF in it."""
         future: asyncio.Future[Call] = self._loop.create_future()
         failure: Optional[ZinduroiError]
+        began = time.monotonic()
         try:
             self.site.submit(line, lambda call: self._deliver(future, call))
             call = await future
@@ -57,6 +71,7 @@ class Link:
         except ZinduroiError as closed:
             failure = closed
         if failure is None:
+            self.timed(line, time.monotonic() - began)
             return call.replies[0]
         await self._reopen(failure)
         raise Interrupted

@@ -2,11 +2,12 @@
 from __future__ import annotations
 
 import asyncio
+import collections
 import contextlib
 import resource
 import signal
 import socket
-from typing import Callable, Dict, Iterable, List, Optional, Set
+from typing import Any, Callable, Counter, Dict, Iterable, List, Optional, Set
 
 from ..exchange import Exchange
 from ..errors import StoreRefused
@@ -19,7 +20,9 @@ from .connection import Connection
 from .lines import Shared
 from .link import Link, NodeSite
 from .listening import HangUps, Listener
+from .page import Page
 from .report import report
+from .view import View
 
 # How many seconds a stop waits for lines in work.
 LAST_ANSWERS = 5.0
@@ -64,6 +67,14 @@ class Several:
             if listen is not None:
                 listen(listener)
 
+    def states(self) -> List[Any]:
+        """The states of the neighbours of all."""
+        return [state for transport in self._transports for state in getattr(transport, "states", list)()]
+
+    def failures(self) -> Counter[str]:
+        """How often connections to neighbours failed, by name."""
+        return sum((getattr(transport, "failures", collections.Counter)() for transport in self._transports), collections.Counter())
+
     def close(self) -> None:
         """Closes those that have to be closed."""
         for transport in self._transports:
@@ -83,6 +94,7 @@ class Node:
         self._exchange: Optional[Exchange] = None
         self._answers: Optional[Answers] = None
         self._hang_ups: Optional[HangUps] = None
+        self._page: Optional[Page] = None
         self._connections: Set[Connection] = set()
         self._shared = Shared()
         self._stopping = asyncio.Event()
@@ -109,7 +121,8 @@ class Node:
 
     async def _open(self, create: bool) -> None:
         config = self.config
-        records = tuple(record.name for record in read_layout(config.layout, config.program).records)
+        layout = read_layout(config.layout, config.program)
+        records = tuple(record.name for record in layout.records)
         self._site = NodeSite(config.store, config.site, config.layout, config.group, create, config.log, config.program)
         self._book = Book(f"{config.store}.sessions")
         link = Link(self._site)
@@ -125,6 +138,12 @@ class Node:
         self._site.merged = _on_loop(self._answers.queues.wake_all)
         self._start_exchange(self._site, records, create)
         _allow_files(config.socket.connections + OTHER_FILES)
+        self._answers.group = config.group
+        link.timed = self._answers.tally.called
+        if config.page is not None:
+            page = Page(config.page, View(self._answers, layout, self._site, self._exchange))
+            await page.start()
+            self._page = page
 
     def _start_exchange(self, site: NodeSite, records: Iterable[str], create: bool) -> None:
         """Starts the exchange. At the first start of a site a folder that is not there was mistyped."""
@@ -174,6 +193,8 @@ class Node:
             for task in late:
                 task.cancel()
             await asyncio.gather(*tasks, return_exceptions=True)
+        if self._page is not None:
+            await self._page.close()
         if self._exchange is not None:
             await asyncio.to_thread(self._exchange.close)
         if self._hang_ups is not None:
