@@ -38,7 +38,7 @@ def parser() -> argparse.ArgumentParser:
     lock.add_argument("--timeout", type=_seconds, metavar="S", help="how many seconds to wait (default: for ever)")
     lock.add_argument("--strict", action="store_true", help="end the command if the node ends")
     _add_socket(lock)
-    lock.add_argument("record", metavar="RECORD")
+    lock.add_argument("record", metavar="RECORD", help="the name of the record")
     ask = commands.add_parser("ask", help="send a line to the node", description=_ASK, formatter_class=raw)
     _add_socket(ask)
     ask.add_argument("line", nargs="+", metavar="LINE", help="the line, or its words")
