@@ -4,6 +4,7 @@ import contextlib
 import json
 import os
 import pathlib
+import re
 import shutil
 import signal
 import subprocess
@@ -13,6 +14,7 @@ import time
 import unittest
 from types import SimpleNamespace
 
+from zinduroi.command_line import status_text
 from zinduroi.node import NodeClient, NodeGone
 from zinduroi.node.book import Session
 from zinduroi.node.config import ConfigError, TransportNotMade, read_config
@@ -227,6 +229,51 @@ class Together(Nodes):
             self.start(site, exchange="helps = false\nshare = false")
         self.assertEqual(self.connect(1).ask("wait 4 read a x"), "timeout refused NoSeat 0")
         self.assertNotIn("sharing", self.status(0))
+
+
+class Documents(Nodes):
+    """The three files of docs/OPERATING.md, and its commands of openssl, with other ports in place of other machines."""
+
+    TEXT = PACKAGE.parent.parent / "docs" / "OPERATING.md"
+
+    def blocks(self):
+        """The indented blocks, by their first line."""
+        text = self.TEXT.read_text(encoding="utf-8")
+        text = text[text.index("## Sites that reach each other"):text.index("### What it promises")]
+        found = ["\n".join(line[4:] for line in part.strip("\n").split("\n")) for part in re.findall(r"(?:^(?:    .*)?\n)+", text, re.M) if part.strip()]
+        return {block.split("\n")[0]: block + "\n" for block in found}
+
+    def openssl(self, blocks):
+        commands = [first for first in blocks if "openssl" in first]
+        self.assertEqual(len(commands), 3)
+        for site in range(3):
+            for command in commands[0 if site == 0 else 1:]:
+                command = command.replace("site-1", f"site-{site}").replace(f"site-{site}.zinduroi", f"site-{site}.{GROUP}.zinduroi")
+                subprocess.run(["sh", "-c", command], cwd=self.folder, check=True, capture_output=True)
+
+    @unittest.skipUnless(TEXT.exists(), "there are no documents")
+    def test_three_nodes(self):
+        blocks, ports = self.blocks(), free_ports(3)
+        self.openssl(blocks)
+        (self.folder / "layout.toml").write_text(blocks["# layout.toml"])
+        for site in range(3):
+            text = blocks[f"# node.toml on 10.0.0.{10 + site}"].replace("0.0.0.0:7400", f"127.0.0.1:{ports[site]}").replace("node.sock", f"{site}.sock")
+            for far in range(3):
+                text = text.replace(f"10.0.0.{10 + far}:7400", f"127.0.0.1:{ports[far]}")
+            config = self.folder / f"{site}.toml"
+            config.write_text(f'program = "{PROGRAM}"\n' + text)
+            self.processes[site] = subprocess.Popen([sys.executable, "-W", "error", "-m", "zinduroi", "node", "--create", "--config", config],
+                                                    env={**os.environ, "PYTHONPATH": str(PACKAGE)}, stderr=subprocess.PIPE, text=True)
+        for site in range(3):
+            self.assertTrue(wait_for(lambda: self.answers(site)))
+        for site in (2, 0, 1):
+            client = self.connect(site)
+            self.assertEqual(client.ask("wait 50 write a -"), "admitted")
+            self.assertTrue(self.connect((site + 1) % 3).ask("wait 0 write a -").startswith("timeout refused MissingSeats"))
+            self.assertEqual(client.ask("leave a -"), "left writer")
+        for site in range(3):
+            text = status_text(self.status(site), time.time())
+            self.assertEqual(len(re.findall(r"^peer \d: connected for \d+ s, last text \d+ s ago$", text, re.M)), 2, text)
 
 
 class StubSite:

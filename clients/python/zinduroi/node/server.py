@@ -3,6 +3,7 @@ from __future__ import annotations
 
 import asyncio
 import contextlib
+import dataclasses
 import resource
 import signal
 import socket
@@ -84,6 +85,7 @@ class Node:
         self._exchange: Optional[Exchange] = None
         self._answers: Optional[Answers] = None
         self._hang_ups: Optional[HangUps] = None
+        self._transports: List[Transport] = []
         self._sharing: Optional[Tuple[Sharing, "asyncio.Task[None]"]] = None
         self._connections: Set[Connection] = set()
         self._shared = Shared()
@@ -132,7 +134,7 @@ class Node:
     async def _start_exchange(self, site: NodeSite, answers: Answers, layout: Layout, create: bool) -> None:
         """Starts the exchange, and seat sharing where a transport can. At the first start of a site a folder that is not there was
         mistyped. A start that waits for peers leaves the loop to others."""
-        transports = self._make_transports()
+        self._transports = transports = self._make_transports()
         if transports:
             transport = transports[0] if len(transports) == 1 else Several(transports)
             self._exchange = Exchange(site, transport, self.config.interval, self.config.every, answers.records)
@@ -214,6 +216,9 @@ class Node:
         if self._exchange is not None:
             failure = self._exchange.failure
             state["exchange"] = {**vars(self._exchange.tally()), "failure": None if failure is None else str(failure)}
+        peers = [dataclasses.asdict(peer) for transport in self._transports for peer in getattr(transport, "states", list)()]
+        if peers:
+            state["peers"] = peers
         if self._sharing is not None:
             state["sharing"] = self._sharing[0].state()
         return state
