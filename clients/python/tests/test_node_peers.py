@@ -12,6 +12,7 @@ import sys
 import tempfile
 import time
 import unittest
+import unittest.mock
 from types import SimpleNamespace
 
 from zinduroi.command_line import status_text
@@ -345,6 +346,7 @@ class Rounds(unittest.TestCase):
         self.now += 5.1
         self.round()
         self.assertEqual(self.peers.said[-1], {})
+        self.assertEqual(self.sharing._refused, {"a": {}, "b": {}})
 
     def test_who_waits_lacks_too(self):
         """Those that wait behind a reader that lacks a seat count as long as they wait; not those behind a writer."""
@@ -389,6 +391,9 @@ class Rounds(unittest.TestCase):
             self.now += 10
             self.assertEqual(self.round(), lines)
             self.site.replies = before
+        self.sharing.note(self.session("x"), "read", "refused NoSeat 0")
+        self.now += 4
+        self.assertEqual(self.round(), ["show a"])
         self.assertEqual((self.site.told, self.sharing.state()["gave"]), (0, {}))
 
     def test_what_was_used_stays(self):
@@ -403,6 +408,17 @@ class Rounds(unittest.TestCase):
         self.assertEqual(self.round()[-1], "give a 1 1")
         self.now += 61
         self.assertEqual(self.round()[-1], "give a 1 5")
+        for _ in range(8):
+            self.sharing.note(reader, "read", "admitted")
+            self.sharing.note(reader, "leave", "left reader")
+        self.now += 2
+        self.assertEqual(self.round()[-1], "give a 1 5")
+        self.site.sessions_here = [self.session(str(at), "reader") for at in range(6)] + [self.session("w", "waiting")] * 4
+        self.now += 2
+        self.round()
+        self.site.sessions_here = []
+        self.now += 2
+        self.assertEqual(self.round()[-1], "give a 1 2")
 
     def test_faults_are_reported_once(self):
         async def work():
@@ -411,7 +427,7 @@ class Rounds(unittest.TestCase):
             task.cancel()
             await asyncio.gather(task, return_exceptions=True)
         self.peers.lacks = lambda: 1 / 0
-        with tempfile.TemporaryFile("w+") as errors, contextlib.redirect_stderr(errors):
+        with unittest.mock.patch("zinduroi.node.sharing_task.PERIOD", 0.01), tempfile.TemporaryFile("w+") as errors, contextlib.redirect_stderr(errors):
             asyncio.run(work())
             errors.seek(0)
             self.assertEqual(errors.read(), "zinduroi: seats are not shared: ZeroDivisionError: division by zero\n")
