@@ -17,12 +17,13 @@ loopback; and somebody tries to get in, by random bytes and with a certificate o
 - `judge` finds the logs of the sites consistent, if they are not too long for it;
 - nobody got in from outside.
 
-Prints what was done, how many were admitted, and how long they waited, and ends with 0 where all of that holds. With --plant the
-nodes have a wrong rule, and the check has to fail:
+Prints what was done, how many were admitted, and how long they waited, and ends with 0 where all of that holds. With --plant
+something is wrong, in the first three the nodes' rules, and the check has to fail:
 
     restart-leaves    a node that is started again leaves the sessions of before
     end-forgotten     the end of a connection leaves nothing
-    process-ends      a session ends with the process that connected, whoever else holds the connection"""
+    process-ends      a session ends with the process that connected, whoever else holds the connection
+    insider           over `Peers`, who tries to get in has a certificate of the nodes' own authority"""
 import argparse
 import asyncio
 import collections
@@ -260,6 +261,11 @@ class Caller:
         self.process = subprocess.Popen(words, stdin=subprocess.DEVNULL, stdout=subprocess.DEVNULL, stderr=self.world.errors,
                                         start_new_session=True, env={**os.environ, "PYTHONPATH": str(TOP / "clients/python")})
 
+    def start_again(self):
+        """Starts it, unless it was started meanwhile, as the next run of `lock`."""
+        if not self.is_alive():
+            self.start()
+
     def lock_words(self, socket):
         chance = self.world.chance
         record, reads = chance.choice("ab"), chance.random() < 0.7
@@ -411,7 +417,7 @@ class World:
         caller = self.chance.choice([it for it in self.callers if it.site == node.site])
         if caller.is_alive():
             caller.kill()
-            self.later(seconds, caller.start)
+            self.later(seconds, caller.start_again)
 
     def pause_caller(self, node, seconds):
         caller = self.chance.choice([it for it in self.callers if it.site == node.site])
@@ -633,13 +639,13 @@ def main():
     parser.add_argument("--seconds", type=float, default=120)
     parser.add_argument("--seed", type=int, default=1)
     parser.add_argument("--folder", type=pathlib.Path, help="where stores, logs and notes stay")
-    parser.add_argument("--plant", choices=["restart-leaves", "end-forgotten", "process-ends"])
+    parser.add_argument("--plant", choices=["restart-leaves", "end-forgotten", "process-ends", "insider"])
     given = parser.parse_args()
     given.program = os.path.abspath(given.program)
     folder = given.folder or pathlib.Path(tempfile.mkdtemp(prefix="node_storm_"))
     folder.mkdir(exist_ok=True)
     try:
-        with contextlib.closing(links(given.transport, given.network, folder, SITES)) as between:
+        with contextlib.closing(links(given.transport, given.network, folder, SITES, given.plant == "insider")) as between:
             return 0 if storm(folder, given, between) else 1
     finally:
         if given.folder is None:

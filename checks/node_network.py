@@ -62,12 +62,12 @@ class FolderLinks:
 class PeersLinks:
     """`Peers` with certificates that are made here; `address` tells where one node reaches another one."""
 
-    def __init__(self, folder, sites):
+    def __init__(self, folder, sites, insider):
         self.folder, self.sites = folder, range(sites)
         ours, theirs = Authority(folder / "ours"), Authority(folder / "theirs")
         self.authority = ours.certificate
         self.given = [ours.give(f"site-{site}.{GROUP}.zinduroi") for site in self.sites]
-        self.other = theirs.give(f"site-0.{GROUP}.zinduroi")
+        self.other = (ours if insider else theirs).give(f"site-0.{GROUP}.zinduroi")
         self.attacker = None
 
     def table(self, site):
@@ -90,7 +90,7 @@ class PeersLinks:
         found = json.loads((self.folder / "attack").read_text()) if status == 0 else {}
         print("who tried to get in:", ", ".join(f"{what} {count}" for what, count in sorted(found.items())))
         wrong = [f"attempts that were not made: {kind}" for kind in KINDS if found.get(f"{kind}, turned away", 0) == 0]
-        return wrong + [f"let in: {what}" for what in found if what.endswith("let in")]
+        return wrong + [f"let in: {what.removesuffix(', let in')}" for what in found if what.endswith("let in")]
 
     def close(self):
         if self.attacker is not None and self.attacker.poll() is None:
@@ -103,8 +103,8 @@ class ProxyLinks(PeersLinks):
 
     name = "Peers over proxies on loopback"
 
-    def __init__(self, folder, sites):
-        super().__init__(folder, sites)
+    def __init__(self, folder, sites, insider):
+        super().__init__(folder, sites, insider)
         self.ports = free_ports(sites)
         self.middles = {(near, far): Middle(self.ports[far]) for near in self.sites for far in self.sites if near != far}
         self.away = set()
@@ -143,14 +143,14 @@ class NamespaceLinks(PeersLinks):
 
     name = "Peers over namespaces of the network"
 
-    def __init__(self, folder, sites):
+    def __init__(self, folder, sites, insider):
         self.hub, self.made, self.attacker = f"zinduroi{os.getpid()}", [], None
         try:
             self._make(sites)
         except BaseException:
             self.close()
             raise
-        super().__init__(folder, sites)
+        super().__init__(folder, sites, insider)
 
     def _make(self, sites):
         self._add(self.hub)
@@ -198,17 +198,18 @@ def run(*words):
     subprocess.run(words, check=True, capture_output=True, stdin=subprocess.DEVNULL)
 
 
-def links(transport, network, folder, sites):
-    """What the options ask for. Without a word for the network, namespaces where they can be made."""
+def links(transport, network, folder, sites, insider):
+    """What the options ask for. Without a word for the network, namespaces where they can be made. An `insider` who tries to get in
+    has a certificate of the nodes' own authority."""
     if transport == "folder":
         return FolderLinks(folder, sites)
     if network != "loopback":
         try:
-            return NamespaceLinks(folder, sites)
+            return NamespaceLinks(folder, sites, insider)
         except (OSError, subprocess.CalledProcessError) as error:
             if network == "namespaces":
                 raise SystemExit(f"no namespaces: {getattr(error, 'stderr', None) or error}") from None
-    return ProxyLinks(folder, sites)
+    return ProxyLinks(folder, sites, insider)
 
 
 # Who tries to get in, as a process of its own
