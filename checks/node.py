@@ -1,25 +1,29 @@
 #!/usr/bin/env python3
 """Three nodes on one machine, with 32 callers each, while links are cut and nodes, services and callers are killed.
 
-    checks/node.py [--program PATH] [--seconds 120] [--seed 1] [--folder FOLDER] [--plant NAME]
+    checks/node.py [--transport folder|peers] [--program PATH] [--seconds 120] [--seed 1] [--folder FOLDER] [--plant NAME]
 
 The callers are programs in Python, C (compiled by `cc`) and bash (over `nc`, where it is installed), and runs of `zinduroi lock`. A
 seed decides what is done to whom; when it hits depends on the machine. Each caller writes down when it was inside: from the
-reply that admitted it to the moment before it leaves, or before it is killed. It holds in the end that
+reply that admitted it to the moment before it leaves, or before it is killed. With `--transport peers` the nodes reach each other by
+`Peers`, with certificates that are made here, in namespaces of the network where `ip` can make these, else over proxies on
+loopback; and somebody tries to get in, by random bytes and with a certificate of another authority. It holds in the end that
 
 - nobody was inside a record together with a writer, at any site, by the callers' own clocks;
 - no answered call was lost: behind each kill of a node a caller found its session by its token, and none that it had left;
 - every session of a connection that ended while its node ran was left, and no other: not that of a `lock` that was killed while
   its command lived, and not those of a node that was killed; an operator ends those of callers that are dead;
 - once the links are whole and the callers have ended, all seats are free;
-- `judge` finds the logs of the sites consistent, if they are not too long for it.
+- `judge` finds the logs of the sites consistent, if they are not too long for it;
+- nobody got in from outside.
 
-Prints what was done, how many were admitted, and how long they waited, and ends with 0 where all of that holds. With --plant the
-nodes have a wrong rule, and the check has to fail:
+Prints what was done, how many were admitted, and how long they waited, and ends with 0 where all of that holds. With --plant
+something is wrong, in the first three the nodes' rules, and the check has to fail:
 
     restart-leaves    a node that is started again leaves the sessions of before
     end-forgotten     the end of a connection leaves nothing
-    process-ends      a session ends with the process that connected, whoever else holds the connection"""
+    process-ends      a session ends with the process that connected, whoever else holds the connection
+    insider           over `Peers`, who tries to get in has a certificate of the nodes' own authority"""
 import argparse
 import asyncio
 import collections
@@ -38,6 +42,7 @@ import time
 TOP = pathlib.Path(__file__).resolve().parent.parent
 sys.path.insert(0, str(TOP / "clients/python"))
 
+from node_network import links  # noqa: E402
 from zinduroi.node import NodeClient, NodeGone  # noqa: E402
 
 SITES = 3
@@ -256,6 +261,11 @@ class Caller:
         self.process = subprocess.Popen(words, stdin=subprocess.DEVNULL, stdout=subprocess.DEVNULL, stderr=self.world.errors,
                                         start_new_session=True, env={**os.environ, "PYTHONPATH": str(TOP / "clients/python")})
 
+    def start_again(self):
+        """Starts it, unless it was started meanwhile, as the next run of `lock`."""
+        if not self.is_alive():
+            self.start()
+
     def lock_words(self, socket):
         chance = self.world.chance
         record, reads = chance.choice("ab"), chance.random() < 0.7
@@ -300,20 +310,18 @@ class Machine:
     def __init__(self, world, site):
         self.world, self.site = world, site
         self.socket = world.folder / f"{site}.sock"
-        self.link = world.folder / f"link_{site}"
-        self.link.symlink_to("deltas")
         self.config = world.folder / f"{site}.toml"
         self.config.write_text(
             f'site = {site}\nstore = "{site}.db"\nlayout = "layout.toml"\ngroup = "storm"\nlog = "{site}.log"\n'
             f'program = "{world.given.program}"\n'
-            f'[socket]\npath = "{site}.sock"\n[exchange]\ninterval = 0.1\n[[transport]]\nkind = "folder"\npath = "link_{site}"\n')
+            f'[socket]\npath = "{site}.sock"\n[exchange]\ninterval = 0.1\n{world.links.table(site)}')
         self.process = None
         self.began = 0.0
         self.start("--create")
 
     def start(self, *more):
         self.began = time.time()
-        words = [sys.executable, __file__, "--run-node", self.world.given.plant or "-", str(self.config), *more]
+        words = [*self.world.links.words(self.site), sys.executable, __file__, "--run-node", self.world.given.plant or "-", str(self.config), *more]
         self.process = subprocess.Popen(words, stdin=subprocess.DEVNULL, stderr=self.world.errors)
 
     def ask(self, line):
@@ -334,18 +342,17 @@ class Machine:
         self.process.wait()
 
     def cut(self):
-        self.link.unlink(missing_ok=True)
+        self.world.links.cut(self.site)
 
     def mend(self):
-        if not self.link.is_symlink():
-            self.link.symlink_to("deltas")
+        self.world.links.mend(self.site)
 
 
 class World:
     """All nodes and callers of a run."""
 
-    def __init__(self, folder, given):
-        self.folder, self.given = folder, given
+    def __init__(self, folder, given, between):
+        self.folder, self.given, self.links = folder, given, between
         self.chance = random.Random(given.seed)
         self.stop = folder / "stop"
         self.errors = (folder / "errors").open("a")
@@ -356,7 +363,6 @@ class World:
             f'[[record]]\nname = "{name}"\nseats = {seats}\nhome = {home}\nproblem = {problem}\n'
             for name, (seats, home, problem) in RECORDS.items())
         (folder / "layout.toml").write_text(text, encoding="utf-8")
-        (folder / "deltas").mkdir()
         subprocess.run(["cc", "-O1", "-o", folder / "node_caller", TOP / "checks/node_caller.c"], check=True)
         self.nodes = []
         self.nodes += [Machine(self, site) for site in range(SITES)]
@@ -411,7 +417,7 @@ class World:
         caller = self.chance.choice([it for it in self.callers if it.site == node.site])
         if caller.is_alive():
             caller.kill()
-            self.later(seconds, caller.start)
+            self.later(seconds, caller.start_again)
 
     def pause_caller(self, node, seconds):
         caller = self.chance.choice([it for it in self.callers if it.site == node.site])
@@ -500,6 +506,7 @@ class World:
         if late:
             self.wrong.append(f"callers do not end: {late}")
         self.settle()
+        self.wrong += self.links.faults()
         self.close()
 
     def close(self):
@@ -579,9 +586,9 @@ def judge(world):
     return f"{verdict[0]}, of {len(logs)} bytes"
 
 
-def storm(folder, given):
+def storm(folder, given, between):
     """The whole of it. Gives whether all went well."""
-    world = World(folder, given)
+    world = World(folder, given, between)
     try:
         end = time.monotonic() + 60
         while any(node.ask("token") is None for node in world.nodes):
@@ -589,6 +596,7 @@ def storm(folder, given):
                 raise SystemExit(f"the nodes do not start: {(folder / 'errors').read_text()}")
             time.sleep(0.1)
         began = time.monotonic()
+        world.links.attack(world.stop, given.seed)
         for caller in world.callers:
             caller.start()
         world.disturb()
@@ -607,7 +615,7 @@ def storm(folder, given):
 
 
 def tell(world, found, waits, seconds, verdict):
-    print(f"seed {world.given.seed}, {seconds:.0f} s:", ", ".join(f"{what} {count}" for what, count in sorted(world.done.items())))
+    print(f"{world.links.name}; seed {world.given.seed}, {seconds:.0f} s:", ", ".join(f"{what} {count}" for what, count in sorted(world.done.items())))
     by_kind = collections.Counter((visit[4].rstrip("0123456789."), visit[3]) for visit in found)
     print("admitted:", ", ".join(f"{count} {phase}s in {kind}" for (kind, phase), count in sorted(by_kind.items())))
     print("lock ended with:", dict(sorted(world.statuses.items(), key=str)))
@@ -626,16 +634,19 @@ def main():
         return PythonCaller(*sys.argv[2:]).work()
     parser = argparse.ArgumentParser(description=__doc__, formatter_class=argparse.RawDescriptionHelpFormatter)
     parser.add_argument("--program", default=str(TOP / "crates/seat_cli/out/seat_cli"))
+    parser.add_argument("--transport", choices=["folder", "peers"], default="folder")
+    parser.add_argument("--network", choices=["namespaces", "loopback"], help="where `Peers` run (default: namespaces where they can be made)")
     parser.add_argument("--seconds", type=float, default=120)
     parser.add_argument("--seed", type=int, default=1)
     parser.add_argument("--folder", type=pathlib.Path, help="where stores, logs and notes stay")
-    parser.add_argument("--plant", choices=["restart-leaves", "end-forgotten", "process-ends"])
+    parser.add_argument("--plant", choices=["restart-leaves", "end-forgotten", "process-ends", "insider"])
     given = parser.parse_args()
     given.program = os.path.abspath(given.program)
     folder = given.folder or pathlib.Path(tempfile.mkdtemp(prefix="node_storm_"))
     folder.mkdir(exist_ok=True)
     try:
-        return 0 if storm(folder, given) else 1
+        with contextlib.closing(links(given.transport, given.network, folder, SITES, given.plant == "insider")) as between:
+            return 0 if storm(folder, given, between) else 1
     finally:
         if given.folder is None:
             shutil.rmtree(folder)

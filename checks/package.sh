@@ -71,6 +71,7 @@ for name in names:
 print(len(names), "modules imported")'
 for page in seat_cli zinduroi; do
     [ -f "$root/usr/share/man/man1/$page.1.gz" ] || fail "no page of the manual for $page"
+    [ -f "$root/usr/share/bash-completion/completions/$page" ] || fail "no completions for $page"
 done
 [ ! -e "$root/etc/systemd/system/multi-user.target.wants/zinduroi-node.service" ] || fail "the unit is enabled"
 

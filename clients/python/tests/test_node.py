@@ -114,7 +114,7 @@ class Configs(Case):
                 right + "[exchange]\ninterval = 0\n": "exchange.interval: is not from 0.02 to 86400 seconds: 0",
                 right + "[exchange]\nhelp = true\n": "exchange.help: is not a key of this table",
                 "transport = 7\n" + right: "transport: is not an array of tables",
-                right + '[[transport]]\nkind = "pigeon"\n': "transport 1.kind: is none of command, folder, mqtt: 'pigeon'",
+                right + '[[transport]]\nkind = "pigeon"\n': "transport 1.kind: is none of command, folder, mqtt, peers: 'pigeon'",
                 right + '[[transport]]\nkind = "folder"\n': "transport 1.path: is missing",
                 right + '[[transport]]\nkind = "folder"\npath = "d"\n[[transport]]\nkind = "folder"\npath = "d"\nx = 1\n':
                     "transport 2.x: is not a key of this table"}.items():

@@ -38,7 +38,7 @@ def parser() -> argparse.ArgumentParser:
     lock.add_argument("--timeout", type=_seconds, metavar="S", help="how many seconds to wait (default: for ever)")
     lock.add_argument("--strict", action="store_true", help="end the command if the node ends")
     _add_socket(lock)
-    lock.add_argument("record", metavar="RECORD")
+    lock.add_argument("record", metavar="RECORD", help="the name of the record")
     ask = commands.add_parser("ask", help="send a line to the node", description=_ASK, formatter_class=raw)
     _add_socket(ask)
     ask.add_argument("line", nargs="+", metavar="LINE", help="the line, or its words")
@@ -147,5 +147,14 @@ def status_text(state: Dict[str, Any], now: float) -> str:
             of = f"entered {now - it['since']:.0f} s ago by process {it['pid']}" if it["known"] else "of nobody that this node knows"
             kept = ", kept" if it["known"] and it["kept"] else ""
             lines.append(f"without a connection: {it['record']} {it['holder']} {it['phase']}, {of}{kept}")
+    lines += [_peer_text(it) for it in state.get("peers", [])]
     failure = state.get("exchange", {}).get("failure")
     return "\n".join(lines + ([f"exchange: {failure}"] if failure else []))
+
+
+def _peer_text(peer: Dict[str, Any]) -> str:
+    """A peer of the transport `Peers`."""
+    here = f"connected for {peer['connected']:.0f} s" if peer["connected"] is not None else "not connected"
+    age = f", last text {peer['age']:.0f} s ago" if peer["age"] is not None else ", no text yet"
+    failure = f" ({peer['failure']})" if peer["connected"] is None and peer["failure"] else ""
+    return f"peer {peer['site']}: {here}{failure}{age}"

@@ -8,11 +8,15 @@ import os
 import pathlib
 import re
 import shutil
+import socket
 import tomllib
-from typing import Any, Callable, Dict, List, Optional, Tuple
+from typing import TYPE_CHECKING, Any, Callable, Dict, List, Optional, Tuple
 
 from ..errors import ZinduroiError
 from ..transports import Command, Folder, Mqtt, Transport
+
+if TYPE_CHECKING:
+    from ..peer_names import Peer
 
 # The most bytes of a Unix socket's path on Linux, without the zero byte behind it.
 LONGEST_PATH = 107
@@ -37,8 +41,8 @@ class SocketConfig:
 
 @dataclasses.dataclass(frozen=True)
 class Config:
-    """What the file says. `transports` make the transports of the exchange; `interval` is in seconds. `page` is host and
-    port of the page."""
+    """What the file says. `transports` make the transports of the exchange, and raise `ConfigError` or `TransportNotMade`; `interval`
+    is in seconds. `page` is host and port of the page."""
 
     site: int
     store: pathlib.Path
@@ -51,7 +55,12 @@ class Config:
     interval: float
     every: int
     helps: bool
+    share: bool
     page: Optional[Tuple[str, int]] = None
+
+
+class TransportNotMade(ZinduroiError):
+    """A transport can't be made now: a file can't be read, or a port is in use. The text names the place and the cause."""
 
 
 class Table:
@@ -139,26 +148,43 @@ def _command(table: Table) -> Callable[[], Transport]:
 
 def _peers(table: Table, site: int, group: Optional[str]) -> Callable[[], Transport]:
     # Here, as no other command needs TLS.
-    from ..peers import Peer, Peers
+    from ..peers import Peers
 
     plain, listen = table.take("plain", bool, "true or false", False), table.text("listen", None)
-    files = [table.path(name, None) for name in ("authority", "certificate", "key")]
-    peers = {}
+    authority, certificate, key = (table.path(name, None) for name in ("authority", "certificate", "key"))
+    peers: "Dict[int, Peer]" = {}
     for at, values in enumerate(table.take("peer", list, "an array of tables", []), 1):
+        if not isinstance(values, dict):
+            raise table.fault(f"peer {at}", "is not a table")
         one = Table(table.file, f"{table.place}.peer {at}", values)
-        number, address = one.number("site", 0, 15), one.text("address", None)
-        carries = one.take("carries", list, "an array of sites", [])
-        if not all(type(carried) is int for carried in carries):
-            raise one.fault("carries", "is not an array of sites")
-        peers[number] = Peer(address, carries)
-        one.done()
+        number, peer = _peer(one)
+        if number in peers:
+            raise one.fault("site", f"is that of another peer too: {number}")
+        peers[number] = peer
+    return lambda: _made(table, lambda: Peers(site, peers, listen, authority, certificate, key, group, plain))
 
-    def make() -> Transport:
-        try:
-            return Peers(site, peers, listen, *files, group=group, plain=plain)
-        except ValueError as error:
-            raise ConfigError(f"{table.file}: {table.place}: {error}") from None
-    return make
+
+def _peer(table: Table) -> "Tuple[int, Peer]":
+    """A peer with its site."""
+    from ..peer_names import Peer
+
+    number, address = table.number("site", 0, 15), table.text("address", None)
+    carries = table.take("carries", list, "an array of sites", [])
+    if not all(type(carried) is int for carried in carries):
+        raise table.fault("carries", "is not an array of sites")
+    table.done()
+    return number, Peer(address, carries)
+
+
+def _made(table: Table, make: Callable[[], Transport]) -> Transport:
+    """A transport. What the table can't mean is a `ConfigError`, and what may be otherwise at the next start a `TransportNotMade`."""
+    try:
+        return make()
+    except ValueError as error:
+        raise table.fault("", str(error)) from None
+    except OSError as error:
+        fault = table.fault("listen" if isinstance(error, socket.gaierror) else "", str(error))
+        raise TransportNotMade(str(fault)) from None
 
 
 # Each kind of transport with the function that reads its table. The transport is made once the site is open.
@@ -195,6 +221,7 @@ def _config(top: Table) -> Config:
         interval=exchange.seconds("interval", 0.02, 86400, 1.0),
         every=exchange.number("every", 1, 1_000_000, 10),
         helps=exchange.take("helps", bool, "true or false", True),
+        share=exchange.take("share", bool, "true or false", True),
         page=_page(top.table("page")),
     )
     exchange.done()
@@ -230,7 +257,7 @@ def _page(table: Table) -> Optional[Tuple[str, int]]:
 
 
 def _transports(top: Table, site: int, group: Optional[str]) -> List[Callable[[], Transport]]:
-    readers = {**TRANSPORTS, "peers": lambda table: _peers(table, site, group)}
+    readers: Dict[str, Callable[[Table], Callable[[], Transport]]] = {**TRANSPORTS, "peers": lambda table: _peers(table, site, group)}
     makers = []
     for at, values in enumerate(top.take("transport", list, "an array of tables", []), 1):
         if not isinstance(values, dict):

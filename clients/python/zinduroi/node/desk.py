@@ -13,12 +13,14 @@ _LEFT = {"reader": "left reader", "writer": "left writer", "waiting": "withdrawn
 
 
 class Desk:
-    """Asks for sessions. `changed` is called with a record when a session of it has ended, which may let others in."""
+    """Asks for sessions. `changed` is called with a record when a session of it has ended, which may let others in. `asked` is
+    called with each session, verb and reply."""
 
     def __init__(self, link: Link, book: Book, changed: Callable[[str], None]) -> None:
         self.link = link
         self.book = book
         self._changed = changed
+        self.asked: Callable[[Session, str, str], None] = lambda session, verb, reply: None
 
     async def ask(self, session: Session, verb: str) -> str:
         """The reply to `read`, `announce`, `write` or `leave` of a session. If the service ends meanwhile, the store tells whether
@@ -66,3 +68,4 @@ class Desk:
             self._changed(session.record)
         if reply in ("left writer", "withdrawn") or reply.startswith("announced "):
             self.link.site.tell_listeners()
+        self.asked(session, verb, reply)

@@ -4,14 +4,15 @@ from __future__ import annotations
 import asyncio
 import collections
 import contextlib
+import dataclasses
 import resource
 import signal
 import socket
-from typing import Any, Callable, Counter, Dict, Iterable, List, Optional, Set
+from typing import Any, Callable, Counter, Dict, Iterable, List, Optional, Set, Tuple
 
 from ..exchange import Exchange
 from ..errors import StoreRefused
-from ..site import read_layout
+from ..site import Layout, read_layout
 from ..transports import Transport
 from .answers import Answers
 from .book import Book, stored_sessions
@@ -22,6 +23,7 @@ from .link import Link, NodeSite
 from .listening import HangUps, Listener
 from .page import Page
 from .report import report
+from .sharing_task import Sharer, Sharing
 from .view import View
 
 # How many seconds a stop waits for lines in work.
@@ -95,6 +97,8 @@ class Node:
         self._answers: Optional[Answers] = None
         self._hang_ups: Optional[HangUps] = None
         self._page: Optional[Page] = None
+        self._transports: List[Transport] = []
+        self._sharing: Optional[Tuple[Sharing, "asyncio.Task[None]"]] = None
         self._connections: Set[Connection] = set()
         self._shared = Shared()
         self._stopping = asyncio.Event()
@@ -136,7 +140,7 @@ class Node:
         self._answers = Answers(link, self._book, records, self._more)
         self._hang_ups = HangUps()
         self._site.merged = _on_loop(self._answers.queues.wake_all)
-        self._start_exchange(self._site, records, create)
+        await self._start_exchange(self._site, self._answers, layout, create)
         _allow_files(config.socket.connections + OTHER_FILES)
         self._answers.group = config.group
         link.timed = self._answers.tally.called
@@ -145,16 +149,32 @@ class Node:
             await page.start()
             self._page = page
 
-    def _start_exchange(self, site: NodeSite, records: Iterable[str], create: bool) -> None:
-        """Starts the exchange. At the first start of a site a folder that is not there was mistyped."""
-        transports = [make() for make in self.config.transports]
+    async def _start_exchange(self, site: NodeSite, answers: Answers, layout: Layout, create: bool) -> None:
+        """Starts the exchange, and seat sharing where a transport can. At the first start of a site a folder that is not there was
+        mistyped. A start that waits for peers leaves the loop to others."""
+        self._transports = transports = self._make_transports()
         if transports:
             transport = transports[0] if len(transports) == 1 else Several(transports)
-            self._exchange = Exchange(site, transport, self.config.interval, self.config.every, tuple(records))
+            self._exchange = Exchange(site, transport, self.config.interval, self.config.every, answers.records)
             self._exchange.helps = self.config.helps
-            self._exchange.start(patient=not create)
+            await asyncio.to_thread(self._exchange.start, patient=not create)
             if self._exchange.tally().failed:
                 report("a transport fails; it is tried again")
+        sharers = [transport for transport in transports if isinstance(transport, Sharer)]
+        if sharers and self.config.share:
+            sharing = Sharing(answers, sharers[0], layout)
+            self._sharing = sharing, asyncio.create_task(sharing.run())
+
+    def _make_transports(self) -> List[Transport]:
+        """Makes all transports, or none."""
+        made: List[Transport] = []
+        try:
+            for make in self.config.transports:
+                made.append(make())
+        except BaseException:
+            Several(made).close()
+            raise
+        return made
 
     async def _accept(self, listening: socket.socket) -> None:
         loop = asyncio.get_running_loop()
@@ -195,6 +215,9 @@ class Node:
             await asyncio.gather(*tasks, return_exceptions=True)
         if self._page is not None:
             await self._page.close()
+        if self._sharing is not None:
+            self._sharing[1].cancel()
+            await asyncio.gather(self._sharing[1], return_exceptions=True)
         if self._exchange is not None:
             await asyncio.to_thread(self._exchange.close)
         if self._hang_ups is not None:
@@ -213,6 +236,11 @@ class Node:
         if self._exchange is not None:
             failure = self._exchange.failure
             state["exchange"] = {**vars(self._exchange.tally()), "failure": None if failure is None else str(failure)}
+        peers = [dataclasses.asdict(peer) for transport in self._transports for peer in getattr(transport, "states", list)()]
+        if peers:
+            state["peers"] = peers
+        if self._sharing is not None:
+            state["sharing"] = self._sharing[0].state()
         return state
 
 

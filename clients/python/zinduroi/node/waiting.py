@@ -5,6 +5,7 @@ session of this site ended, a delta brought something new, or the one before has
 from __future__ import annotations
 
 import asyncio
+import itertools
 from typing import Callable, Dict, List, Optional
 
 from .book import Session
@@ -60,6 +61,11 @@ class Queues:
     def words(self, record: str) -> List[str]:
         """The holders that wait for a record, in their order."""
         return [waiter.session.word for waiter in self._queues.get(record, [])]
+
+    def first_readers(self, record: str) -> List[Session]:
+        """The readers that wait for a record before any writer, in their order."""
+        waiters = itertools.takewhile(lambda waiter: waiter.verb == "read", self._queues.get(record, []))
+        return [waiter.session for waiter in waiters]
 
     async def _until_admitted(self, desk: Desk, waiter: Waiter, queue: List[Waiter], end: float, once: bool) -> str:
         last: Optional[str] = None
