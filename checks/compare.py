@@ -5,6 +5,7 @@
     compare.py site PROGRAM [CALLS] [SEED]     each run over a store, and what the store then holds
     compare.py judge PROGRAM [LOGS] [SEED]     the logs of forged_logs.py, then so many forged ones and some honest ones
     compare.py run PROGRAM [RUNS] [SEED]       each script: its closed logs, and what `judge` says
+    compare.py rebuild PROGRAM [INPUTS] [SEED] `regroup` and `rebuild`, as compare_rebuild.py says
 
 Stops at the first difference and leaves its files; else tells how often each reply or verdict came. Some runs
 of `site` are killed: the next one goes on behind some call, and behind all that were answered. The
@@ -24,6 +25,7 @@ from contextlib import closing
 from itertools import zip_longest
 from pathlib import Path
 
+import compare_rebuild
 import forged_logs
 import random_logs as logs
 import random_scripts as scripts
@@ -263,7 +265,8 @@ def lines_of(lines, s):
 
 
 if __name__ == "__main__":
-    default = {"play": (play, "100000", "1"), "site": (site, "20000", "1"), "judge": (judge, "10000", "1"), "run": (sites_at_once, "200", "1")}
+    default = {"play": (play, "100000", "1"), "site": (site, "20000", "1"), "judge": (judge, "10000", "1"), "run": (sites_at_once, "200", "1"),
+               "rebuild": (compare_rebuild.rebuild, "3000", "1")}
     if not 3 <= len(sys.argv) <= 5 or sys.argv[1] not in default:
         sys.exit(__doc__)
     command, *numbers = default[sys.argv[1]]
@@ -272,7 +275,7 @@ if __name__ == "__main__":
     command(sys.argv[2], number, random.Random(seed), folder, counts)
     for name, times in counts.most_common():
         print(f"{times:9,} {name}")
-    told = counts.total() - counts["(runs killed)"] - counts[NOT_ALONE]
-    noun, seconds = "logs" if command is judge else "replies", time.monotonic() - began
+    told = counts.total() - counts["(runs killed)"] - counts[NOT_ALONE] - counts["(sites moved)"]
+    noun, seconds = {"judge": "logs", "rebuild": "inputs"}.get(sys.argv[1], "replies"), time.monotonic() - began
     print(f"{told:,} {noun} in {seconds:.0f} s, all alike")
     shutil.rmtree(folder)

@@ -1,0 +1,246 @@
+"""What `compare.py rebuild` compares: `regroup` and `rebuild` of the program with second_rebuild.py, over random stories of `serve`.
+
+Sites of a group do calls and take each other's deltas. Some stores are lost; the other sites are moved to the next generation,
+and go on there. Then each lost site is built again, of right inputs and of many wrong ones: lines that are missing, twice,
+damaged, forged, of another group or site, or made too early or too late. Compared are all that is written, the exit status, and
+the rows of each store behind it."""
+import json
+import os
+import shutil
+import sqlite3
+import subprocess
+import sys
+from contextlib import closing
+from pathlib import Path
+
+import random_scripts as scripts
+import second_rebuild as again
+import second_site as rules
+import stand_in
+
+GROUP = "east"
+NAMES = ("cells", "sessions", "notices", "meta")
+
+
+def told(words, data=b""):
+    """What a command writes, its errors and its status."""
+    if words[0].endswith("stand_in.py"):
+        output, errors, status = stand_in.run(words[1:], data)
+    else:
+        done = subprocess.run(words, input=data, capture_output=True, check=False)
+        output, errors, status = done.stdout, done.stderr, done.returncode
+    return f"{output.decode()}{errors.decode()!r} {status}"
+
+
+class Store:
+    """A site's store, its group, and the site that has to be in it."""
+
+    def __init__(self, program, folder, site):
+        self.program, self.site, self.group = program, site, GROUP
+        self.path, self.layout_file = f"{folder}/{site.site}.db", f"{folder}/layout.toml"
+
+    def words(self, command, group=None):
+        words = [self.program, command, "--site", str(self.site.site), "--store", self.path, "--layout", self.layout_file]
+        return [*words, "--group", group or self.group]
+
+    def same(self, what, found, wanted):
+        if found != wanted:
+            sys.exit(f"{what}\nthe program:        {found!r:.2000}\nthe second reading: {wanted!r:.2000}")
+
+    def content(self):
+        """The rows in a copy of the store, since who opens it tidies its log up."""
+        for end in ("", "-wal"):
+            if os.path.exists(self.path + end):
+                shutil.copy(self.path + end, f"{self.path}.copy{end}")
+        with closing(sqlite3.connect(f"{self.path}.copy")) as store:
+            return [sorted(store.execute(f"SELECT * FROM {name}")) for name in NAMES]
+
+    def compare_content(self, what):
+        layout = self.site.layout
+        meta = [("layout", again.layout_line(layout)), ("site", f"{self.site.site} {self.group}"), ("version", "2")]
+        self.same(f"{what}: {self.path}", self.content(), [*map(list, self.site.content()), meta])
+
+    def serve(self, lines, *more):
+        """A run of `serve`; gives the texts that it sent."""
+        self.site = self.site.restarted(self.site.layout)
+        replies = [self.answer(it) for it in lines]
+        Path(f"{self.path}.lines").write_text("".join(it + "\n" for it in lines))
+        wanted = "".join(it + "\n" for it in replies) + "'' 0"
+        words = [*self.words("serve"), *more]
+        data = "".join(it + "\n" for it in lines).encode()
+        for one, other in zip(told(words, data).split("\n"), wanted.split("\n")):
+            self.same(f"{' '.join(words)} < {self.path}.lines", one, other)
+        return [it for it in replies if it.startswith(f"{self.group} ")]
+
+    def answer(self, line):
+        if line.startswith("take "):
+            return rules.reply(self.take, line[5:].encode())
+        if line == "send":
+            return again.marked(self.site.layout, self.group, self.site.send())
+        verb, *parts = rules.ask(line.encode().split(b" "), self.site.layout)
+        return rules.reply(getattr(self.site, verb), *parts)
+
+    def take(self, marked):
+        text = again.unmarked(self.site.layout, [self.group], marked)
+        return self.site.take(json.loads(text)["rows"])
+
+    def some_lines(self, rng, texts, records, number):
+        """Lines for a run, most of which are carried out."""
+        at, lines = Store("", "", self.site.restarted(self.site.layout)), []
+        at.group = self.group
+        for _ in range(number):
+            line = f"take {rng.choice(texts[-8:])}" if texts and rng.random() < 0.25 else scripts.call(rng, at.site, records)
+            lines.append(line)
+            at.answer(line)
+        return [*lines, "send"]
+
+
+def a_layout(rng):
+    sites = rng.choice([1, 2, 3, 3, 4, 5, 6, 16])
+    records = rng.choice([1, 2, 2, 4, 4, 40] if sites < 16 else [1, 3, 256])
+    return {"sites": sites, "record": [
+        {"name": f"record-name-{r:04}", "seats": rng.randint(1, rng.choice([3, 9, 65_535])), "home": rng.randrange(sites),
+         "problem": rng.randint(1, 2)} for r in range(records)]}
+
+
+class Story:
+    """Sites that were served, and of which some are lost and the others moved."""
+
+    def __init__(self, program, rng, folder, counts):
+        self.rng, self.counts = rng, counts
+        self.layout = a_layout(rng)
+        Path(f"{folder}/layout.toml").write_text(scripts.toml(self.layout), "ascii")
+        sites = range(self.layout["sites"])
+        self.stores = [Store(program, folder, rules.Site(self.layout, s)) for s in sites]
+        self.records = rng.choices(range(len(self.layout["record"])), k=rng.choice([1, 3, 9]))
+        self.old, self.moved, self.later = [], {}, {}
+        for store in self.stores:
+            self.old += store.serve(["send"], "--create")
+        for _ in range(rng.choice([1, 2, 3]) * len(sites)):
+            store = rng.choice(self.stores)
+            self.old += store.serve(store.some_lines(rng, self.old, self.records, rng.choice([3, 12, 40])))
+        self.lost = sorted(rng.sample(sites, min(len(sites), rng.choice([1, 1, 1, 2, 2, 3, 16]))))
+        self.left = [s for s in sites if s not in self.lost]
+
+    def move(self):
+        """Moves the sites that are left, and has some of them served in the new group."""
+        for s in self.rng.sample(self.left, len(self.left)):
+            store = self.stores[s]
+            wrong = again.next_name(GROUP) if self.rng.random() < 0.2 else None
+            if wrong:
+                store.same("a move from another group", told(store.words("regroup", wrong)), "'store refused WrongGroup\\n' 5")
+                store.compare_content("behind a refused move")
+            line = again.moved_text(store.site, GROUP)
+            store.same(" ".join(store.words("regroup")), told(store.words("regroup")), f"{line}\n'' 0")
+            store.group, store.site = again.next_name(GROUP), store.site.restarted(self.layout)
+            store.compare_content("behind a move")
+            self.moved[s], self.later[s] = line, [line]
+            self.counts["(sites moved)"] += 1
+        texts = []
+        for s in self.rng.choices(self.left, k=self.rng.choice([0, 1, 3, 6])) if self.left else []:
+            store = self.stores[s]
+            sent = store.serve(store.some_lines(self.rng, texts, self.records, self.rng.choice([3, 12])))
+            texts += sent
+            self.later[s] += sent
+        self.new = texts
+
+    def a_line(self, s):
+        """A wrong line in place of that of site s, or one more."""
+        rng, word, text = self.rng, *self.moved[s].split(" ", 3)[::3]
+        value = json.loads(text)
+        rows, sites = value["rows"], self.layout["sites"]
+        kind = rng.choice(["early", "other", "bytes", "bare", "from", "row", "row", "row", "row", "seats", "seats", "empty", "odd", "lost"])
+        if kind == "early":
+            return f"{word} " + " ".join(rng.choice(self.old).split(" ")[1:])
+        if kind == "other":
+            return rng.choice(["east:moved ", "east.3:moved ", "west.2 ", "- "]) + self.moved[s].split(" ", 1)[1]
+        if kind == "bytes":
+            at = rng.randrange(len(self.moved[s]))
+            return self.moved[s][:at] + rng.choice(["", " ", "0", "é"]) + self.moved[s][at + 1:]
+        if kind in ("bare", "empty"):
+            return text if kind == "bare" else ""
+        if kind == "from":
+            value["from"] = rng.randrange(16)
+        if kind == "odd":
+            text = rng.choice([text + " ", text[:-1], "{}", "[" * 200])
+            return again.marked(self.layout, word, text)
+        if kind == "lost":  # what it knows of a lost site
+            rows[:] = [row for row in rows if row["s"] not in self.lost]
+        r = rng.choice(self.records)
+        if kind in ("row", "seats"):
+            d = rng.choice(self.lost if kind == "row" else range(sites))
+            row = next((it for it in rows if (it["r"], it["s"]) == (r, d)), None) or rules.reader.start(self.layout, r, d)
+            rows[:] = sorted([it for it in rows if it is not row] + [row], key=lambda it: (it["r"], it["s"]))
+            n = rng.choice([1, 1, 2, 9, rules.COUNTER_LIMIT])
+            row[rng.choice(["taken", "ann", "fin"])] += rng.choice([0, 0, 0, n])
+            row["out"][rng.randrange(sites)] += rng.choice([0, n, n])
+        return again.marked(self.layout, word, rules.reader.text_of(value))
+
+    def an_input(self, d):
+        """Lines for the building of lost site d, and the other sites that are said to be lost."""
+        rng, others = self.rng, [j for j in self.lost if j != d]
+        alone = not others
+        lines = [rng.choice(self.later[s]) if alone and rng.random() < 0.5 else self.moved[s] for s in self.left]
+        if rng.random() < 0.7:
+            at = rng.randrange(len(lines) + 1)
+            kind = rng.choice(["missing", "twice", *["wrong"] * 5, "late", "names"])
+            if kind == "names":
+                others = rng.choice([[], [j for j in range(self.layout["sites"]) if j != d and rng.random() < 0.5], others[1:]])
+                if rng.random() < 0.5:
+                    lines = [self.moved[s] for s in self.left if s not in others]
+            elif not self.left or not lines[at:]:
+                lines.append(rng.choice([*self.old, "", "x"]))
+            elif kind == "missing":
+                del lines[at]
+            elif kind == "twice":
+                lines.insert(rng.randrange(len(lines) + 1), rng.choice([lines[at], self.moved[self.left[at]]]))
+            elif kind == "late":
+                lines[at] = rng.choice([*self.new, *self.old])
+            else:
+                lines[at] = self.a_line(self.left[at])
+        rng.shuffle(lines)
+        return "\n".join(lines).encode() + rng.choice([b"", b"\n"] if lines else [b""]), others
+
+    def build(self, d):
+        """Tries inputs for lost site d, until it is built and has been served."""
+        store = self.stores[d]
+        store.group = again.next_name(GROUP)
+        store.path += ".again"
+        for _ in range(9):
+            data, others = self.an_input(d)
+            wanted, status, site = again.rebuild(self.layout, d, others, store.group, data)
+            words = store.words("rebuild") + [it for j in others for it in ("--lost", str(j))]
+            Path(f"{store.path}.input").write_bytes(data)
+            store.same(f"{' '.join(words)} < {store.path}.input", told(words, data), f"{wanted}'' {status}")
+            self.counts[outcome(wanted)] += 1
+            if site is None:
+                store.same(f"{store.path} behind a refusal", os.path.exists(store.path), False)
+                continue
+            store.site = site
+            store.compare_content("a site that was built again")
+            store.same("a second time", told(words, data), "'store refused Exists\\n' 5")
+            store.compare_content("behind a refused second time")
+            if self.rng.random() < 0.5:
+                store.serve(store.some_lines(self.rng, [it for it in self.new if f'"from":{d},' not in it], self.records, 9))
+                store.compare_content("a site that was built again and served")
+            for path in (store.path, f"{store.path}-wal", f"{store.path}-shm"):
+                Path(path).unlink(missing_ok=True)
+
+
+def outcome(text):
+    """What was written, without its numbers."""
+    if "refused" not in text:
+        return "built, of several" if "\ntexts " in text else "built, alone"
+    words = [it for it in text.split() if not it.isdigit()]
+    return " ".join(words[words.index("refused") - 1:])
+
+
+def rebuild(program, inputs, rng, folder, counts):
+    """Stories until so many inputs of `rebuild` were compared."""
+    while counts.total() - counts["(sites moved)"] < inputs:
+        os.mkdir(f"{folder}/story")
+        story = Story(program, rng, f"{folder}/story", counts)
+        story.move()
+        for d in story.lost:
+            story.build(d)
+        shutil.rmtree(f"{folder}/story")
