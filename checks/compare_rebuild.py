@@ -221,7 +221,7 @@ class Story:
             store.same("a second time", told(words, data), "'store refused Exists\\n' 5")
             store.compare_content("behind a refused second time")
             if self.rng.random() < 0.5:
-                store.serve(store.some_lines(self.rng, [it for it in self.new if f'"from":{d},' not in it], self.records, 9))
+                store.serve(store.some_lines(self.rng, [], self.records, 9))
                 store.compare_content("a site that was built again and served")
             for path in (store.path, f"{store.path}-wal", f"{store.path}-shm"):
                 Path(path).unlink(missing_ok=True)
