@@ -119,7 +119,7 @@ class Story:
         for _ in range(rng.choice([1, 2, 3]) * len(sites)):
             store = rng.choice(self.stores)
             self.old += store.serve(store.some_lines(rng, self.old, self.records, rng.choice([3, 12, 40])))
-        self.lost = sorted(rng.sample(sites, min(len(sites), rng.choice([1, 1, 1, 2, 2, 3, 16]))))
+        self.lost = sorted(rng.sample(sites, min(len(sites), rng.choice([*[1] * 10, *[2] * 8, 3, 3, 3, 16]))))
         self.left = [s for s in sites if s not in self.lost]
 
     def move(self):
@@ -206,7 +206,7 @@ class Story:
         store = self.stores[d]
         store.group = again.next_name(GROUP)
         store.path += ".again"
-        for _ in range(9):
+        for _ in range(9 if self.left else 2):
             data, others = self.an_input(d)
             wanted, status, site = again.rebuild(self.layout, d, others, store.group, data)
             words = store.words("rebuild") + [it for j in others for it in ("--lost", str(j))]
