@@ -13,7 +13,7 @@ All lines come one after the other, so a seed gives the same history again, but 
 is inside together with a writer, by the times at which callers came and went; that `show` of all sites never tells of more
 seats than a record has; that texts of another group are refused, and no other is; that after a kill the sessions are those
 that were answered; that fencing numbers grow; and in the end, once everybody has left and all texts were carried, that all
-seats are there, and that a writer gets in at every site.
+seats are there, and that readers and a writer get in at every site.
 
 Then histories are tried in which sites are built again of texts from before the move, with the mark written by hand: until in
 one of them seats are lost or doubled. With --forged all histories are such, so the check fails. With `--program stand-in` all
@@ -34,6 +34,10 @@ from rebuild_sites import Broken, IN_FLIGHT, Site, World, broken, run
 TOP = pathlib.Path(__file__).resolve().parent.parent
 # How many histories with a mark by hand are tried, at most.
 FORGED = 100
+
+
+def joined(lines):
+    return "".join(it + "\n" for it in lines).encode()
 
 
 class History(World):
@@ -64,10 +68,9 @@ class History(World):
     # What happens while sites are served
 
     def events(self, number):
-        for _ in range(number):
+        """So many random lines, and what else happens meanwhile."""
+        while number > 0 and self.served():
             what, served = self.rng.random(), self.served()
-            if not served:
-                return
             site = self.rng.choice(served)
             if what < 0.006:
                 site.die(self.a_line(site) if self.rng.random() < 0.8 else None, self.rng.random() * IN_FLIGHT)
@@ -80,6 +83,7 @@ class History(World):
                 self.grow(site)
             else:
                 self.carry_out(site, self.a_line(site))
+                number -= 1
 
     def cut(self):
         """Cuts a link, or mends all."""
@@ -186,7 +190,7 @@ class History(World):
             self.events(self.rng.choice([0, 5, 40, 100]))
             digests.add(self.rebuild(site, lost, moved, early))
             self.look()
-        broken(len(digests) > 1 and not self.forged, "else", f"built of different texts: {digests}")
+        broken(len(digests - {None}) > 1 and not self.forged, "else", f"built of different texts: {digests}")
         self.may_grow = True
 
     def move_all(self, lost):
@@ -212,8 +216,7 @@ class History(World):
 
     def move(self, site):
         site.close(kill=self.rng.random() < 0.5)
-        killed = self.rng.random() * 0.03 if self.rng.random() < 0.1 else None
-        text = site.move(killed)
+        text = site.move(self.rng.random() < 0.1)
         if self.rng.random() < 0.2 and site.known < self.most and self.grows:
             site.known = self.most
             site.open("--grow")
@@ -229,18 +232,23 @@ class History(World):
         lines = [self.a_delta(it, alone, moved) for it in self.sites if it.group and it not in lost]
         words = site.words("rebuild") + [it for j in others for it in ("--lost", str(j))]
         if self.forged:
-            data = "".join(self.by_hand(it, alone, early) + "\n" for it in lines)
-            text, errors, status = run(self.program, words, data.encode())
+            text, errors, status = run(self.program, words, joined(self.by_hand(it, alone, early) for it in lines))
             self.done["rebuilds of forged texts"] += status == 0
             self.done["forged texts refused"] += status != 0
         if not self.forged or status != 0:
             self.rng.shuffle(lines)
-            text, errors, status = run(self.program, words, "".join(it + "\n" for _, it in lines).encode())
+            data = joined(it for _, it in lines)
+            kills = self.rng.random() < 0.1
+            if kills:
+                site.kill_command(words, data)
+            text, errors, status = run(self.program, words, data)
+            if kills and (errors, status) == ("store refused Exists", 5):
+                text, status = "", 0
         broken(status != 0, "else", f"rebuild of site {site.number}, {len(lost)} lost: {text}{errors} {status}")
         site.texts = []
         site.open()
         self.done["sites built again"] += 1
-        return text.splitlines()[-1] if others else None
+        return text.splitlines()[-1] if others and text else None
 
     def a_delta(self, site, alone, moved):
         """The number of a site, and a text that it made in the new group."""
@@ -275,6 +283,10 @@ class History(World):
         for record, seats in self.records.items():
             found = [site.show(record) for site in self.sites]
             broken(sum(map(sum, found)) != seats, "seats", f"record {record}: {found} of {seats} seats in the end")
+            for site, (free, _) in zip(self.sites, found):
+                reply = self.carry_out(site, f"read {record} 1")
+                broken(free > 0 and reply != "admitted", "else", f"a reader of {record} at site {site.number} with {free} seats: {reply}")
+                self.carry_out(site, f"leave {record} 1")
 
     def exchange(self):
         """Each site takes what each other one sends."""

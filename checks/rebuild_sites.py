@@ -10,6 +10,8 @@ import stand_in
 PIPE = subprocess.PIPE
 # The longest time, in seconds, between a line and the kill of its process.
 IN_FLIGHT = 0.004
+# .. and between the start of a move or rebuild and its kill.
+KILLED = 0.03
 SESSION = {"read": "reader", "announce": "waiting", "write": "writer"}
 
 
@@ -141,18 +143,28 @@ class Site:
             if found != here:
                 self.note(line, "found")
 
-    def move(self, killed):
+    def kill_command(self, words, data=b""):
+        """Starts a command and kills it at some moment."""
+        process = start(self.world.program, words)
+        try:
+            process.stdin.write(data)
+            process.stdin.close()
+            time.sleep(self.world.rng.random() * KILLED)
+        except BrokenPipeError:
+            pass
+        process.kill()
+        process.wait()
+        for it in (process.stdin, process.stdout, process.stderr):
+            it.close()
+        self.world.done["commands killed"] += 1
+
+    def move(self, kills):
         """Moves the site, whose service is closed, and gives the text that was printed. A killed move may leave none."""
         words = self.words("regroup")
-        if killed is not None:
-            process = start(self.world.program, words)
-            time.sleep(killed)
-            process.kill()
-            process.wait()
-            for it in (process.stdin, process.stdout, process.stderr):
-                it.close()
+        if kills:
+            self.kill_command(words)
         text, errors, status = run(self.world.program, words)
-        after = killed is not None and (errors, status) == ("store refused WrongGroup", 5)
+        after = kills and (errors, status) == ("store refused WrongGroup", 5)
         broken(status != 0 and not after, "else", f"regroup of site {self.number}: {text}{errors} {status}")
         self.group, self.texts = self.world.next_group(self.group), []
         return text.rstrip("\n") or None

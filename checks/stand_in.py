@@ -113,7 +113,7 @@ class Store:
         refuse_store(names and sorted(names) != ["cells", "meta", "notices", "sessions"], "NotAStore")
         return bool(names)
 
-    wait = 0
+    wait, file = 0, None
 
     def name(self):
         return f"{self.number}{' ' + self.group if self.group else ''}"
@@ -299,11 +299,12 @@ def rebuild(given, lost):
         raise Ends(2, "error: a lost site is named twice")
     if any(j >= layout["sites"] for j in lost):
         raise Ends(3, "layout refused NoSite")
-    refuse_store(os.path.exists(store.path), "Exists")
+    refuse_store(os.path.exists(store.path) and store.is_there(), "Exists")
     data = sys.stdin.buffer.read(reader.INPUT_LIMIT + 1)
     text, status, site = again.rebuild(layout, store.number, lost, store.group, data)
     if status == 0:
-        refuse_store(store.is_there(), "Exists")
+        if store.file is None:
+            refuse_store(store.is_there(), "Exists")
         store.make(site)
         store.base.close()
     sys.stdout.write(text)
