@@ -171,7 +171,9 @@ class History(World):
     def lose(self):
         """Deletes one to three stores, has the others moved, and has the lost sites built again."""
         began = [it for it in self.sites if it.group]
-        lost = self.rng.sample(began, min(self.rng.choice([1, 1, 1, 2, 2, 3]), len(began) - (self.rng.random() < 0.95)))
+        most = max(1, len(began) - (self.rng.random() < 0.95))
+        lost = self.rng.sample(began, min(self.rng.choice([1, 1, 1, 2, 2, 3]), most))
+        self.hand_on(lost)
         for site in lost:
             site.close(kill=True)
             for path in pathlib.Path(self.folder).glob(f"site_{site.number}.db*"):
@@ -192,6 +194,15 @@ class History(World):
             self.look()
         broken(len(digests - {None}) > 1 and not self.forged, "else", f"built of different texts: {digests}")
         self.may_grow = True
+
+    def hand_on(self, lost):
+        """Now and then the sites that will be lost hand seats on before, to one another and to others."""
+        for site in self.rng.choices(lost, k=8) if self.rng.random() < 0.5 else []:
+            other = self.rng.choice(self.served())
+            record = self.rng.choice(list(self.records))
+            self.carry_out(site, f"give {record} {other.number} {self.rng.randint(1, max(1, site.show(record)[0]))}")
+            if other is not site:
+                self.carry_out(other, f"take {site.call('send')}")
 
     def move_all(self, lost):
         """Moves the sites that are left, one by one, while the others serve; gives the texts that were printed. Where one was
