@@ -59,7 +59,6 @@ class History(World):
         """Starts a site that never began."""
         site.group, site.known = group, known
         site.open("--create")
-        site.call("send")
         self.done["sites begun"] += 1
 
     def served(self):
@@ -169,11 +168,21 @@ class History(World):
     # Losses
 
     def lose(self):
-        """Deletes one to three stores, has the others moved, and has the lost sites built again."""
+        """Loses one to three stores, has the other sites moved, and has the lost ones built again. Now and then one more is lost
+        meanwhile."""
         began = [it for it in self.sites if it.group]
         most = max(1, len(began) - (self.rng.random() < 0.95))
         lost = self.rng.sample(began, min(self.rng.choice([1, 1, 1, 2, 2, 3]), most))
         self.hand_on(lost)
+        self.delete(lost)
+        while lost:
+            one_more = self.build_all(lost)
+            lost = [it for it in lost if not it.service] + one_more if one_more else []
+            self.delete(one_more)
+        self.may_grow = True
+
+    def delete(self, lost):
+        """Deletes stores, and has the callers of these sites end."""
         for site in lost:
             site.close(kill=True)
             for path in pathlib.Path(self.folder).glob(f"site_{site.number}.db*"):
@@ -183,21 +192,26 @@ class History(World):
                     self.leaves(record, (site.number, holder))
                 site.sessions[record] = {}
             self.done["stores deleted"] += 1
+
+    def build_all(self, lost):
+        """Has the sites that are left moved and the lost ones built; gives the sites that were lost meanwhile."""
         self.may_grow = False
         self.events(self.rng.randrange(100))
         moved = self.move_all(lost)
-        lost = self.rng.sample(lost, len(lost))
-        digests, early = set(), {s: self.rng.choice(texts) for s, texts in self.early.items() if texts and self.rng.random() < 0.8}
-        for site in lost:
+        digests, early = set(), {s: self.rng.choice(texts[: len(texts) // 2 + 1]) for s, texts in self.early.items() if texts}
+        for site in self.rng.sample(lost, len(lost)):
             self.events(self.rng.choice([0, 5, 40, 100]))
+            if self.rng.random() < 0.08 and len(self.served()) > 1:
+                self.done["stores deleted before a rebuild"] += 1
+                return [self.rng.choice(self.served())]
             digests.add(self.rebuild(site, lost, moved, early))
             self.look()
         broken(len(digests - {None}) > 1 and not self.forged, "else", f"built of different texts: {digests}")
-        self.may_grow = True
+        return []
 
     def hand_on(self, lost):
         """Now and then the sites that will be lost hand seats on before, to one another and to others."""
-        for site in self.rng.choices(lost, k=8) if self.rng.random() < 0.5 else []:
+        for site in self.rng.choices(lost, k=8) if self.forged or self.rng.random() < 0.5 else []:
             other = self.rng.choice(self.served())
             record = self.rng.choice(list(self.records))
             self.carry_out(site, f"give {record} {other.number} {self.rng.randint(1, max(1, site.show(record)[0]))}")

@@ -90,6 +90,8 @@ class Site:
 
     def open(self, *more):
         self.service = Service(self.world.program, [*self.words("serve"), "--wait", "30", *more])
+        if more:  # what changes the store is done before a kill may come
+            self.call("send")
 
     def close(self, kill=False):
         ended, self.service = self.service.end(kill), None
