@@ -149,11 +149,14 @@ class Story:
         rng, word, text = self.rng, *self.moved[s].split(" ", 3)[::3]
         value = json.loads(text)
         rows, sites = value["rows"], self.layout["sites"]
-        kind = rng.choice(["early", "other", "bytes", "bare", "from", "row", "row", "row", "row", "seats", "seats", "empty", "odd", "lost"])
+        kind = rng.choice(["early", "other", "bytes", "bare", "from", "row", "row", "row", "row", "seats", "seats", "empty", "odd", "odd", "lost", "layout", "other"])
         if kind == "early":
             return f"{word} " + " ".join(rng.choice(self.old).split(" ")[1:])
         if kind == "other":
-            return rng.choice(["east:moved ", "east.3:moved ", "west.2 ", "- "]) + self.moved[s].split(" ", 1)[1]
+            parts = self.moved[s].split(" ")
+            at = rng.randrange(3)
+            parts[at] = [rng.choice(["east:moved", "east.3:moved", "west.2", "-"]), "0" * 16, "0" * 8][at]
+            return " ".join(parts)
         if kind == "bytes":
             at = rng.randrange(len(self.moved[s]))
             return self.moved[s][:at] + rng.choice(["", " ", "0", "é"]) + self.moved[s][at + 1:]
@@ -162,8 +165,13 @@ class Story:
         if kind == "from":
             value["from"] = rng.randrange(16)
         if kind == "odd":
-            text = rng.choice([text + " ", text[:-1], "{}", "[" * 200])
-            return again.marked(self.layout, word, text)
+            text = rng.choice([text + " ", text[:-1], "{}", "[" * 200, text + " " * rng.choice([1, rules.reader.TEXT_LIMIT]), text + "\udcff"])
+            data = text.encode("utf-8", "surrogateescape")
+            return f"{word} {self.moved[s].split(' ')[1]} {again.digest(data, 8)} {text}"
+        if kind == "layout":
+            row = rules.reader.start(self.layout, 0, 0)
+            rows.append(row | rng.choice([{"r": 255}, {"s": 15, "out": [0] * 16}, {"r": 255, "out": row["out"] + [0]}]))
+            rows.sort(key=lambda it: (it["r"], it["s"]))
         if kind == "lost":  # what it knows of a lost site
             rows[:] = [row for row in rows if row["s"] not in self.lost]
         r = rng.choice(self.records)
@@ -183,7 +191,7 @@ class Story:
         lines = [rng.choice(self.later[s]) if alone and rng.random() < 0.5 else self.moved[s] for s in self.left]
         if rng.random() < 0.7:
             at = rng.randrange(len(lines) + 1)
-            kind = rng.choice(["missing", "twice", *["wrong"] * 5, "late", "names"])
+            kind = rng.choice(["missing", "twice", *["wrong"] * 7, "late", "names", "full", "full"])
             if kind == "names":
                 others = rng.choice([[], [j for j in range(self.layout["sites"]) if j != d and rng.random() < 0.5], others[1:]])
                 if rng.random() < 0.5:
@@ -194,12 +202,24 @@ class Story:
                 del lines[at]
             elif kind == "twice":
                 lines.insert(rng.randrange(len(lines) + 1), rng.choice([lines[at], self.moved[self.left[at]]]))
+            elif kind == "full":
+                lines = [self.full(s, d) if rng.random() < 0.7 else self.moved[s] for s in self.left]
             elif kind == "late":
                 lines[at] = rng.choice([*self.new, *self.old])
             else:
                 lines[at] = self.a_line(self.left[at])
         rng.shuffle(lines)
-        return "\n".join(lines).encode() + rng.choice([b"", b"\n"] if lines else [b""]), others
+        data = "\n".join(lines).encode("utf-8", "surrogateescape")
+        return data + rng.choice([b"", b"\n", b"\n", b"\n" * (rules.reader.INPUT_LIMIT if rng.random() < 0.1 else 1)] if lines else [b""]), others
+
+    def full(self, s, d):
+        """The line of site s, by which it was given as many seats by lost site d as a counter holds."""
+        word, text = self.moved[s].split(" ", 3)[::3]
+        value, r = json.loads(text), self.records[0]
+        rows = {(it["r"], it["s"]): it for it in value["rows"]}
+        row = rows.setdefault((r, d), rules.reader.start(self.layout, r, d))
+        row["out"][s] = rules.COUNTER_LIMIT
+        return again.marked(self.layout, word, rules.reader.text_of(value | {"rows": [rows[key] for key in sorted(rows)]}))
 
     def build(self, d):
         """Tries inputs for lost site d, until it is built and has been served."""
