@@ -204,6 +204,9 @@ class History(World):
             if self.rng.random() < 0.08 and len(self.served()) > 1:
                 self.done["stores deleted before a rebuild"] += 1
                 return [self.rng.choice(self.served())]
+            for giver in self.rng.choices(self.served(), k=self.rng.choice([0, 0, 4])) if self.served() else []:
+                self.give(giver, self.rng.choice(lost))
+                giver.call("send")
             digests.add(self.rebuild(site, lost, moved, early))
             self.look()
         broken(len(digests - {None}) > 1 and not self.forged, "else", f"built of different texts: {digests}")
@@ -213,10 +216,14 @@ class History(World):
         """Now and then the sites that will be lost hand seats on before, to one another and to others."""
         for site in self.rng.choices(lost, k=8) if self.forged or self.rng.random() < 0.5 else []:
             other = self.rng.choice(self.served())
-            record = self.rng.choice(list(self.records))
-            self.carry_out(site, f"give {record} {other.number} {self.rng.randint(1, max(1, site.show(record)[0]))}")
+            self.give(site, other)
             if other is not site:
                 self.carry_out(other, f"take {site.call('send')}")
+
+    def give(self, site, other):
+        """A site gives another one some of its free seats, perhaps all."""
+        record = self.rng.choice(list(self.records))
+        self.carry_out(site, f"give {record} {other.number} {self.rng.randint(1, max(1, site.show(record)[0]))}")
 
     def move_all(self, lost):
         """Moves the sites that are left, one by one, while the others serve; gives the texts that were printed. Where one was
