@@ -205,8 +205,7 @@ class History(World):
                 self.done["stores deleted before a rebuild"] += 1
                 return [self.rng.choice(self.served())]
             for giver in self.rng.choices(self.served(), k=self.rng.choice([0, 0, 4])) if self.served() else []:
-                self.give(giver, self.rng.choice(lost))
-                giver.call("send")
+                self.give(giver, self.rng.choice(lost), self.rng.choice(list(self.records)))
             digests.add(self.rebuild(site, lost, moved, early))
             self.look()
         broken(len(digests - {None}) > 1 and not self.forged, "else", f"built of different texts: {digests}")
@@ -214,16 +213,21 @@ class History(World):
 
     def hand_on(self, lost):
         """Now and then the sites that will be lost hand seats on before, to one another and to others."""
-        for site in self.rng.choices(lost, k=8) if self.forged or self.rng.random() < 0.5 else []:
-            other = self.rng.choice(self.served())
-            self.give(site, other)
-            if other is not site:
-                self.carry_out(other, f"take {site.call('send')}")
-
-    def give(self, site, other):
-        """A site gives another one some of its free seats, perhaps all."""
+        left = [it for it in self.served() if it not in lost]
         record = self.rng.choice(list(self.records))
-        self.carry_out(site, f"give {record} {other.number} {self.rng.randint(1, max(1, site.show(record)[0]))}")
+        if len(lost) > 1 and left and self.rng.random() < 0.5:
+            self.give(lost[0], lost[1], record)
+            self.give(lost[1], self.rng.choice(left), record)
+        for site in self.rng.choices(lost, k=8) if self.forged or self.rng.random() < 0.5 else []:
+            self.give(site, self.rng.choice(self.served()), self.rng.choice(list(self.records)))
+
+    def give(self, site, other, record):
+        """A site gives another one some of its free seats, perhaps all."""
+        free = site.show(record)[0]
+        self.carry_out(site, f"give {record} {other.number} {self.rng.choice([max(1, free), self.rng.randint(1, max(1, free))])}")
+        text = site.call("send")
+        if other.service and other is not site:
+            self.carry_out(other, f"take {text}")
 
     def move_all(self, lost):
         """Moves the sites that are left, one by one, while the others serve; gives the texts that were printed. Where one was
