@@ -98,12 +98,13 @@ class Store:
                 time.sleep(0.01)
 
     def connect(self):
-        self.base = sqlite3.connect(self.path, isolation_level=None)
+        self.base = sqlite3.connect(self.path, timeout=0, isolation_level=None)
         try:
             self.base.execute("PRAGMA synchronous = OFF")
             return [name for name, in self.base.execute("SELECT name FROM sqlite_schema WHERE type = 'table'")]
-        except sqlite3.DatabaseError:
-            raise Ends(5, "store refused NotAStore") from None
+        except sqlite3.DatabaseError as fault:
+            locked = isinstance(fault, sqlite3.OperationalError)
+            raise Ends(5, f"store refused {'InUse' if locked else 'NotAStore'}") from None
 
     def is_there(self):
         """Opens the file, and says whether it has a store."""
