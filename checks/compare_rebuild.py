@@ -47,6 +47,11 @@ class Store:
         if found != wanted:
             sys.exit(f"{what}\nthe program:        {found!r:.2000}\nthe second reading: {wanted!r:.2000}")
 
+    def tables(self):
+        """The tables of the file, if it is there."""
+        with closing(sqlite3.connect(self.path if os.path.exists(self.path) else ":memory:")) as store:
+            return store.execute("SELECT name FROM sqlite_schema").fetchall()
+
     def content(self):
         """The rows in a copy of the store, since who opens it tidies its log up."""
         for end in ("", "-wal"):
@@ -234,7 +239,7 @@ class Story:
             store.same(f"{' '.join(words)} < {store.path}.input", told(words, data), f"{wanted}'' {status}")
             self.counts[outcome(wanted)] += 1
             if site is None:
-                store.same(f"{store.path} behind a refusal", os.path.exists(store.path), False)
+                store.same(f"tables of {store.path} behind a refusal", store.tables(), [])
                 continue
             store.site = site
             store.compare_content("a site that was built again")

@@ -60,27 +60,31 @@ def moved_text(site, group):
     return marked(site.layout, next_name(group) + MOVED, site.restarted(site.layout).send())
 
 
+class BadLine(Exception):
+    """What is written of a line that fits no site of the layout, once all sites that are left have one."""
+
+
 class Deltas:
-    """One delta of each site that is left, and what they tell of each row."""
+    """The texts of an input, one of each site that is left, and what they tell of each row."""
 
     def __init__(self, layout, lost, site):
         self.layout, self.lost, self.site = layout, lost, site  # lost names the site too
         self.sites = range(layout["sites"])
         self.left = [j for j in self.sites if j not in lost]
-        self.texts, self.rows, self.told = {}, {}, {}
+        self.texts, self.rows, self.told = {}, {}, {}  # texts in order of lines
 
     def take(self, text):
-        """Takes a text of a site that is left, the first of that site."""
-        rules.refuse(len(text) > reader.TEXT_LIMIT, "TooLong")
-        fault, rows = reader.read(text, self.layout)
+        """Takes a text, the first of its site."""
+        fault, rows = reader.decode(text)
         rules.refuse(fault, fault)
         sender = reader.json.loads(text)["from"]
-        rules.refuse(sender not in self.left, "BadSite")
         rules.refuse(sender in self.texts, "Twice")
-        self.texts[sender] = text
-        self.rows[sender] = {(row["r"], row["s"]): row for row in rows}
-        for place, row in self.rows[sender].items():
-            self.told[place] = reader.greater(self.row(*place), row)
+        self.texts[sender], self.rows[sender] = text, {(row["r"], row["s"]): row for row in rows}
+
+    def fits(self, sender):
+        """Whether the layout has the site of a text, and its rows are possible."""
+        rows = self.rows[sender].values()
+        return sender in self.sites and all(reader.is_placed(self.layout, it) and reader.is_valid(self.layout, it) for it in rows)
 
     def row(self, r, s):
         return self.told.get((r, s)) or reader.start(self.layout, r, s)
@@ -111,10 +115,16 @@ class Deltas:
         """The site that begins again, without sessions."""
         missing = next((j for j in self.left if j not in self.texts), None)
         rules.refuse(missing is not None, "NoDelta", missing)
+        unfit = next((k for k, it in enumerate(self.texts, 1) if not self.fits(it)), None)
+        if unfit is not None:
+            raise BadLine(f"line {unfit} refused BadDelta")
+        for rows in self.rows.values():
+            for place, row in rows.items():
+                self.told[place] = reader.greater(self.row(*place), row)
         records = range(len(self.layout["record"]))
         full = any(-self.over(r, d) > rules.COUNTER_LIMIT for r in records for d in self.lost)
         rules.refuse(full, "CounterFull")
-        rules.refuse(any(self.acted(r) for r in records), "Acted")
+        rules.refuse(any(j in self.texts for j in self.lost) or any(self.acted(r) for r in records), "Acted")
         site = rules.Site(self.layout, self.site)
         for r in records:
             given = self.settled(r)
@@ -163,6 +173,8 @@ def rebuild(layout, site, others, group, data):
             return f"line {number} refused {refused}\n", 4, None
     try:
         built = deltas.rebuilt()
+    except BadLine as line:
+        return f"{line}\n", 4, None
     except rules.Refused as refused:
         return f"input refused {refused}\n", 4, None
     shown = "".join(f"{it['name']} {show(built, r)}\n" for r, it in enumerate(layout["record"]))

@@ -281,9 +281,9 @@ def ask(given, words):
 def regroup(given):
     if "--group" not in given:
         raise Ends(2, "error: --group is required")
-    store = opened(given, moves=True)
-    group = again.next_name(store.group)
+    group = again.next_name(given["--group"])
     refuse_store(group is None, "LastGeneration")
+    store = opened(given, moves=True)
     text = again.moved_text(store.site, store.group)
     store.group = group
     store.base.execute("UPDATE meta SET value = ? WHERE name = 'site'", (store.name(),))
@@ -300,12 +300,11 @@ def rebuild(given, lost):
         raise Ends(2, "error: a lost site is named twice")
     if any(j >= layout["sites"] for j in lost):
         raise Ends(3, "layout refused NoSite")
-    refuse_store(os.path.exists(store.path) and store.is_there(), "Exists")
+    there = os.path.exists(store.path) and store.is_there()
     data = sys.stdin.buffer.read(reader.INPUT_LIMIT + 1)
     text, status, site = again.rebuild(layout, store.number, lost, store.group, data)
     if status == 0:
-        if store.file is None:
-            refuse_store(store.is_there(), "Exists")
+        refuse_store(there or store.file is None and store.is_there(), "Exists")
         store.make(site)
         store.base.close()
     sys.stdout.write(text)
