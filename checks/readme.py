@@ -103,6 +103,14 @@ def try_quick_start(folder, lines):
         tell(status == 0 and re.fullmatch(wanted_of(line), output) is not None, line, (status, output))
 
 
+def try_node(folder, lines):
+    """The node, as one script."""
+    script = "\n".join(block(lines, "printf 'site"))
+    output, status = run(folder, f"{script}\nwait")
+    wanted = r"(zinduroi: waits for .*\n)*zinduroi: site 0 at .*/node\.sock\n0\nalone, with number 17592186044416\n"
+    tell(status == 0 and re.fullmatch(wanted, output) is not None, "a node, and a lock", (status, output))
+
+
 def main():
     program = pathlib.Path(sys.argv[sys.argv.index("--program") + 1]) if "--program" in sys.argv else TOP / "seat_cli"
     lines = (TOP / "README.md").read_text(encoding="utf-8").split("\n")
@@ -113,6 +121,7 @@ def main():
             os.symlink(TOP / part, folder / part)
         try_table(folder, lines)
         try_quick_start(folder, lines)
+        try_node(folder, lines)
     print(f"{len(FAILED)} went wrong")
     return 1 if FAILED else 0
 
