@@ -1,5 +1,6 @@
 #!/usr/bin/env python3
-"""Runs what README.md shows, as it stands, in an empty folder: its table of calls, its quick start, and its program in Python.
+"""Runs what README.md shows, as it stands, in an empty folder: its table of calls, its quick start, its program in Python, and its
+nodes.
 
     checks/readme.py [--program PATH]    the program is the launcher at the top of the repository, or the one at PATH
 
@@ -104,11 +105,12 @@ def try_quick_start(folder, lines):
 
 
 def try_node(folder, lines):
-    """The node, as one script."""
-    script = "\n".join(block(lines, "printf 'site"))
+    """The nodes, as one script."""
+    script = "\n".join(block(lines, "export PATH=.:$PATH"))
     output, status = run(folder, f"{script}\nwait")
-    wanted = r"(zinduroi: waits for .*\n)*zinduroi: site 0 at .*/node\.sock\n0\nalone, with number 17592186044416\n"
-    tell(status == 0 and re.fullmatch(wanted, output) is not None, "a node, and a lock", (status, output))
+    rest = re.sub(r"zinduroi: (waits for .*|site [01] at .*/node_[01]\.sock)\n", "", output)
+    wanted = ["0\n0\n" + "".join(f"{site} is in\n{site} is out\n" for site in order) for order in ((0, 1), (1, 0))]
+    tell(status == 0 and rest in wanted and output.count("zinduroi: site ") == 2, "two nodes, and a lock at each", (status, output))
 
 
 def main():
