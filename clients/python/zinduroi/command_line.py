@@ -67,14 +67,14 @@ def main(words: Optional[Sequence[str]] = None) -> int:
     """Carries out the command line, and gives the exit status."""
     made = parser()
     before, command = _split(list(sys.argv[1:] if words is None else words))
+    if before[:1] == ["lock"] and not command and not {"-h", "--help"} & set(before):
+        made.error("lock: give a command behind --, as in: zinduroi lock RECORD -- COMMAND")
     given = made.parse_args(before)
     if given.command == "watch":
         return run_watch(given, made)
     if given.command == "node":
         return run_node(given.config, given.create)
     if given.command == "lock":
-        if not command:
-            made.error("lock: give a command behind --")
         return _interruptible(lambda: run_lock(given.socket, given.record, given.read, given.timeout, given.strict, command))
     return _interruptible(lambda: _ask(given))
 
