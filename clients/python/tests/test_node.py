@@ -471,7 +471,7 @@ class Restarts(NodeCase):
 
     def test_strangers(self):
         """A session that the node doesn't know is listed, and left by an operator alone."""
-        with self.open() as site:
+        with self.open(log=self.folder / "0.log") as site:
             site.call("read a 7")
         self.start()
         client = self.connect()
