@@ -129,7 +129,7 @@ class Service:
                 calls.append(call)
 
     def _carry_out(self, calls: List[Call]) -> None:
-        """Has calls answered, and hands each out as its reply comes."""
+        """Has calls answered, and then hands them out: callers that woke up between two replies would keep this thread from the next."""
         done = 0
         try:
             if self._ended is None and calls:
@@ -137,13 +137,15 @@ class Service:
                 for call in calls:
                     call.replies += [self._read() for _ in call.lines]
                     done += 1
-                    _hand_out(call)
         except OSError:
             self._end()
         for call in calls[done:]:
             assert self._ended is not None
             call.failure = ending(*self._ended)
-            _hand_out(call)
+        for call in calls:
+            call.done.set()
+            if call.then is not None:
+                call.then(call)
 
     def _write(self, lines: bytes) -> None:
         """Writes lines. Up to `AT_ONCE` bytes go into the pipe whole or not at all."""
@@ -175,12 +177,6 @@ class Service:
         with self._errors:
             self._errors.seek(0)
             self._ended = status, self._errors.read().decode("utf-8", "replace").strip()
-
-
-def _hand_out(call: Call) -> None:
-    call.done.set()
-    if call.then is not None:
-        call.then(call)
 
 
 def ending(status: int, message: str) -> ZinduroiError:
