@@ -9,7 +9,8 @@ of five runs is shown. All write to FOLDER's disk before they answer:
   Redis       SET NX and DEL with appendfsync always (redis-server, over its Unix socket)
   PostgreSQL  pg_try_advisory_lock and a row inserted in one transaction, then the row deleted and the lock freed
   sqlite3     Python's module: a row inserted or deleted, with journal_mode WAL and synchronous FULL
-Those whose program is missing are left out. The program is Debian's package of that name.
+Those whose program is missing are left out. The program is Debian's package of that name. Then `fence a 7`, of a reader inside, and an empty
+line, which changes nothing either, are asked in turns, 50 at a time: the middle of each.
 """
 
 import argparse
@@ -61,12 +62,11 @@ class Redis:
         at = f"{folder}/redis.sock"
         words = ["redis-server", "--port", "0", "--unixsocket", at, "--appendonly", "yes", "--appendfsync", "always", "--save", "", "--dir", folder]
         self.process = subprocess.Popen(words, stdout=subprocess.DEVNULL)
+        self.socket = socket.socket(socket.AF_UNIX)
         for _ in range(200):
-            if os.path.exists(at):
+            if self.socket.connect_ex(at) == 0:
                 break
             time.sleep(0.05)
-        self.socket = socket.socket(socket.AF_UNIX)
-        self.socket.connect(at)
 
     def call(self, *words):
         self.socket.sendall(b"*%d\r\n" % len(words) + b"".join(b"$%d\r\n%s\r\n" % (len(it), it) for it in words))
@@ -152,6 +152,23 @@ def measured(make, options):
     return statistics.median(times) * 1e6, times[len(times) * 99 // 100] * 1e6, len(times) / took
 
 
+def looked_at(options):
+    """The middle of `fence a 7` and of an empty line, in microseconds."""
+    with tempfile.TemporaryDirectory(prefix="bench_serve.", dir=options.folder) as folder:
+        site = Serve(options, folder)
+        site.take()
+        times = {b"fence a 7\n": [], b"\n": []}
+        for turn in range(options.calls // 25):
+            line = list(times)[turn % 2]
+            for _ in range(50):
+                at = time.perf_counter()
+                reply = site.lines.call(line)
+                times[line].append(time.perf_counter() - at)
+                assert reply.startswith(b"fence " if line != b"\n" else b"refused ")
+        site.close()
+    return [statistics.median(each) * 1e6 for each in times.values()]
+
+
 def main():
     parser = argparse.ArgumentParser(description=__doc__.splitlines()[0])
     parser.add_argument("--calls", type=int, default=4_000)
@@ -177,6 +194,9 @@ def main():
     for name, all_runs in runs.items():
         middle = sorted(all_runs)[2]
         print(f"| {name} | {middle[0]:.0f} us | {middle[1]:.0f} us | {middle[2]:.0f} |")
+    pairs = sorted((looked_at(options) for _ in range(5)), key=lambda pair: pair[0] - pair[1])
+    print("fence, and an empty line: {:.1f} and {:.1f} us; the difference in five runs: ".format(*pairs[2])
+          + ", ".join(f"{fence - empty:.1f}" for fence, empty in pairs))
 
 
 if __name__ == "__main__":

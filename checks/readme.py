@@ -1,5 +1,6 @@
 #!/usr/bin/env python3
-"""Runs what README.md shows, as it stands, in an empty folder: its table of calls, its quick start, and its program in Python.
+"""Runs what README.md shows, as it stands, in an empty folder: its table of calls, its quick start, its program in Python, and its
+nodes.
 
     checks/readme.py [--program PATH]    the program is the launcher at the top of the repository, or the one at PATH
 
@@ -103,6 +104,15 @@ def try_quick_start(folder, lines):
         tell(status == 0 and re.fullmatch(wanted_of(line), output) is not None, line, (status, output))
 
 
+def try_node(folder, lines):
+    """The nodes, as one script."""
+    script = "\n".join(block(lines, "export PATH=.:$PATH"))
+    output, status = run(folder, f"{script}\nwait")
+    rest = re.sub(r"zinduroi: (waits for .*|site [01] at .*/node_[01]\.sock)\n", "", output)
+    wanted = ["0\n0\n" + "".join(f"{site} is in\n{site} is out\n" for site in order) for order in ((0, 1), (1, 0))]
+    tell(status == 0 and rest in wanted and output.count("zinduroi: site ") == 2, "two nodes, and a lock at each", (status, output))
+
+
 def main():
     program = pathlib.Path(sys.argv[sys.argv.index("--program") + 1]) if "--program" in sys.argv else TOP / "seat_cli"
     lines = (TOP / "README.md").read_text(encoding="utf-8").split("\n")
@@ -113,6 +123,7 @@ def main():
             os.symlink(TOP / part, folder / part)
         try_table(folder, lines)
         try_quick_start(folder, lines)
+        try_node(folder, lines)
     print(f"{len(FAILED)} went wrong")
     return 1 if FAILED else 0
 

@@ -16,7 +16,7 @@ _zinduroi() {
     case ${COMP_WORDS[1]} in
         node) COMPREPLY=($(compgen -W "--config --create --help" -- "$word")) ;;
         lock) COMPREPLY=($(compgen -W "--read --socket --strict --timeout --help --" -- "$word")) ;;
-        ask) COMPREPLY=($(compgen -W "--socket --help" -- "$word")) ;;
+        ask) COMPREPLY=($(compgen -W "--socket --wait --help" -- "$word")) ;;
         status) COMPREPLY=($(compgen -W "--json --socket --help" -- "$word")) ;;
         watch) COMPREPLY=($(compgen -W "--group --interval --layout --once --program --site --socket --status --store --wait --help" -- "$word")) ;;
         *) COMPREPLY=($(compgen -W "node lock ask status watch --help" -- "$word")) ;;

@@ -471,7 +471,7 @@ class Restarts(NodeCase):
 
     def test_strangers(self):
         """A session that the node doesn't know is listed, and left by an operator alone."""
-        with self.open() as site:
+        with self.open(log=self.folder / "0.log") as site:
             site.call("read a 7")
         self.start()
         client = self.connect()
@@ -534,6 +534,23 @@ class Restarts(NodeCase):
             process = self.spawn(config)
             errors = process.communicate(timeout=60)[1]
             self.assertEqual((errors, process.returncode), (fault.format(config=config, folder=self.folder), status))
+
+    def test_slow_program(self):
+        """A node says that it waits for a program that doesn't answer, as a launcher that builds it first, and can be ended meanwhile."""
+        slow = self.folder / "slow"
+        slow.write_text(f'#!/bin/sh\nuntil [ -e "{self.folder}/go" ]; do sleep 0.1; done\nexec "{PROGRAM}" "$@"\n')
+        slow.chmod(0o755)
+        config = self.write_config()
+        config.write_text(config.read_text().replace(f'"{PROGRAM}"', f'"{slow}"'))
+        self.process = self.spawn(config, "--create")
+        self.assertRegex(self.process.stderr.readline(), f"^zinduroi: waits for {slow} to read the layout, for [0-9]+ s now\n$")
+        began = time.monotonic()
+        self.assertEqual(self.end(), (0, f"zinduroi: ended while it waited for {slow} to read the layout\n"))
+        self.assertLess(time.monotonic() - began, 10)
+        self.assertFalse((self.folder / "0.db").exists())
+        self.process = self.spawn(config, "--create")
+        (self.folder / "go").touch()
+        self.assertTrue(wait_for(self.answers))
 
     def test_folder_away(self):
         """A folder that is not there was mistyped at the first start; later it may be away."""
@@ -721,8 +738,13 @@ class Commands(NodeCase):
         return process.returncode, output, errors
 
     def test_ask_and_status(self):
-        self.assertEqual(self.run_command("ask", "show a"), (69, "", f"zinduroi: no node answers at {self.socket}: No such file or directory\n"))
-        self.start()
+        nobody = (69, "", f"zinduroi: no node answers at {self.socket}: No such file or directory\n")
+        self.assertEqual(self.run_command("ask", "show a"), nobody)
+        began = time.monotonic()
+        self.assertEqual(self.run_command("ask", "--wait", "0.3", "show a"), nobody)
+        self.assertGreater(time.monotonic() - began, 0.3)
+        self.process = self.spawn(self.write_config(), "--create")
+        self.assertEqual(self.run_command("ask", "--wait", "60", "show a"), (0, "rights 3 inside 0 unfinished 0\n", ""))
         self.assertEqual(self.run_command("ask", "read", "a", "x"), (0, "admitted\n", ""))
         self.comes("sessions a", "0")
         self.assertEqual(self.run_command("ask", "leave a x"), (1, "refused NotHere\n", ""))

@@ -14,6 +14,8 @@ from .watch import add_watch, rows_of, run_watch, table
 
 # Exit statuses of sysexits.h: the configuration is wrong.
 BAD_CONFIG = 78
+# The seconds between two looks for a node that has not started yet.
+PAUSE = 0.1
 
 _NODE = """Serves a site to the programs of this machine, until SIGTERM or Ctrl-C. docs/OPERATING.md has the configuration file and
 what happens when a node ends: sessions stay in the store."""
@@ -41,6 +43,7 @@ def parser() -> argparse.ArgumentParser:
     lock.add_argument("record", metavar="RECORD", help="the name of the record")
     ask = commands.add_parser("ask", help="send a line to the node", description=_ASK, formatter_class=raw)
     _add_socket(ask)
+    ask.add_argument("--wait", type=_seconds, default=0.0, metavar="S", help="how many seconds to wait for a node that has not started yet")
     ask.add_argument("line", nargs="+", metavar="LINE", help="the line, or its words")
     status = commands.add_parser("status", help="print the state of the node", description=_STATUS, formatter_class=raw)
     _add_socket(status)
@@ -64,14 +67,14 @@ def main(words: Optional[Sequence[str]] = None) -> int:
     """Carries out the command line, and gives the exit status."""
     made = parser()
     before, command = _split(list(sys.argv[1:] if words is None else words))
+    if before[:1] == ["lock"] and not command and not {"-h", "--help"} & set(before):
+        made.error("lock: give a command behind --, as in: zinduroi lock RECORD -- COMMAND")
     given = made.parse_args(before)
     if given.command == "watch":
         return run_watch(given, made)
     if given.command == "node":
         return run_node(given.config, given.create)
     if given.command == "lock":
-        if not command:
-            made.error("lock: give a command behind --")
         return _interruptible(lambda: run_lock(given.socket, given.record, given.read, given.timeout, given.strict, command))
     return _interruptible(lambda: _ask(given))
 
@@ -93,11 +96,26 @@ def _interruptible(run: Callable[[], int]) -> int:
 def _ask(given: argparse.Namespace) -> int:
     """Carries out `ask` or `status`."""
     try:
+        if given.command == "ask":
+            with _connect(given.socket, given.wait) as client:
+                return run_ask(client, given.line)
         with NodeClient(given.socket) as client:
-            return run_ask(client, given.line) if given.command == "ask" else run_status(client, given.json)
+            return run_status(client, given.json)
     except NodeGone as gone:
         print(f"zinduroi: {gone}", file=sys.stderr)
         return NO_NODE
+
+
+def _connect(path: Optional[str], seconds: float) -> NodeClient:
+    """A connection to a node, which is waited for. Raises `NodeGone` once the time is over."""
+    end = time.monotonic() + seconds
+    while True:
+        try:
+            return NodeClient(path)
+        except NodeGone:
+            if time.monotonic() >= end:
+                raise
+        time.sleep(PAUSE)
 
 
 def run_node(config: str, create: bool) -> int:

@@ -9,6 +9,9 @@ from typing import IO, Callable, List, Optional, Sequence, Tuple, Union
 
 from .errors import LayoutRefused, LogRefused, ServiceEnded, StoreRefused, ZinduroiError
 
+# The most bytes of lines that go into the pipe before their replies are read. As many go in whole or not at all, and never wait for room.
+AT_ONCE = 4096
+
 _NAMED = {"store refused ": StoreRefused, "layout refused ": LayoutRefused, "log refused ": LogRefused}
 
 
@@ -34,7 +37,7 @@ class Call:
 class Service:
     """One process of `serve`.
 
-    A thread writes a line and reads its reply, one after the other, in the order in which callers came. Exceptions that
+    A thread writes the lines of calls that wait, and reads their replies, in the order in which callers came. Exceptions that
     interrupt a caller, such as `KeyboardInterrupt`, never reach that thread; so no reply is taken for that of another call."""
 
     def __init__(self, command: Sequence[str]) -> None:
@@ -47,6 +50,7 @@ class Service:
             self._errors.close()
             raise
         self._calls: "queue.SimpleQueue[Optional[Call]]" = queue.SimpleQueue()
+        self._held: List[Call] = []
         self._door = threading.Lock()
         self._closed = False
         self._ended: Optional[Tuple[int, str]] = None
@@ -99,35 +103,61 @@ class Service:
         self._process.kill()
 
     def _work(self) -> None:
-        while True:
-            call = self._calls.get()
-            if call is None:
-                break
-            if call.claim.acquire(blocking=False):
-                self._carry_out(call)
-                call.done.set()
-                if call.then is not None:
-                    call.then(call)
+        more = True
+        while more:
+            calls, more = self._next()
+            self._carry_out(calls)
         self._end()
 
-    def _carry_out(self, call: Call) -> None:
-        if self._ended is None:
+    def _next(self) -> Tuple[List[Call], bool]:
+        """Waits for a call, and takes those behind it whose lines still go into the pipe at once; and whether more can come. Its caller
+        can no longer drop a call that is taken."""
+        calls, self._held = self._held, []
+        size = sum(map(len, calls[0].lines)) if calls else 0
+        while True:
             try:
-                for line in call.lines:
-                    call.replies.append(self._exchange(line))
-                return
-            except OSError:
-                pass
-            self._end()
-        assert self._ended is not None
-        call.failure = ending(*self._ended)
+                call = self._calls.get(block=not calls)
+            except queue.Empty:
+                return calls, True
+            if call is None:
+                return calls, False
+            if call.claim.acquire(blocking=False):
+                size += sum(map(len, call.lines))
+                if calls and size > AT_ONCE:
+                    self._held = [call]
+                    return calls, True
+                calls.append(call)
 
-    def _exchange(self, line: bytes) -> str:
-        """Writes a line and reads the reply. Lines up to 4,096 bytes go into the pipe whole or not at all."""
-        stdin, stdout = self._process.stdin, self._process.stdout
-        assert stdin is not None and stdout is not None
-        stdin.write(line)
+    def _carry_out(self, calls: List[Call]) -> None:
+        """Has calls answered, and then hands them out: callers that woke up between two replies would keep this thread from the next."""
+        done = 0
+        try:
+            if self._ended is None and calls:
+                self._write(b"".join(line for call in calls for line in call.lines))
+                for call in calls:
+                    call.replies += [self._read() for _ in call.lines]
+                    done += 1
+        except OSError:
+            self._end()
+        for call in calls[done:]:
+            assert self._ended is not None
+            call.failure = ending(*self._ended)
+        for call in calls:
+            call.done.set()
+            if call.then is not None:
+                call.then(call)
+
+    def _write(self, lines: bytes) -> None:
+        """Writes lines. Up to `AT_ONCE` bytes go into the pipe whole or not at all."""
+        stdin = self._process.stdin
+        assert stdin is not None
+        stdin.write(lines)
         stdin.flush()
+
+    def _read(self) -> str:
+        """Reads a reply."""
+        stdout = self._process.stdout
+        assert stdout is not None
         reply: bytes = stdout.readline()
         if not reply.endswith(b"\n"):
             raise BrokenPipeError

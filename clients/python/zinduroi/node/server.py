@@ -24,6 +24,7 @@ from .listening import HangUps, Listener
 from .page import Page
 from .report import report
 from .sharing_task import Sharer, Sharing
+from .starting import Stopped, unless_stopped
 from .view import View
 
 # How many seconds a stop waits for lines in work.
@@ -105,7 +106,7 @@ class Node:
 
     async def run(self, create: bool) -> None:
         """Serves until `stop` is called. With `create` the store is made first. Raises what the site, the exchange or the socket
-        raise at their start."""
+        raise at their start, and `Stopped` if `stop` is called before the program has answered."""
         accepting: Optional[asyncio.Task[None]] = None
         try:
             await self._open(create)
@@ -125,9 +126,10 @@ class Node:
 
     async def _open(self, create: bool) -> None:
         config = self.config
-        layout = read_layout(config.layout, config.program)
+        layout = await unless_stopped(self._stopping, f"{config.program} to read the layout", read_layout, config.layout, config.program)
         records = tuple(record.name for record in layout.records)
-        self._site = NodeSite(config.store, config.site, config.layout, config.group, create, config.log, config.program)
+        self._site = await unless_stopped(self._stopping, f"{config.program} to open the store", NodeSite, config.store, config.site,
+                                          config.layout, config.group, create, config.log, config.program)
         self._book = Book(f"{config.store}.sessions")
         link = Link(self._site)
         stored = {}
@@ -277,4 +279,7 @@ async def serve(config: Config, create: bool) -> None:
     loop = asyncio.get_running_loop()
     for number in (signal.SIGTERM, signal.SIGINT):
         loop.add_signal_handler(number, node.stop)
-    await node.run(create)
+    try:
+        await node.run(create)
+    except Stopped as stopped:
+        report(str(stopped))
