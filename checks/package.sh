@@ -5,7 +5,7 @@
 #
 # Needs root, Debian's packages dpkg-dev, binutils, lintian and debootstrap, and a mirror: MIRROR, or http://deb.debian.org/debian.
 # ROOT names the folder of a fresh Debian that debootstrap made earlier; it is copied and stays as it is.
-# Nothing is started in it but the commands below. Ends with 0 where all went well.
+# Nothing is started in it but the commands below and two nodes. Ends with 0 where all went well.
 set -eu
 top=$(CDPATH='' cd -- "$(dirname -- "$0")/.." && pwd -P)
 program=${1:-$top/crates/seat_cli/out/seat_cli}
@@ -73,6 +73,13 @@ for page in seat_cli zinduroi; do
     [ -f "$root/usr/share/man/man1/$page.1.gz" ] || fail "no page of the manual for $page"
     [ -f "$root/usr/share/bash-completion/completions/$page" ] || fail "no completions for $page"
 done
+# README's two nodes, with a lock at each, by the command of the package.
+sed -n '/^    export PATH=\.:/,/^$/s/^    //p' "$top/README.md" | sed '1d; s/python3 -m zinduroi/zinduroi/' >"$root/tmp/nodes.sh"
+inside sh -c 'mkdir /tmp/nodes && cd /tmp/nodes && . ../nodes.sh && wait' >"$work/nodes" 2>&1 || { cat "$work/nodes" >&2; fail "the nodes failed"; }
+case $(grep ' is ' "$work/nodes" | tr '\n' ' ') in
+    '0 is in 0 is out 1 is in 1 is out ' | '1 is in 1 is out 0 is in 0 is out ') echo "two nodes, and a lock at each" ;;
+    *) cat "$work/nodes" >&2; fail "the locks of two nodes did not exclude each other" ;;
+esac
 [ ! -e "$root/etc/systemd/system/multi-user.target.wants/zinduroi-node.service" ] || fail "the unit is enabled"
 
 inside dpkg -r zinduroi >/dev/null

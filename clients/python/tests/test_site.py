@@ -1,5 +1,6 @@
 """A site: each kind of call and refusal, sessions, interruptions, kills, and how a service starts and ends."""
 import os
+import queue
 import shutil
 import signal
 import sqlite3
@@ -297,6 +298,18 @@ class Sessions(Case):
             thread.join()
         self.assertEqual(wrong, [])
         self.assertEqual(sorted(numbers), list(range(1, 33)))
+
+    def test_many_lines_at_once(self):
+        """Lines that wait go to the service together, each reply comes to its own call, and neither side waits for the other for ever."""
+        site, done = self.open(), queue.SimpleQueue()
+        lines = [(b"show a", "rights 3 inside 0 unfinished 0"), (b"take " + b"x" * 200, "refused NoMark")] * 10_000
+        self.addCleanup(os.kill, site.pid, signal.SIGKILL)
+        os.kill(site.pid, signal.SIGSTOP)
+        for line, _ in lines:
+            site.submit(line, done.put)
+        os.kill(site.pid, signal.SIGCONT)
+        found = [done.get(timeout=30) for _ in lines]
+        self.assertEqual([(call.lines, call.replies) for call in found], [((line + b"\n",), [reply]) for line, reply in lines])
 
 
 class Interruptions(Case):
