@@ -19,8 +19,6 @@ mod listed;
 #[cfg(test)]
 mod nets;
 #[cfg(test)]
-mod ordered;
-#[cfg(test)]
 mod pairs;
 #[cfg(test)]
 mod sites;
@@ -30,5 +28,3 @@ mod stops;
 mod texts;
 #[cfg(test)]
 mod verdicts;
-#[cfg(test)]
-mod waits;
