@@ -82,7 +82,7 @@ pub record TakerState : Type 0 where
   pub taken : List (List ℕ)
   -- the word that no text will follow was taken
   pub finished : Bool
-  -- a take found that no text will come
+  -- a take found that no text will come, while the end had a receiver
   pub ended : Bool
   -- it has a receiver, since it has not been closed
   pub receives : Bool

@@ -1,4 +1,4 @@
-ghost use Rattle.std.specs.Prelude.{◌≡◌, ◌≤◌, ◌⊎◌, true, false, ℕ, List, [], ◌∷◌, ◌++◌, ◌||◌, if◌then◌else◌, length, string_bytes, IfOk, IfSome, IfNone};
+ghost use Rattle.std.specs.Prelude.{◌≡◌, ◌≤◌, ◌⊎◌, true, false, ℕ, List, [], ◌∷◌, ◌++◌, ◌||◌, if◌then◌else◌, length, string_bytes, IfOk, IfSome, IfNone, None};
 ghost use Rattle.crossbeam_channel.specs.Claims.{IsSeatAt};
 ghost use Rattle.crossbeam_channel.specs.Ends.{sends_on, receives_on, ruled_capacity};
 ghost use Rattle.ordered_link.specs.Rule.{link_capacity};
@@ -193,7 +193,8 @@ fn take_parcel<R: Wait>(
 }
 
 impl Taker {
-    /// Takes the next text, and waits while there is none. `None` where none will come, or this end is closed. May wait.
+    /// Takes the next text, and waits while there is none. `None` where none will come, which closes this end, or where this
+    /// end is closed, which then stays as it is. May wait.
     pub fn take<R: Wait>(&mut self, rt: &R) -> Option<String>
         ensures link { self.new.link ≡ self.old.link }
         ensures taken { IfSome result (λ text. self.new.taken ≡ self.old.taken ++ string_bytes text ∷ []) }
@@ -201,15 +202,15 @@ impl Taker {
         ensures open { IfSome result (λ _. (self.new.ended ≡ self.old.ended) × (self.new.receives ≡ self.old.receives)) }
         ensures finished { IfSome result (λ _. self.new.finished ≡ self.old.finished) }
         ensures stays_finished { self.old.finished ≡ true → self.new.finished ≡ true }
-        ensures ended { IfNone result (self.new.ended ≡ true) }
+        ensures ended { IfNone result (self.old.receives ≡ true → self.new.ended ≡ true) }
         ensures closed { IfNone result (self.new.receives ≡ false) }
-        ensures gone { IfNone result (self.new.finished ≡ self.old.finished → self.new ≡ record self.old { ended = true; receives = false }) }
+        ensures gone { IfNone result (self.old.receives ≡ true → self.new.finished ≡ self.old.finished → self.new ≡ record self.old { ended = true; receives = false }) }
+        ensures was_closed { self.old.receives ≡ false → (result ≡ None) × (self.new ≡ self.old) }
     {
-        let taken = match &self.receiver {
-            Some(receiver) => take_parcel(rt, receiver, &mut self.pass),
-            None => None,
+        let Some(receiver) = &self.receiver else {
+            return None;
         };
-        match taken {
+        match take_parcel(rt, receiver, &mut self.pass) {
             Some(Parcel::Text(text)) => return Some(text),
             Some(Parcel::Last) => self.finished = true,
             None => {}

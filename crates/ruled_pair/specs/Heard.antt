@@ -1,5 +1,6 @@
 -- What the report of a receiving end says of the texts that it took (this project's own).
-use Rattle.std.specs.Prelude.{◌≡◌, ℕ, ◌+◌, ◌≤◌, Bool, true, false, List, [], ◌∷◌, ◌++◌, length, drop, count_by, ◌||◌}
+use Rattle.std.specs.Prelude.{◌≡◌, ℕ, ◌+◌, ◌≤◌, ◌⊎◌, Bool, true, false, List, [], ◌∷◌, ◌++◌, length, drop, count_by, ◌||◌}
+use Rattle.ordered_link.specs.Ends.{TakerState}
 use Rattle.session_book.specs.declared.pass.Receipt.{Receipt}
 use Rattle.exchange_threads.specs.declared.fate.Fate.{Fate}
 use Rattle.exchange_threads.specs.declared.fate.Fate.TheVariants.{Memory}
@@ -13,6 +14,11 @@ AreFated n (t ∷ ts) (f ∷ fs) rs =
     (added : List Receipt) × (rest : List Receipt) × (rs ≡ added ++ rest) × IsFateOf t f n added × (is_ended f ≡ true → fs ≡ []) × AreFated (n + length added) ts fs rest
 AreFated n [] (f ∷ fs) rs = ⊥
 AreFated n (t ∷ ts) [] rs = ⊥
+
+-- An end at which texts are taken has its receiver until a take finds that no text will come: nothing else closes it while
+-- its runner runs.
+abbrev pub IsOpenOrEnded : TakerState → Type 0
+IsOpenOrEnded t = (t.receives ≡ true) ⊎ (t.ended ≡ true)
 
 -- memory ran out over the text
 abbrev pub is_lacking : Fate → Bool

@@ -50,16 +50,17 @@ impl RuledInlet {
 
 impl Inlet for RuledInlet {
     ghost use Rattle.std.specs.Prelude.{◌≡◌, ◌⊎◌, true, false, ◌<◌, ◌∷◌, ◌++◌, [], map, string_bytes, vec_len, vec_capacity};
-    ghost use Rattle.ruled_pair.specs.Heard.{AreHeard};
+    ghost use Rattle.ruled_pair.specs.Heard.{AreHeard, IsOpenOrEnded};
     ghost use Rattle.std.proofs.Common.{refl, ◌∙◌};
     ghost use Rattle.ruled_pair.specs.Growing.{heard_lacks};
 
     ghost accounts = { λ e rs texts m ended. AreHeard rs e.first (map string_bytes e.taken.items) e.fates.items m ended × (e.taker.taken ≡ map string_bytes e.taken.items)
-        × (texts ≡ map string_bytes e.taken.items) };
+        × (texts ≡ map string_bytes e.taken.items) × IsOpenOrEnded e.taker };
 
     ghost holds = { λ e text rs texts m. AreHeard rs e.first (map string_bytes e.taken.items) e.fates.items m false
         × (e.taker.taken ≡ map string_bytes e.taken.items ++ text ∷ []) × (texts ≡ map string_bytes e.taken.items)
-        × (vec_len e.taken < vec_capacity e.taken) × (vec_len e.fates < vec_capacity e.fates) };
+        × (vec_len e.taken < vec_capacity e.taken) × (vec_len e.fates < vec_capacity e.fates)
+        × IsOpenOrEnded e.taker };
 
     ghost closed = { λ e. e.taker.finished ≡ true };
 
@@ -88,5 +89,5 @@ impl Inlet for RuledInlet {
 
     ghost same_later = { λ a b c first then. (then.0 ∙ first.0, then.1 ∙ first.1) };
 
-    ghost lacks = { λ e rs texts m k ended right. (heard_lacks rs m k ended right.0, right.1, right.2) };
+    ghost lacks = { λ e rs texts m k ended right. (heard_lacks rs m k ended right.0, right.1, right.2, right.3) };
 }

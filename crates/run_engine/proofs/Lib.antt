@@ -2,3 +2,4 @@ pub mod ScriptLemmas
 pub mod EngineLemmas
 pub mod SiteLemmas
 pub mod ThreadLemmas
+pub mod RoundLemmas

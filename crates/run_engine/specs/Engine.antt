@@ -81,8 +81,8 @@ AnswersScript layout bytes old new logs logs_after Fault = ⊥
 
 -- The whole engine: the bytes read are all that the source had, within the limit, and were carried out or refused; or
 -- there are more, and that refusal alone was written; or memory, a read or a write failed. Without memory nothing was
--- written to the sink of replies. In each case the source lost at most one byte past the limit. An engine has no word for
--- wrong arguments, for want of a layout, or for a store.
+-- written to the sink of replies, and where a read failed nothing was written at all. In each case the source lost at most
+-- one byte past the limit. An engine has no word for wrong arguments, for want of a layout, or for a store.
 abbrev pub EndsRun : LayoutState → SourceState → SourceState → SinkState → SinkState → Option SinkState → Option SinkState → Status → Type 0
 EndsRun layout source source_after sink sink_after logs logs_after Done =
     (bytes : List ℕ) × ReadsInput source source_after (Ok bytes) × CarriesOut layout bytes sink sink_after logs logs_after
@@ -92,7 +92,8 @@ EndsRun layout source source_after sink sink_after logs logs_after Refused =
 EndsRun layout source source_after sink sink_after logs logs_after Memory =
     LosesSome source source_after (input_limit + 1) × LacksMemory source.fault source_after.fault × (sink_after ≡ sink)
 EndsRun layout source source_after sink sink_after logs logs_after Io =
-    LosesSome source source_after (input_limit + 1) × (IsFailure source_after.fault ⊎ HasFailed sink_after logs_after)
+    LosesSome source source_after (input_limit + 1)
+    × ((IsFailure source_after.fault × (sink_after ≡ sink) × (logs_after ≡ logs)) ⊎ HasFailed sink_after logs_after)
 EndsRun layout source source_after sink sink_after logs logs_after Usage = ⊥
 EndsRun layout source source_after sink sink_after logs logs_after (NoLayout fault) = ⊥
 EndsRun layout source source_after sink sink_after logs logs_after (NoStore refusal) = ⊥

@@ -3,6 +3,7 @@ pub mod Callers
 pub mod Gates
 pub mod Tasks
 pub mod Threads
+pub mod Rounds
 pub mod Runs
 pub mod Replies
 pub mod Logs

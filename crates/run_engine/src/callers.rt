@@ -30,8 +30,8 @@ pub fn ask_all<K: Keeper, L: Opening, R: Wait>(
     true
 }
 
-// Whether a reply leaves an entry in the log.
-fn is_logged(reply: &Reply) -> bool
+/// Whether a reply leaves an entry in the log.
+pub fn is_logged(reply: &Reply) -> bool
     ensures { result ≡ is_logged reply.now }
 {
     match reply {

@@ -1,13 +1,15 @@
 //! Two sites at work with links that keep their order between them: one function opens, runs and closes both.
-ghost use Rattle.std.specs.Prelude.{◌≡◌, ◌<◌, ◌≤◌, ◌+◌, true, [], ◌∷◌, IfOk, OnOk, List};
+ghost use Rattle.std.specs.Prelude.{◌≡◌, ◌<◌, ◌≤◌, ◌+◌, true, [], ◌∷◌, IfOk, OnOk, List, length};
 ghost use denote.Param.Send.{IsSend, IsSync};
 ghost use Rattle.admission_core.specs.Kept.{DurableState};
 ghost use Rattle.session_book.specs.Passes.{new_pass};
 ghost use Rattle.session_book.specs.Sites.{new_passes};
 ghost use Rattle.ordered_link.specs.Rule.{link_capacity};
+ghost use Rattle.run_engine.specs.Rounds.{HasHelped, HaveRounds};
 ghost use Rattle.run_engine.specs.Tasks.{HasCalled};
 ghost use Rattle.run_engine.specs.Runs.{AreSiteRuns, IsClosedWith};
 
+use crate::callers::is_logged;
 use crate::script::Asked;
 use crate::sites::{asks_of, opened};
 use crate::tasks::{AlwaysOpen, Caller, run_caller};
@@ -132,6 +134,8 @@ fn work_both<
     requires few { turns ≤ 1000000000 }
     ensures called { HasCalled work.old.caller work.new.caller }
     ensures peer_called { HasCalled peer_work.old.caller peer_work.new.caller }
+    ensures linked { IfOk result (λ _. HaveRounds (length site.now.layout.records) (length peer.now.layout.records) turns
+        work.old.end work.new.end peer_work.old.end peer_work.new.end) }
 {
     let Work { caller, end } = work;
     let Work {
@@ -142,6 +146,8 @@ fn work_both<
         rt,
         &mut || -> bool
             requires { IsSend K.row × IsSend L.row × IsSync L.row × IsSend N.row × IsSend M.row × IsSync M.row × IsSync R.row × (turns ≤ 1000000000) }
+            ensures { result ≡ true → HaveRounds (length site.entry.now.layout.records) (length peer.entry.now.layout.records) turns
+                end.entry.now end.exit.now peer_end.entry.now peer_end.exit.now }
         { run_rounds(rt, alloc, site, peer, end, peer_end, turns) },
         &mut || -> ()
             requires { IsSend K.row × IsSend L.row × IsSync L.row × IsSend N.row × IsSend M.row × IsSync M.row × IsSync R.row }
@@ -177,38 +183,52 @@ fn run_rounds<
     end: &mut RuledEnd<L, AlwaysOpen>,
     peer_end: &mut RuledEnd<M, AlwaysOpen>,
     turns: u64,
-) -> bool {
+) -> bool
+    requires few { turns ≤ 1000000000 }
+    ensures { result ≡ true → HaveRounds (length site.now.layout.records) (length peer.now.layout.records) turns end.old end.new peer_end.old peer_end.new }
+{
     let mut begun = 0;
     'rounds: while begun < turns {
         let round = round_of(turns - begun);
-        let ended = begun + round;
-        ask_help(rt, site, &mut end.out_pass, begun, ended);
-        ask_help(rt, peer, &mut peer_end.out_pass, begun, ended);
-        if run_ruled_pair(rt, alloc, site, peer, end, peer_end, round).is_err() {
+        if !ask_help(rt, site, &mut end.out_pass, begun, round) {
             return false;
         }
-        begun = ended;
+        if !ask_help(rt, peer, &mut peer_end.out_pass, begun, round) {
+            return false;
+        }
+        let Ok((_there, _back)) = run_ruled_pair(rt, alloc, site, peer, end, peer_end, round) else {
+            return false;
+        };
+        begun += round;
     }
     true
 }
 
-// Asks a site for help with each record whose turn comes between these turns of the run. The turns of a round begin at 0, so
-// its outbox asks for the first records only; that is enough where a round has a turn for each record.
+// Asks a site for help with each record whose turn comes in so many turns of the run, from this one on. Whether each reply
+// was logged; the first that is not ends it. The turns of a round begin at 0, so its outbox asks for the first records only;
+// that is enough where a round has a turn for each record.
 fn ask_help<K: Keeper, L: Opening, R: Wait>(
     rt: &R,
     site: &Site<K, L>,
     pass: &mut Pass<L>,
     from: u64,
-    to: u64,
-) {
+    turns: u64,
+) -> bool
+    requires few { from + turns ≤ 1000000000 }
+    ensures { result ≡ true → HasHelped (length site.now.layout.records) from turns pass.old pass.new }
+{
     let records = u64::from(site.records());
     if records <= ROUND_TURNS {
-        return;
+        return true;
     }
-    for turn in from..to {
-        let r = (turn % records) as u16;
-        let _ = site.call(rt, pass, Call::Ask(Ask::Help { r }));
+    'turns: for n in 0..turns {
+        let r = ((from + n) % records) as u16;
+        let reply = site.call(rt, pass, Call::Ask(Ask::Help { r }));
+        if !is_logged(&reply) {
+            return false;
+        }
     }
+    true
 }
 
 // Runs the callers of both sites, a thread for each.

@@ -1,5 +1,5 @@
 -- A site behind its lock, as contracts see it, and what closing it tells.
-use Rattle.std.specs.Prelude.{◌≡◌, ℕ, ◌<◌, ◌≤◌, ◌==◌, Bool, true, false, List, [], ◌∷◌, ◌++◌, length, slice_index_or, All, IsTrue, Result, Ok, Err, Vec, zero, suc}
+use Rattle.std.specs.Prelude.{◌≡◌, ℕ, ◌<◌, ◌≤◌, ◌==◌, Bool, true, false, List, [], ◌∷◌, ◌++◌, length, take, slice_index_or, All, IsTrue, Result, Ok, Err, Vec, zero, suc}
 use Rattle.std.specs.Global.{Global}
 use Rattle.std.specs.List.{list_any}
 use Rattle.merge_core.specs.Layout.{LayoutState, IsLayout}
@@ -105,14 +105,15 @@ pub record BearsOut (limit : ℕ) (entries : List Entry) (p : PassState) : Type 
   pub frozen : p.frozen ≡ true → ends_in_fault false entries ≡ true
   pub log_full : p.log_full ≡ true → length entries ≡ limit
 
--- Among these passes is one with this number that a log does not bear out, and its receipts are the log's before this
--- place and no further: all of them, where one is lacking or a mark is not borne out.
+-- Among these passes is one with this number that a log does not bear out, and each before it is borne out. Its receipts
+-- are the log's before this place and no further: all of them, where one is lacking or a mark is not borne out.
 pub record IsAstray (limit : ℕ) (entries : List Entry) (ps : List PassState) (number at : ℕ) : Type 0 where
   pub pass : PassState
   pub place : ℕ
   pub within : place < length ps
   pub there : pass ≡ slice_index_or ps place pass
   pub numbered : pass.number ≡ number
+  pub earlier : All (BearsOut limit entries) (take place ps)
   pub astray : ¬ BearsOut limit entries pass
   pub first : IsFirstOther (receipts_of number entries) pass.receipts at
 

@@ -2,7 +2,7 @@
 ghost use Rattle.std.specs.Prelude.{◌≡◌, ◌≢◌, ℕ, List, ◌+◌, ◌<◌, ◌≤◌, ◌++◌, ◌↔◌, [], ◌∷◌, All, IsTrue, IfOk, IfErr, IfSome, None, false, length, take, vec_capacity};
 ghost use Rattle.desk_log.specs.Log.{ends_in_fault};
 ghost use Rattle.desk_log.specs.declared.entry.Entry.{Entry as EntryThere};
-ghost use Rattle.session_book.specs.declared.error.CloseError.TheVariants.{PassMissing, Mismatch};
+ghost use Rattle.session_book.specs.declared.error.CloseError.TheVariants.{PassMissing, Mismatch, Memory as OutOfMemory};
 ghost use Rattle.session_book.specs.Passes.{receipts_of, receipts_in, IsFirstOther};
 ghost use Rattle.session_book.specs.Sites.{AreAll, BearsOut, has_number, IsSameOpening, IsDeskAstray};
 
@@ -52,6 +52,7 @@ pub(crate) fn checked<K: Keeper, L: Ledger>(
     ensures each { IfOk result (λ _. All (BearsOut limit desk.now.log.entries) passes.now) }
     ensures room { IfOk result (λ runs. (runs.items ≡ []) × (1 ≤ vec_capacity runs)) }
     ensures all_there { IfErr result (λ e. e ≢ PassMissing) }
+    ensures lacks { IfErr result (λ e. e ≡ OutOfMemory → IsSameOpening desk.now layout.now site first.now limit → All (BearsOut limit desk.now.log.entries) passes.now) }
     ensures astray { IfErr result (λ e. (pass at : ℕ) → e ≡ Mismatch pass at → IsDeskAstray desk.now layout.now site first.now limit passes.now pass at) }
 {
     if !is_same_opening(desk, layout, site, first, limit) {

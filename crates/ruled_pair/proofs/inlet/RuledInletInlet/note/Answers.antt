@@ -11,4 +11,5 @@ returns-clause-noted c = λ rs added earlier m held is.
       heard_note rs added c.args.self.now.first texts (map string_bytes c.push_reserved.new.self.items) c.args.self.now.fates.items c.push_reserved-2.new.self.items m (string_bytes c.args.text) c.args.fate held.0 is more c.push_reserved-2.ensures.items,
       held.1 ∙ sym more,
       ap (λ (ts : List (List ℕ)). ts ++ string_bytes c.args.text ∷ []) held.2 ∙ sym more,
+      held.5,
     )
