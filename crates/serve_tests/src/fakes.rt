@@ -146,6 +146,9 @@ impl Conversation for Marking {
 
     ghost has_failed = { λ _. Unit {0} };
 
+    // Each text that it is told is counted.
+    ghost loses = { λ _. ⊥ };
+
     ghost begins = { λ _. tt };
 
     fn next_line(&mut self) -> Next {
