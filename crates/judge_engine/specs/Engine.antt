@@ -63,9 +63,9 @@ AnswersLogs layout cut bytes old new (NoStore refusal) = ⊥
 AnswersLogs layout cut bytes old new Fault = ⊥
 
 -- The whole engine: the bytes read are all that the source had, within the limit, and their answer was written; or there
--- are more, and that refusal alone was written; or memory, a read or a write failed. Without memory nothing was written.
--- In each case the source lost at most one byte past the limit. An engine has no word for wrong arguments, for want of a
--- layout, or for a store.
+-- are more, and that refusal alone was written; or memory, a read or a write failed. Without memory, and where a read
+-- failed, nothing was written. In each case the source lost at most one byte past the limit. An engine has no word for
+-- wrong arguments, for want of a layout, or for a store.
 abbrev pub EndsJudge : LayoutState → Option (List ℕ) → SourceState → SourceState → SinkState → SinkState → Status → Type 0
 EndsJudge layout cut source source_after sink sink_after Done =
     (bytes : List ℕ) × ReadsInput source source_after (Ok bytes) × WritesJudgement layout cut bytes sink sink_after
@@ -75,7 +75,7 @@ EndsJudge layout cut source source_after sink sink_after Refused =
 EndsJudge layout cut source source_after sink sink_after Memory =
     LosesSome source source_after (input_limit + 1) × LacksMemory source.fault source_after.fault × (sink_after ≡ sink)
 EndsJudge layout cut source source_after sink sink_after Io =
-    LosesSome source source_after (input_limit + 1) × (IsFailure source_after.fault ⊎ HasFault sink_after.fault)
+    LosesSome source source_after (input_limit + 1) × ((IsFailure source_after.fault × (sink_after ≡ sink)) ⊎ HasFault sink_after.fault)
 EndsJudge layout cut source source_after sink sink_after Usage = ⊥
 EndsJudge layout cut source source_after sink sink_after (NoLayout fault) = ⊥
 EndsJudge layout cut source source_after sink sink_after (NoStore refusal) = ⊥

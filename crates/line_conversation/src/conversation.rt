@@ -34,12 +34,16 @@ pub trait Conversation {
     /// The reader or the writer has failed.
     ghost has_failed: { Self → Type 0 };
 
+    /// A text was lost: the writer failed where it was to be told.
+    ghost loses: { Self → Type 0 };
+
     /// Reads the next line. It may wait for its bytes, and never for bytes behind it. After a failure nothing is read
     /// any more.
     fn next_line(&mut self) -> Next
         ensures heard { (first : Self) (before : List Turn) → took_place first before self.old → took_place first (before ++ heard_by result (kept self.new)) self.new }
         ensures ended { result ≡ AtEnd → has_ended self.new }
-        ensures failed { result ≡ HasFailed → has_failed self.new };
+        ensures failed { result ≡ HasFailed → has_failed self.new }
+        ensures whole { loses self.new → loses self.old };
 
     /// The line that is kept, without its LF.
     fn line(&self) -> &[u8]
@@ -49,7 +53,8 @@ pub trait Conversation {
     fn tell(&mut self, text: &str) -> bool
         ensures told { (first : Self) (before : List Turn) → took_place first before self.old → result ≡ true → took_place first (before ++ Told text.now ∷ []) self.new }
         ensures untold { (first : Self) (before : List Turn) → took_place first before self.old → result ≡ false → took_place first before self.new }
-        ensures failed { result ≡ false → has_failed self.new };
+        ensures failed { result ≡ false → has_failed self.new }
+        ensures whole { result ≡ true → loses self.new → loses self.old };
 
     /// Before any turn nothing took place.
     ghost begins: { (c : Self) → took_place c [] c };

@@ -91,6 +91,7 @@ impl<R: Read, W: Write> StreamConversation<R, W> {
 }
 
 impl<R: Read, W: Write> Conversation for StreamConversation<R, W> {
+    ghost use Rattle.text_input.specs.Source.{HasFault};
     ghost use Rattle.line_conversation.specs.Stream.{TookPlace, HasEnded, HasFailed};
     ghost use Rattle.line_conversation.specs.Begins.{took_nothing};
 
@@ -101,6 +102,8 @@ impl<R: Read, W: Write> Conversation for StreamConversation<R, W> {
     ghost has_ended = { HasEnded };
 
     ghost has_failed = { HasFailed };
+
+    ghost loses = { λ s. HasFault s.sink.fault };
 
     ghost begins = { took_nothing };
 

@@ -1,4 +1,5 @@
 //! Where the store of a site lies.
+ghost use Rattle.std.specs.Prelude.{◌≡◌, true};
 
 /// The place of a site's store. Somebody may remove what is there, or put another file there, while the site serves; no
 /// contract can say when.
@@ -12,7 +13,9 @@ pub trait StorePlace {
 pub struct NoPlace {}
 
 impl StorePlace for NoPlace {
-    fn is_there(&self) -> bool {
+    fn is_there(&self) -> bool
+        ensures { result ≡ true }
+    {
         true
     }
 }

@@ -8,13 +8,14 @@ use Rattle.log_file.specs.declared.file.SystemFile.{SystemFile}
 use Rattle.log_file.specs.declared.hold.ExclusiveFile.{Ghosts as HoldGhosts}
 use Rattle.log_file.specs.declared.refusal.LogError.{LogError}
 use Rattle.log_file.specs.declared.refusal.LogError.TheVariants.{Refused, Memory, Io}
+use Rattle.log_file.specs.declared.refusal.LogRefusal.{LogRefusal}
 use Rattle.log_file.specs.declared.refusal.LogRefusal.TheVariants.{NotRead, InUse, NotALog, NotTranscript, WrongSite, WrongStore}
 use Rattle.log_file.specs.Steps.{FileStep, appended_in}
 use Rattle.log_file.specs.Logged.{LogState}
 use Rattle.log_file.specs.Mending.{IsRefused, MendsTo}
 use Rattle.log_file.specs.Errors.{IsHoldError, IsReadError}
 use Rattle.log_file.specs.Folder.{named_folder}
-use Rattle.log_file.specs.Opening.{IsBegunLog, IsOpenedLog, run_line}
+use Rattle.log_file.specs.Opening.{IsBegunLog, IsOpenedLog, RefusesLog, run_line}
 
 module _ {F : Type 0} (hold : HoldGhosts F) (remaining contents : F → Option (List ℕ)) (layout : LayoutState) (i : ℕ) (first : DurableState) where
   pub not_held : (file : F) (e : LogError) → IsHoldError hold file e → IsOpenedLog hold remaining contents layout i first (Err e)
@@ -37,15 +38,20 @@ module _ {F : Type 0} (hold : HoldGhosts F) (remaining contents : F → Option (
   not_read (Refused WrongSite) is = absurd is
   not_read (Refused WrongStore) is = absurd is
 
-  pub not_mended : (bytes : List ℕ) (e : LogError) → IsRefused layout i bytes first e → IsOpenedLog hold remaining contents layout i first (Err e)
-  not_mended bytes Memory is = tt
-  not_mended bytes Io is = tt
-  not_mended bytes (Refused NotRead) is = tt
-  not_mended bytes (Refused InUse) is = absurd is.fault
-  not_mended bytes (Refused NotALog) is = (bytes, is)
-  not_mended bytes (Refused (NotTranscript line)) is = (bytes, is)
-  not_mended bytes (Refused WrongSite) is = (bytes, is)
-  not_mended bytes (Refused WrongStore) is = (bytes, is)
+  -- all that a file which is held gave
+  module _ (file read : F) (bytes : List ℕ) (held : hold.is_held file) (gave : Consumes (remaining file) (remaining read) bytes) (at_end : IsAtEnd (remaining read)) where
+    refuses : (refusal : LogRefusal) → IsRefused layout i bytes first (Refused refusal) → RefusesLog hold remaining layout i first refusal
+    refuses refusal is = record { opened = file; held = held; read = read; bytes = bytes; gave = gave; at_end = at_end; refused = is }
+
+    pub not_mended : (e : LogError) → IsRefused layout i bytes first e → IsOpenedLog hold remaining contents layout i first (Err e)
+    not_mended Memory is = tt
+    not_mended Io is = tt
+    not_mended (Refused NotRead) is = tt
+    not_mended (Refused InUse) is = absurd is.fault
+    not_mended (Refused NotALog) is = refuses NotALog is
+    not_mended (Refused (NotTranscript line)) is = refuses (NotTranscript line) is
+    not_mended (Refused WrongSite) is = refuses WrongSite is
+    not_mended (Refused WrongStore) is = refuses WrongStore is
 
   pub opened : (g : Ghosts (SystemFile F)) → ((a b : SystemFile F) (steps : List FileStep) → g.did a steps b → Appends (contents a.file) (contents b.file) (appended_in steps))
       → (file read : F) (bytes : List ℕ) (system : SystemFile F) (size kept : ℕ) (tail : List ℕ) (answer : Result (LogState (SystemFile F)) LogError)

@@ -30,5 +30,5 @@ pub record Cuts {F : Type 0} (g : Ghosts F) (old new : F) (size kept : ℕ) : Ty
 -- why a file is not held
 abbrev pub IsHoldError : {F : Type 0} → HoldGhosts F → F → LogError → Type 0
 IsHoldError g file (Refused InUse) = g.is_in_use file
-IsHoldError g file (Refused NotRead) = Unit {0}
+IsHoldError g file (Refused NotRead) = g.is_unknown file
 IsHoldError g file e = ⊥

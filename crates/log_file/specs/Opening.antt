@@ -9,6 +9,7 @@ use Rattle.log_file.specs.declared.file.SystemFile.{SystemFile}
 use Rattle.log_file.specs.declared.hold.ExclusiveFile.{Ghosts as HoldGhosts}
 use Rattle.log_file.specs.declared.refusal.LogError.{LogError}
 use Rattle.log_file.specs.declared.refusal.LogError.TheVariants.{Refused, Memory, Io}
+use Rattle.log_file.specs.declared.refusal.LogRefusal.{LogRefusal}
 use Rattle.log_file.specs.declared.refusal.LogRefusal.TheVariants.{NotRead, InUse}
 use Rattle.log_file.specs.Steps.{FileStep, bytes_after, appended_in}
 use Rattle.log_file.specs.Logged.{LogState}
@@ -57,12 +58,22 @@ module _ {F : Type 0} where
     pub length_is : log.length ≡ kept + length (tail ++ run_line layout i first)
     pub running : log.failed ≡ false
 
+  -- a file was held against others, and then all that it gave was read, and is refused so
+  pub record RefusesLog (hold : HoldGhosts F) (remaining : F → Option (List ℕ)) (layout : LayoutState) (i : ℕ) (first : DurableState) (refusal : LogRefusal) : Type 0 where
+    pub opened : F
+    pub held : hold.is_held opened
+    pub read : F
+    pub bytes : List ℕ
+    pub gave : Consumes (remaining opened) (remaining read) bytes
+    pub at_end : IsAtEnd (remaining read)
+    pub refused : IsRefused layout i bytes first (Refused refusal)
+
   -- The answer to a path. Another holds a file that is in use. A file that is refused otherwise was read, and nothing was
   -- written to it; nothing can be said of one that was not read.
   abbrev pub IsOpenedLog : HoldGhosts F → (F → Option (List ℕ)) → (F → Option (List ℕ)) → LayoutState → ℕ → DurableState → Result (LogState (SystemFile F)) LogError → Type 0
   IsOpenedLog hold remaining contents layout i first (Ok log) = OpensLog hold remaining contents layout i first log
   IsOpenedLog hold remaining contents layout i first (Err (Refused NotRead)) = Unit {0}
   IsOpenedLog hold remaining contents layout i first (Err (Refused InUse)) = (opened : F) × hold.is_in_use opened
-  IsOpenedLog hold remaining contents layout i first (Err (Refused refusal)) = (bytes : List ℕ) × IsRefused layout i bytes first (Refused refusal)
+  IsOpenedLog hold remaining contents layout i first (Err (Refused refusal)) = RefusesLog hold remaining layout i first refusal
   IsOpenedLog hold remaining contents layout i first (Err Memory) = Unit {0}
   IsOpenedLog hold remaining contents layout i first (Err Io) = Unit {0}

@@ -1,5 +1,5 @@
 //! A file that is held against others.
-ghost use Rattle.std.specs.Prelude.{◌≡◌, true, false, Ok};
+ghost use Rattle.std.specs.Prelude.{◌≡◌, true, false, Ok, Err};
 
 use std::fs::{File, TryLockError};
 
@@ -11,11 +11,15 @@ pub trait ExclusiveFile {
     /// Another opening of it does.
     ghost is_in_use: { Self → Type 0 };
 
+    /// The system can't tell whether this opening may hold it.
+    ghost is_unknown: { Self → Type 0 };
+
     /// Holds the file until it is closed, unless another opening of it does. Whether it is held now; an error where the
     /// system can't tell.
     fn try_hold(&self) -> Result<bool, ()>
         ensures held { result ≡ Ok true → is_held self.now }
-        ensures in_use { result ≡ Ok false → is_in_use self.now };
+        ensures in_use { result ≡ Ok false → is_in_use self.now }
+        ensures unknown { result ≡ Err tt → is_unknown self.now };
 }
 
 // By the system's advisory lock on the whole file. Two openings of a file do not share it, also in one process; the system
@@ -25,6 +29,8 @@ impl ExclusiveFile for File {
     ghost is_held = { λ _. Unit {0} };
 
     ghost is_in_use = { λ _. Unit {0} };
+
+    ghost is_unknown = { λ _. Unit {0} };
 
     fn try_hold(&self) -> Result<bool, ()> {
         match self.try_lock() {

@@ -52,6 +52,7 @@ module _ {K C L : Type 0} (g : Ghosts K) (m : K → Type 0) (c : TalkGhosts C) (
       keeps_stop = λ stopped kept. let clash : true ≡ false = sym stopped ∙ running in absurd (cc);
     };
     counted = refl;
+    whole = λ lost. lost;
   }
 
   module _ (first : DurableState) (keeper : K) (live : LiveState K) (talk talk_now : C) (log log_now : L) where
@@ -68,6 +69,7 @@ module _ {K C L : Type 0} (g : Ghosts K) (m : K → Type 0) (c : TalkGhosts C) (
           logged = w.logged;
           site = subst (λ (b : Bool). ServedSite g m terms a first b keeper live.keeper w.exchanges w.entries) is (site_served g m terms a first keeper live w.exchanges w.entries w.site);
           ended = at_end;
+          whole = w.whole;
         }
 
         at : (f : Bool) → live.frozen ≡ f → EndsSite g m c h terms a first keeper live.keeper talk talk_now log log_now (ended f)
@@ -117,6 +119,7 @@ module _ {K C L : Type 0} (g : Ghosts K) (m : K → Type 0) (c : TalkGhosts C) (
         heard = it.heard;
         logged = it.logged;
         ended = it.ended;
+        whole = it.whole;
         site = rebased g m terms a first d false keeper k keeper_after it.exchanges it.entries on it.site;
       }
   from_kept first d keeper k keeper_after talk talk_after log log_after Fault on it =
@@ -126,6 +129,7 @@ module _ {K C L : Type 0} (g : Ghosts K) (m : K → Type 0) (c : TalkGhosts C) (
         heard = it.heard;
         logged = it.logged;
         ended = it.ended;
+        whole = it.whole;
         site = rebased g m terms a first d true keeper k keeper_after it.exchanges it.entries on it.site;
       }
   from_kept first d keeper k keeper_after talk talk_after log log_after Io on it =

@@ -180,19 +180,20 @@ module _ {K C L : Type 0} (g : Ghosts K) (m : K → Type 0) (c : TalkGhosts C) (
   -- a line was answered, and the answer told or not
   pub told_turn : (old new : LiveState K) (heard now : C) (log log_now : L) (xs : List Exchange) (es : List Entry) (x : Exchange) (n : ℕ) (turn : Turned)
       → c.took_place talk (turns_of xs ++ Heard x.line ∷ []) heard → h.took began es log → length xs ≡ n
-      → (st : StandsBehind g m terms a first keeper old xs es) → Exchanges g m h terms st.account old new log log_now x → Tells c heard now x.told turn
+      → (st : StandsBehind g m terms a first keeper old xs es) → (c.loses heard → c.loses talk) → Exchanges g m h terms st.account old new log log_now x → Tells c heard now x.told turn
       → TurnsTo g m c h terms a first keeper new talk now began log_now n turn
-  told_turn old new heard now log log_now xs es x n turned.Next took logged counted st ex tells =
+  told_turn old new heard now log log_now xs es x n turned.Next took logged counted st whole ex tells =
       let it = exchanged g m h terms a first keeper old new log log_now xs es x st ex in
       record {
         exchanges = xs ++ x ∷ [];
         entries = es ++ it.more;
-        heard = subst (λ (ts : List Turn). c.took_place talk ts now) (sym (turns_more xs x)) (tells talk (turns_of xs ++ Heard x.line ∷ []) took);
+        heard = subst (λ (ts : List Turn). c.took_place talk ts now) (sym (turns_more xs x)) (tells.0 talk (turns_of xs ++ Heard x.line ∷ []) took);
         logged = it.handed began es logged;
         site = it.site;
         counted = length-append xs (x ∷ []) ∙ ap (λ (k : ℕ). k + 1) counted;
+        whole = λ lost. whole (tells.1 lost);
       }
-  told_turn old new heard now log log_now xs es x n turned.Failed took logged counted st ex tells =
+  told_turn old new heard now log log_now xs es x n turned.Failed took logged counted st whole ex tells =
       let it = exchanged g m h terms a first keeper old new log log_now xs es x st ex in
       record {
         exchanges = xs ++ x ∷ [];
@@ -204,7 +205,7 @@ module _ {K C L : Type 0} (g : Ghosts K) (m : K → Type 0) (c : TalkGhosts C) (
         site = it.site;
         why = inl tells.1;
       }
-  told_turn old new heard now log log_now xs es x n turned.End took logged counted st ex tells = absurd tells
+  told_turn old new heard now log log_now xs es x n turned.End took logged counted st whole ex tells = absurd tells
 
   -- the log failed
   pub lost_turn : (old new : LiveState K) (heard : C) (log log_now : L) (xs : List Exchange) (es : List Entry) (line : Line)
@@ -225,11 +226,11 @@ module _ {K C L : Type 0} (g : Ghosts K) (m : K → Type 0) (c : TalkGhosts C) (
   -- the line that is kept was answered
   pub line_turn : (old new : LiveState K) (heard now : C) (log log_now : L) (line : List ℕ) (xs : List Exchange) (es : List Entry) (n : ℕ) (turn : Turned)
       → c.took_place talk (turns_of xs ++ Heard (Whole line) ∷ []) heard → h.took began es log → length xs ≡ n
-      → (st : StandsBehind g m terms a first keeper old xs es) → AnswersHeard g m c h terms st.account old new heard now log log_now line turn
+      → (st : StandsBehind g m terms a first keeper old xs es) → (c.loses heard → c.loses talk) → AnswersHeard g m c h terms st.account old new heard now log log_now line turn
       → TurnsTo g m c h terms a first keeper new talk now began log_now n turn
-  line_turn old new heard now log log_now line xs es n turn took logged counted st (inl (text, ex, tells)) =
-      told_turn old new heard now log log_now xs es (exchange_of line text) n turn took logged counted st ex tells
-  line_turn old new heard now log log_now line xs es n turn took logged counted st (inr (it, same, is)) =
+  line_turn old new heard now log log_now line xs es n turn took logged counted st whole (inl (text, ex, tells)) =
+      told_turn old new heard now log log_now xs es (exchange_of line text) n turn took logged counted st whole ex tells
+  line_turn old new heard now log log_now line xs es n turn took logged counted st whole (inr (it, same, is)) =
       subst (λ (t : Turned). TurnsTo g m c h terms a first keeper new talk now began log_now n t) (sym is)
       (subst (λ (x : C). Fails g m c h terms a first keeper new talk x began log_now) (sym same)
       (lost_turn old new heard log log_now xs es (Whole line) took st it))

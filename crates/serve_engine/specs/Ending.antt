@@ -45,7 +45,7 @@ module _ {K : Type 0} where
     pub keeps_stop : frozen ≡ true → g.keeps keeper first → m keeper_after ⊎ HasTold fault_line xs
 
 module _ {K C L : Type 0} where
-  -- The conversation came to its end: it grew by line, answer, line, answer; each answer is the model's.
+  -- The conversation came to its end: it grew by line, answer, line, answer; each answer is the model's, and none was lost.
   pub record EndsWell (g : Ghosts K) (m : K → Type 0) (c : TalkGhosts C) (h : LogGhosts L) (terms : Terms) (a : Account)
       (first : DurableState) (frozen : Bool) (keeper keeper_after : K) (talk talk_after : C) (log log_after : L) : Type 0 where
     pub exchanges : List Exchange
@@ -54,6 +54,7 @@ module _ {K C L : Type 0} where
     pub logged : h.took log entries log_after
     pub site : ServedSite g m terms a first frozen keeper keeper_after exchanges entries
     pub ended : c.has_ended talk_after
+    pub whole : c.loses talk_after → c.loses talk
 
   -- The conversation or the log failed: the last exchange is perhaps not complete.
   pub record EndsEarly (g : Ghosts K) (m : K → Type 0) (c : TalkGhosts C) (h : LogGhosts L) (terms : Terms) (a : Account)

@@ -146,9 +146,9 @@ module _ {K L : Type 0} where
   ServesLine g m h terms a old new log log_after line told text = Exchanges g m h terms a old new log log_after (exchange_of line (told_text told text))
 
 module _ {C : Type 0} where
-  -- a text was told, or the conversation failed
+  -- a text was told, and is not lost; or the conversation failed
   abbrev pub Tells : TalkGhosts C → C → C → List ℕ → Turned → Type 0
-  Tells c old new text turned.Next = (first : C) (before : List Turn) → c.took_place first before old → c.took_place first (before ++ Tell text ∷ []) new
+  Tells c old new text turned.Next = ((first : C) (before : List Turn) → c.took_place first before old → c.took_place first (before ++ Tell text ∷ []) new) × (c.loses new → c.loses old)
   Tells c old new text turned.Failed = ((first : C) (before : List Turn) → c.took_place first before old → c.took_place first before new) × c.has_failed new
   Tells c old new text turned.End = ⊥
 
@@ -171,7 +171,7 @@ module _ {K : Type 0} where
     pub keeps_stop : live.frozen ≡ true → g.keeps keeper first → m live.keeper ⊎ HasTold fault_line xs
 
 module _ {K C L : Type 0} where
-  -- so many exchanges, each of which was told
+  -- so many exchanges, each of which was told, and none lost
   pub record Works (g : Ghosts K) (m : K → Type 0) (c : TalkGhosts C) (h : LogGhosts L) (terms : Terms) (a : Account)
       (first : DurableState) (keeper : K) (live : LiveState K) (talk talk_now : C) (log log_now : L) (n : ℕ) : Type 0 where
     pub exchanges : List Exchange
@@ -180,6 +180,7 @@ module _ {K C L : Type 0} where
     pub logged : h.took log entries log_now
     pub site : StandsBehind g m terms a first keeper live exchanges entries
     pub counted : length exchanges ≡ n
+    pub whole : c.loses talk_now → c.loses talk
 
   -- exchanges of which the last is perhaps not complete, since the conversation or the log failed
   pub record Fails (g : Ghosts K) (m : K → Type 0) (c : TalkGhosts C) (h : LogGhosts L) (terms : Terms) (a : Account)

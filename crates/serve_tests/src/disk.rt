@@ -183,6 +183,8 @@ impl ExclusiveFile for DiskFile {
 
     ghost is_in_use = { λ _. Unit {0} };
 
+    ghost is_unknown = { λ _. Unit {0} };
+
     fn try_hold(&self) -> Result<bool, ()> {
         match self.fault {
             Fault::InUse => Ok(false),

@@ -76,6 +76,8 @@ impl<C: Conversation> Conversation for Noted<C> {
 
     ghost has_failed = { λ s. C.has_failed s.talk };
 
+    ghost loses = { λ s. C.loses s.talk };
+
     ghost begins = { λ s. record { talk = C.begins s.talk; refused = refl; outdated = refl } };
 
     fn next_line(&mut self) -> Next {

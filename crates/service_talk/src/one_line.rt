@@ -62,6 +62,8 @@ impl<'a, W: Write> Conversation for OneLine<'a, W> {
 
     ghost has_failed = { λ s. HasFault s.sink.fault };
 
+    ghost loses = { λ s. HasFault s.sink.fault };
+
     ghost begins = { heard_nothing };
 
     fn next_line(&mut self) -> Next {

@@ -10,4 +10,6 @@ mod lines;
 #[cfg(test)]
 mod logs;
 #[cfg(test)]
+mod parts;
+#[cfg(test)]
 mod texts;

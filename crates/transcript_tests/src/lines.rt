@@ -13,7 +13,7 @@ const SHORT: &str =
 const ENTRY: &str = "{\"call\":\"announce a 5\",\"pass\":0,\"reply\":\"announced 1\"}\n";
 
 // A text, and the first of its lines that is refused; 0 where none is.
-static TEXTS: [(&str, &str, u64); 20] = [
+static TEXTS: [(&str, &str, u64); 22] = [
     ("", "", 0),
     (OPENING, ENTRY, 0),
     (SHORT, ENTRY, 0),
@@ -71,6 +71,17 @@ static TEXTS: [(&str, &str, u64); 20] = [
         "{\"book\":\"{\\\"from\\\":1,\\\"rows\\\":[],\\\"v\\\":1}\",\"sessions\":[\"a 7 reader\"],\"site\":1,\"sites\":3}\n",
         2,
     ),
+    // A row that does not fit the layout, and one that names more than a site keeps: the readers at another one.
+    (
+        OPENING,
+        "{\"book\":\"{\\\"from\\\":1,\\\"rows\\\":[{\\\"ann\\\":0,\\\"fin\\\":0,\\\"out\\\":[0,1],\\\"r\\\":0,\\\"s\\\":1,\\\"taken\\\":0}],\\\"v\\\":1}\",\"sessions\":[],\"site\":1,\"sites\":3}\n",
+        2,
+    ),
+    (
+        OPENING,
+        "{\"book\":\"{\\\"from\\\":1,\\\"rows\\\":[{\\\"ann\\\":0,\\\"fin\\\":0,\\\"out\\\":[3,0,0],\\\"r\\\":0,\\\"s\\\":0,\\\"taken\\\":1}],\\\"v\\\":1}\",\"sessions\":[],\"site\":1,\"sites\":3}\n",
+        2,
+    ),
     // An entry with a number that its type does not have, and then a line that is none of a log.
     (
         OPENING,
@@ -106,4 +117,30 @@ fn first_wrong_text(alloc: Global) -> Option<Option<usize>> {
 fn each_text_is_read_up_to_its_first_refused_line(rt: HostRuntime) {
     let wrong = first_wrong_text(rt.alloc());
     assert!(rt; wrong == Some(None), "{wrong:?}");
+}
+
+// Two runs of so many entries each, and then this line.
+fn long_text(alloc: Global, entries: u64, last: &str) -> Option<String> {
+    let mut text = String::new(alloc);
+    for _ in 0..2 {
+        text.push_str(OPENING).ok()?;
+        for _ in 0..entries {
+            text.push_str(ENTRY).ok()?;
+        }
+    }
+    text.push_str(last).ok()?;
+    Some(text)
+}
+
+// The first line of such a text that is refused.
+fn refused_in_long_text(alloc: Global, entries: u64, last: &str) -> Option<u64> {
+    let layout = layout_of(alloc, 3, &TWO_RECORDS)?;
+    let text = long_text(alloc, entries, last)?;
+    refused_line(alloc, &layout, text.as_bytes())
+}
+
+#[test]
+fn more_than_70000_lines_are_read(rt: HostRuntime) {
+    let refused = refused_in_long_text(rt.alloc(), 35_000, "no line\n");
+    assert!(rt; refused == Some(70_003), "{refused:?}");
 }

@@ -6,7 +6,14 @@ use Rattle.log_file.proofs.opening.open_over.Goals as goal
 
 pub returns-in_err-mended : goal.returns-in_err-mended
 returns-in_err-mended g c =
-    let step = not_mended g.R.File.ExclusiveFile g.R.File.Read.remaining g.R.File.Write.contents c.args.layout.now c.args.site c.args.first.now c.as_slice.result.now in
+    let read = g.R.File.Read.remaining in
+    let file = c.read_file.new.file in
+    let held : g.R.File.ExclusiveFile.is_held c.args.file = search rules in
+    let gave : Consumes (read c.args.file) (read file) c.in_ok-bytes.bytes.items = search rules in
+    let at_end : IsAtEnd (read file) = search rules in
+    let step =
+    not_mended g.R.File.ExclusiveFile read g.R.File.Write.contents c.args.layout.now c.args.site c.args.first.now c.args.file file c.as_slice.result.now
+    held (subst (λ (xs : List ℕ). Consumes (read c.args.file) (read file) xs) (sym c.as_slice.ensures.value) gave) at_end in
     search (rules, step)
 
 pub returns : goal.returns
