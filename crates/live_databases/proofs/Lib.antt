@@ -1,2 +1,4 @@
 pub mod LiveLemmas
 mod FoundLemmas
+pub mod MoveLemmas
+pub mod RebuildLemmas

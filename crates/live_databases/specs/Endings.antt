@@ -8,7 +8,7 @@ use Rattle.exit_status.specs.declared.status.Status.TheVariants.{Fault, NoStore 
 use Rattle.exit_status.specs.declared.store_refusal.StoreRefusal.TheVariants.{BadStore, WrongSite, WrongLayout, StoreFault}
 use Rattle.exit_status.specs.Endings.{Says, status_code, status_line}
 use Rattle.live_databases.specs.declared.service_end.Absence.{Absence}
-use Rattle.live_databases.specs.declared.service_end.Absence.TheVariants.{NoStore, Exists, InUse, WrongGroup, NotAStore, NoFolder, Outdated as IsOutdated}
+use Rattle.live_databases.specs.declared.service_end.Absence.TheVariants.{NoStore, Exists, InUse, WrongGroup, NotAStore, NoFolder, Outdated as IsOutdated, NoGroup, LastGeneration}
 use Rattle.live_databases.specs.declared.service_end.ServiceEnd.{ServiceEnd}
 use Rattle.live_databases.specs.declared.service_end.ServiceEnd.TheVariants.{Ended, Absent, NoLog, LogIsStore, Unlogged, Outdated}
 use Rattle.log_file.specs.Refusals.{log_refusal_name}
@@ -24,6 +24,8 @@ absence_name WrongGroup = codes "WrongGroup"
 absence_name NotAStore = codes "NotAStore"
 absence_name NoFolder = codes "NoFolder"
 absence_name IsOutdated = codes "Outdated"
+absence_name NoGroup = codes "NoGroup"
+absence_name LastGeneration = codes "LastGeneration"
 
 -- how a service ends whose store is refused
 abbrev pub refused_store : ServedError → ServiceEnd

@@ -4,3 +4,5 @@ pub mod Endings
 pub mod LiveStores
 pub mod LiveFound
 pub mod LiveDatabases
+pub mod Moves
+pub mod Rebuilds

@@ -212,10 +212,10 @@ fn open_in_time<S: Beginning>(
     open_once::<S>(rt, opening.path, create)
 }
 
-// Opens the database at a path, where a file is there or is to be made. The file that was found there before is there still
-// behind the opening, which locks it: so it is the one that was opened, and no other process has removed it meanwhile. Which
-// file that is, is handed back.
-fn open_once<S: Beginning>(
+/// Opens the database at a path, where a file is there or is to be made. The file that was found there before is there still
+/// behind the opening, which locks it: so it is the one that was opened, and no other process has removed it meanwhile. Which
+/// file that is, is handed back.
+pub(crate) fn open_once<S: Beginning>(
     rt: &HostRuntime,
     path: &str,
     create: bool,

@@ -3,11 +3,17 @@
 #![tactic(auto)]
 
 pub use databases::{Beginning, LiveDatabases, Opening, serve_found, serve_live};
+pub use moving::regroup_over;
+pub use rebuilding::{RebuildEnd, rebuild_over};
+pub use regrouping::{rebuild_found, regroup_found};
 pub use service_end::{Absence, ServiceEnd};
 pub use serving::{Service, serve_live_over, serve_logged_over};
 
 mod databases;
 pub mod laws;
+mod moving;
 mod places;
+mod rebuilding;
+mod regrouping;
 mod service_end;
 mod serving;

@@ -27,6 +27,10 @@ pub enum Absence {
     NoFolder,
     /// It is marked: some delta has shown that it is older than what others have seen of its site.
     Outdated,
+    /// It is the store of this site in no group of sites, and only one of a group can be moved to the next generation.
+    NoGroup,
+    /// No generation is behind that of the site's group.
+    LastGeneration,
 }
 
 impl Absence {
@@ -42,6 +46,8 @@ impl Absence {
             Absence::NotAStore => "NotAStore",
             Absence::NoFolder => "NoFolder",
             Absence::Outdated => "Outdated",
+            Absence::NoGroup => "NoGroup",
+            Absence::LastGeneration => "LastGeneration",
         }
     }
 }

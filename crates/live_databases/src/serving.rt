@@ -71,8 +71,8 @@ pub fn serve_live_over<S: Alter + Drop, C: Conversation, L: CallLog, P: StorePla
     (ServiceEnd::Ended(status), keeper.into_connection())
 }
 
-// How the service ends where the store is refused.
-fn refused_store(error: ServedError) -> ServiceEnd
+/// How the service ends where the store is refused.
+pub(crate) fn refused_store(error: ServedError) -> ServiceEnd
     ensures { result ≡ refused_store error }
 {
     match error {
@@ -148,8 +148,8 @@ pub fn serve_logged_over<
     (ServiceEnd::Ended(status), made, keeper.into_connection())
 }
 
-// How the service ends where the store gives nothing back.
-fn unloaded(error: KeeperError) -> ServiceEnd
+/// How the service ends where the store gives nothing back.
+pub(crate) fn unloaded(error: KeeperError) -> ServiceEnd
     ensures { result ≡ unloaded_end error }
 {
     match error {

@@ -10,3 +10,4 @@ pub mod LineLemmas
 pub mod FenceLemmas
 pub mod LawLemmas
 pub mod ExampleLemmas
+pub mod MovedLemmas

@@ -8,6 +8,7 @@ use Rattle.admission_model.specs.Durable.{change_between, IsEmpty}
 use Rattle.delta_codec.specs.declared.fault.DecodeError.{DecodeError}
 use Rattle.site_script.specs.Served.{no_delta_line}
 use Rattle.desk_log.specs.declared.entry.Entry.{Entry}
+use Rattle.group_names.specs.Names.{generation_of}
 use Rattle.line_conversation.specs.Turns.{Line, Whole, TooLong, NoRoom, Torn, Turn, Heard, Told}
 use Rattle.live_site.specs.Entries.{entry_of}
 use Rattle.live_site.specs.Live.{is_outdated}
@@ -44,7 +45,7 @@ pub data Answers : Terms → Account → Line → List ℕ → Account → List 
   told_no_delta : (terms : Terms) (a : Account) (line : List ℕ) (e : DecodeError) → Asks terms line (Some (Unread e)) → Answers terms a (Whole line) (no_delta_line e) a []
   told_counts : (terms : Terms) (a : Account) (line : List ℕ) (r : ℕ) → Asks terms line (Some (Show r)) → Answers terms a (Whole line) (show_line a r) a []
   told_sessions : (terms : Terms) (a : Account) (line : List ℕ) (r : ℕ) → Asks terms line (Some (Sessions r)) → Answers terms a (Whole line) (sessions_line a r) a []
-  told_fence : (terms : Terms) (a : Account) (line : List ℕ) (r h : ℕ) → Asks terms line (Some (Fence r h)) → Answers terms a (Whole line) (fence_line a r h) a []
+  told_fence : (terms : Terms) (a : Account) (line : List ℕ) (r h : ℕ) → Asks terms line (Some (Fence r h)) → Answers terms a (Whole line) (fence_line (generation_of terms.group) a r h) a []
   told_too_many : (terms : Terms) (a : Account) (line : List ℕ) (call : Call) (r : ℕ) → Asks terms line (Some (Asked call)) → reason (view_of a) call ≡ None
       → overfull_in (view_of a) call ≡ Some r → Answers terms a (Whole line) (too_many_line r) a []
   told_reply : (terms : Terms) (a : Account) (line : List ℕ) (call : Call) → Asks terms line (Some (Asked call)) → Fits a call

@@ -1,6 +1,6 @@
 -- What a site tells of whoever is inside a record: a fencing number (the sequencers of Burrows, "The Chubby lock service for
 -- loosely-coupled distributed systems", 2006), or why there is none.
-use Rattle.std.specs.Prelude.{ℕ, ◌+◌, nat_lt, Bool, true, false, List, [], ◌∷◌, ◌++◌, length, codes, if◌then◌else◌, Option, Some, None}
+use Rattle.std.specs.Prelude.{ℕ, ◌+◌, ◌*◌, nat_lt, Bool, true, false, List, [], ◌∷◌, ◌++◌, length, codes, if◌then◌else◌, Option, Some, None}
 use Rattle.session_list.specs.declared.session.Phase.{Phase}
 use Rattle.session_list.specs.declared.session.Phase.TheVariants.{Reader, Waiting, Writer}
 use Rattle.admission_model.specs.declared.reply.Refusal.{Refusal}
@@ -13,10 +13,14 @@ use Rattle.fencing_laws.specs.Fences.{number_of}
 use Rattle.live_site.specs.Live.{line_of}
 use Rattle.serve_engine.specs.Answers.{field}
 
--- what the numbers of a group begin with whose sites were never moved to another one: 2^44, which is more than any count of
--- finished writers (the project's own)
-abbrev pub first_generation : ℕ
-first_generation = 17592186044416
+-- how far the numbers of a group's generations are apart: 2^44, which is more than any count of finished writers (the
+-- project's own)
+abbrev pub generation_width : ℕ
+generation_width = 17592186044416
+
+-- the number of whoever is inside a record, by the generation of the site's group: no generation has a number of another
+abbrev pub fence_number : ℕ → Account → ℕ → ℕ
+fence_number generation a r = generation * generation_width + number_of a r
 
 -- there is no session, or that of a writer that waits
 abbrev pub is_not_inside : Option Phase → Bool
@@ -45,8 +49,9 @@ told_fence (Some refusal) number = line_of (Refused refusal)
 told_fence None number = field (codes "fence ") number ++ codes "\n"
 
 -- what is told of a holder at a record that is there
-abbrev pub holder_line : Account → ℕ → ℕ → List ℕ
-holder_line a r h = told_fence (fence_reason (view_of a) r h) (first_generation + number_of a r)
+abbrev pub holder_line : ℕ → Account → ℕ → ℕ → List ℕ
+holder_line generation a r h = told_fence (fence_reason (view_of a) r h) (fence_number generation a r)
 
-abbrev pub fence_line : Account → ℕ → ℕ → List ℕ
-fence_line a r h = if nat_lt r (length (layout_of a).records) then holder_line a r h else line_of (Refused NoRecord)
+abbrev pub fence_line : ℕ → Account → ℕ → ℕ → List ℕ
+fence_line generation a r h =
+    if nat_lt r (length (layout_of a).records) then holder_line generation a r h else line_of (Refused NoRecord)

@@ -1,4 +1,5 @@
 pub mod Marks
+pub mod Moved
 pub mod Requests
 pub mod Answers
 pub mod BadWords

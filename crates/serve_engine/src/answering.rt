@@ -1,5 +1,5 @@
 //! Answering one line.
-ghost use Rattle.std.specs.Prelude.{◌≡◌, ◌≢◌, ◌++◌, ℕ, List, [], string_bytes, IfOk, Some};
+ghost use Rattle.std.specs.Prelude.{◌≡◌, ◌≢◌, ◌≤◌, ◌++◌, ℕ, List, [], string_bytes, IfOk, Some};
 ghost use Rattle.merge_core.specs.Layout.{LayoutState};
 ghost use Rattle.admission_model.specs.Account.{Account};
 ghost use Rattle.admission_core.specs.Core.{Stands};
@@ -7,7 +7,9 @@ ghost use Rattle.serve_engine.specs.declared.request.Request.TheVariants.{Asked}
 ghost use Rattle.serve_engine.specs.declared.answering.Told.TheVariants.{LogFailed};
 ghost use Rattle.serve_engine.specs.Requests.{Asks, Terms};
 ghost use Rattle.serve_engine.specs.Answers.{sessions_line, show_line, too_many_line, unmarked_line, wrong_word_line};
+ghost use Rattle.group_names.specs.Names.{generation_of, most_generations};
 ghost use Rattle.serve_engine.specs.Fencing.{fence_line};
+ghost use Rattle.serve_engine.specs.Marks.{group_word};
 ghost use Rattle.serve_engine.specs.Steps.{AreTerms, ServesLine, Shows, space_before, told_text, written};
 
 use crate::fencing::push_fence;
@@ -18,6 +20,7 @@ use crate::sending::{finish_mark, push_space};
 use crate::showing::push_counts;
 use crate::wrong_words::wrong_word;
 use admission_core::Call;
+use group_names::generation_of;
 use live_keeper::LiveKeeper;
 use live_site::{CallLog, LiveSite, Outcome};
 use site_script::push_no_delta_line;
@@ -92,7 +95,7 @@ pub(crate) fn serve_line<K: LiveKeeper, L: CallLog>(
         Some(Request::Unread(error)) => written(push_no_delta_line(text, error)),
         Some(Request::Show(r)) => show(live, r, text),
         Some(Request::Sessions(r)) => list(live, r, text),
-        Some(Request::Fence(r, h)) => fence(live, r, h, text),
+        Some(Request::Fence(r, h)) => fence(live, marker, r, h, text),
         Some(Request::Unmarked(fault)) => Told::Unmarked(fault),
         None => {
             let place = wrong_word(live.core().layout(), line);
@@ -198,12 +201,28 @@ fn list<K: LiveKeeper>(live: &LiveSite<K>, r: u16, text: &mut String) -> Told
 }
 
 // Tells the number of a holder that is inside a record.
-fn fence<K: LiveKeeper>(live: &LiveSite<K>, r: u16, h: u64, text: &mut String) -> Told
+fn fence<K: LiveKeeper>(
+    live: &LiveSite<K>,
+    marker: &Marker,
+    r: u16,
+    h: u64,
+    text: &mut String,
+) -> Told
     requires { string_bytes text.old ≡ [] }
-    ensures { Shows live.now (λ a. fence_line a r h) result (string_bytes text.new) }
+    ensures { (terms : Terms) → string_bytes marker.now.group ≡ group_word terms.group
+        → Shows live.now (λ a. fence_line (generation_of terms.group) a r h) result (string_bytes text.new) }
 {
     if live.is_frozen() {
         return Told::Frozen;
     }
-    written(push_fence(text, live.core(), r, h))
+    let generation = marked_generation(marker);
+    written(push_fence(text, live.core(), generation, r, h))
+}
+
+// The generation of the site's group.
+fn marked_generation(marker: &Marker) -> u64
+    ensures generation { (terms : Terms) → string_bytes marker.now.group ≡ group_word terms.group → result ≡ generation_of terms.group }
+    ensures most { result ≤ most_generations }
+{
+    generation_of(Some(marker.group.as_str()))
 }

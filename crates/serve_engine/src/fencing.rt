@@ -1,10 +1,11 @@
 //! What a site tells of whoever is inside a record: the number by which a resource knows a later session from an earlier one.
-ghost use Rattle.std.specs.Prelude.{◌≡◌, ◌++◌, ◌<◌, ℕ, codes, length, string_bytes, IfOk, Option};
+ghost use Rattle.std.specs.Prelude.{◌≡◌, ◌++◌, ◌<◌, ◌≤◌, ℕ, codes, length, string_bytes, IfOk, Option};
 ghost use Rattle.admission_model.specs.declared.reply.Refusal.{Refusal};
 ghost use Rattle.admission_model.specs.declared.reply.Reply.TheVariants.{Refused};
 ghost use Rattle.admission_model.specs.Account.{Account};
 ghost use Rattle.admission_model.specs.View.{view_of};
 ghost use Rattle.admission_core.specs.Core.{IsCore, Stands};
+ghost use Rattle.group_names.specs.Names.{most_generations};
 ghost use Rattle.live_site.specs.Live.{line_of};
 ghost use Rattle.serve_engine.specs.Answers.{field};
 ghost use Rattle.serve_engine.specs.Fencing.{fence_line, fence_reason, holder_line, inside_or_not};
@@ -17,33 +18,43 @@ use std::alloc::AllocError;
 use text_parts::push_field;
 
 // 2^44, which is more than any count of finished writers: the numbers of a group's generations are as far apart.
-const FIRST_GENERATION: u64 = 17_592_186_044_416;
+const GENERATION_WIDTH: u64 = 17_592_186_044_416;
 
-/// Writes the number of a holder that is inside a record, behind its word, and LF; or why it has none. Linear in the sites.
+/// Writes the number of a holder that is inside a record, behind its word, and LF; or why it has none. The generation is that
+/// of the site's group. Linear in the sites.
 pub(crate) fn push_fence(
     text: &mut String,
     core: &SiteCore,
+    generation: u64,
     r: u16,
     h: u64,
 ) -> Result<(), AllocError>
-    requires { IsCore core.now }
-    ensures { IfOk result (λ _. (a : Account) → Stands a core.now → string_bytes text.new ≡ string_bytes text.old ++ fence_line a r h) }
+    requires core { IsCore core.now }
+    requires generation { generation ≤ most_generations }
+    ensures { IfOk result (λ _. (a : Account) → Stands a core.now → string_bytes text.new ≡ string_bytes text.old ++ fence_line generation a r h) }
 {
     if usize::from(r) >= core.layout().records().len() {
         return push_no_record(text);
     }
-    push_of_holder(text, core, r, h)
+    push_of_holder(text, core, generation, r, h)
 }
 
 // The same of a record that is there.
-fn push_of_holder(text: &mut String, core: &SiteCore, r: u16, h: u64) -> Result<(), AllocError>
+fn push_of_holder(
+    text: &mut String,
+    core: &SiteCore,
+    generation: u64,
+    r: u16,
+    h: u64,
+) -> Result<(), AllocError>
     requires core { IsCore core.now }
+    requires generation { generation ≤ most_generations }
     requires there { r < length core.now.layout.records }
-    ensures { IfOk result (λ _. (a : Account) → Stands a core.now → string_bytes text.new ≡ string_bytes text.old ++ holder_line a r h) }
+    ensures { IfOk result (λ _. (a : Account) → Stands a core.now → string_bytes text.new ≡ string_bytes text.old ++ holder_line generation a r h) }
 {
     match fence_reason(core, r, h) {
         Some(refusal) => push_refused(text, refusal),
-        None => push_number(text, FIRST_GENERATION + fence_number(core, r)),
+        None => push_number(text, generation * GENERATION_WIDTH + fence_number(core, r)),
     }
 }
 

@@ -3,6 +3,7 @@
 
 pub use engine::{LINE_LIMIT, line_limit, serve_engine};
 pub use marks::{MarkFault, Marking};
+pub use moved_texts::{TextFault, TextStop, moved_text, told_delta};
 pub use request::Request;
 
 mod answering;
@@ -13,6 +14,7 @@ mod fencing;
 pub mod laws;
 mod listing;
 mod marks;
+mod moved_texts;
 mod request;
 mod sending;
 mod showing;

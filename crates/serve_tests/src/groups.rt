@@ -39,7 +39,7 @@ const THREE_SEATS: &str = "sites = 2\n[[record]]\nname = \"a\"\nseats = 3\nhome 
 const OTHER_HOME: &str = "sites = 2\n[[record]]\nname = \"a\"\nseats = 2\nhome = 1\nproblem = 1\n";
 
 // What sites send, and what other sites say to it.
-static SENT: [Talk; 9] = [
+static SENT: [Talk; 13] = [
     (
         TWO_SITES,
         PAYROLL,
@@ -124,6 +124,45 @@ static SENT: [Talk; 9] = [
         b"take - 4267e5eda6faad4d 49d0174c {\"from\":0,\"rows\":[],\"v\":1}\nsend\n",
         Status::Done,
         "refused OtherRecords\n- 983cd8748a158a01 974d99c4 {\"from\":1,\"rows\":[],\"v\":1}\n",
+    ),
+    // a later generation of a group: its numbers, and texts of before and of a move
+    (
+        TWO_SITES,
+        Some("east.2"),
+        Marking::Marked,
+        0,
+        b"read a 7\nfence a 7\nsend\n",
+        Status::Done,
+        "admitted\nfence 35184372088832\neast.2 d6a41a2b6edb4b8d 8fbd28c0 {\"from\":0,\"rows\":[{\"ann\":0,\"fin\":0,\"out\":[2,0],\"r\":0,\"s\":0,\"taken\":1}],\"v\":1}\n",
+    ),
+    (
+        TWO_SITES,
+        Some("east.2"),
+        Marking::Marked,
+        1,
+        b"take east d6a41a2b6edb4b8d 49d0174c {\"from\":0,\"rows\":[],\"v\":1}\n\
+          take east.2:moved d6a41a2b6edb4b8d 49d0174c {\"from\":0,\"rows\":[],\"v\":1}\n\
+          take east.2 d6a41a2b6edb4b8d 49d0174c {\"from\":0,\"rows\":[],\"v\":1}\n",
+        Status::Done,
+        "refused WrongGroup\nrefused WrongGroup\nmerged 0\n",
+    ),
+    (
+        TWO_SITES,
+        Some("east.1048575"),
+        Marking::Marked,
+        0,
+        b"read a 7\nfence a 7\n",
+        Status::Done,
+        "admitted\nfence 18446726481523507200\n",
+    ),
+    (
+        TWO_SITES,
+        Some("east.02"),
+        Marking::Marked,
+        0,
+        b"read a 7\nfence a 7\n",
+        Status::Done,
+        "admitted\nfence 17592186044416\n",
     ),
 ];
 

@@ -5,3 +5,5 @@ pub mod RangeLemmas
 pub mod ServedLemmas
 pub mod SiteTextLemmas
 pub mod SqlLemmas
+pub mod MoveLemmas
+pub mod NewLemmas

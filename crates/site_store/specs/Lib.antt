@@ -3,3 +3,4 @@ pub mod Opened
 pub mod Served
 pub mod SiteText
 pub mod Sql
+pub mod Making

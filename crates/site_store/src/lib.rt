@@ -3,12 +3,16 @@
 
 pub use durable_keeper::{Keeper, KeeperError, MemoryKeeper};
 pub use error::{OpenError, ServedError};
+pub use groups::is_ungrouped;
 pub use laws::{grown_law, own_law};
+pub use new_store::make_store;
 pub use served::Permission;
 pub use sql::SqlKeeper;
 
 mod error;
+mod groups;
 mod laws;
+mod new_store;
 mod opening;
 pub mod restart;
 mod served;

@@ -20,7 +20,7 @@ use store_tables::Tables;
 use text_parts::{number_at, push_field};
 
 /// The site's number and the name of its group, if it has one, as the row `site` of the table `meta` has them.
-fn site_text(alloc: Global, site: u16, group: Option<&str>) -> Result<String, AllocError>
+pub(crate) fn site_text(alloc: Global, site: u16, group: Option<&str>) -> Result<String, AllocError>
     ensures { IfOk result (λ text. string_bytes text ≡ site_text site (named group.entry)) }
 {
     let mut text = String::new(alloc);
@@ -60,7 +60,7 @@ fn foreign_site(text: &[u8], site: u16) -> OpenError
 }
 
 /// Whether two texts are the same.
-fn is_same(a: &[u8], b: &[u8]) -> bool
+pub(crate) fn is_same(a: &[u8], b: &[u8]) -> bool
     ensures { IsTrue result ↔ (a.now ≡ b.now) }
 {
     a == b

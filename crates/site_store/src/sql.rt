@@ -17,7 +17,7 @@ ghost use Rattle.site_store.specs.Sql.{Stores, Changes, ChangesEither};
 ghost use Rattle.durable_keeper.specs.declared.error.KeeperError.TheVariants.{Memory, StoreFault};
 
 use crate::error::{OpenError, ServedError, keeper_error};
-use crate::opening::prepare;
+use crate::opening::{prepare, site_text};
 use crate::served::{Permission, check_permission, prepare_permitted};
 use admission_core::{Change, Durable};
 use durable_keeper::{Keeper, KeeperError};
@@ -168,7 +168,7 @@ impl<S: Alter + Drop> Drop for SqlKeeper<S> {
 }
 
 impl<S: Alter> SqlKeeper<S> {
-    ghost use Rattle.std.specs.Prelude.{◌≡◌, ◌≢◌, [], None, Err, true, false, IfOk, IfErr, OnOk};
+    ghost use Rattle.std.specs.Prelude.{◌≡◌, ◌≢◌, [], None, Some, Err, true, false, IfOk, IfErr, OnOk};
     ghost use Rattle.admission_core.specs.Kept.{DurableState};
     ghost use Rattle.durable_keeper.specs.Keeping.{IsChange, changed, nothing_kept};
     ghost use Rattle.store_rows.specs.Rows.{Stored};
@@ -177,7 +177,9 @@ impl<S: Alter> SqlKeeper<S> {
     ghost use Rattle.store_content.specs.Plan.{LacksPlace, after_change};
     ghost use Rattle.durable_keeper.specs.declared.error.KeeperError.TheVariants.{Memory, StoreFault};
     ghost use Rattle.site_store.specs.Sql.{KeepsContent, KeepsContentOr, KeepsEitherPart, KeepsPart, below, faults_of, group_of, is_honest, layout_of, site_of, KeepsOutdated};
-    ghost use Rattle.site_store.specs.SiteText.{named};
+    ghost use Rattle.durable_keeper.specs.declared.error.KeeperError.{KeeperError};
+    ghost use Rattle.store_tables.specs.Transacts.{with_site};
+    ghost use Rattle.site_store.specs.SiteText.{named, site_text};
     ghost use Rattle.site_store.specs.Opened.{CommitsNothing, IsByDevice, IsCurrent, IsFault, IsJudgedFirst, IsKeeperOf, IsLeftEither, IsLeftOr, IsOwn, Opens, OpensBlank, Settles, SettlesOr, left_by};
     ghost use Rattle.site_store.specs.declared.error.ServedError.TheVariants.{Outdated};
     ghost use Rattle.site_store.specs.Served.{AnswersBySchema, KeepsMark, KeepsNoMark, IsLeftOfDoubt, IsLeftOfEither, IsServedByDevice, IsServedFault, IsServedJudgedFirst, IsTaken, ServesNothing, ServesStore, left_served};
@@ -358,6 +360,58 @@ impl<S: Alter> SqlKeeper<S> {
         }
     }
 
+    /// What is kept, as `load` of [`Keeper`] gives it, which calls this. Linear in what is stored.
+    pub fn load_part(&mut self, alloc: Global) -> Result<Durable, KeeperError>
+        ensures found { (d : DurableState) → KeepsPart self.old d → is_honest self.new → IfOk result (λ found. found ≡ d) }
+        ensures content { (it : Stored) → KeepsContent self.old it → KeepsContent self.new it }
+        ensures kept { (d : DurableState) → KeepsPart self.old d → KeepsPart self.new d }
+        ensures either { (d e : DurableState) → KeepsEitherPart self.old d e → KeepsEitherPart self.new d e }
+        ensures honest { is_honest self.new → is_honest self.old }
+        ensures told { result ≡ Err StoreFault → faults_of self.new ≡ 1 }
+        ensures sound { result ≢ Err StoreFault → faults_of self.new ≡ 0 }
+        ensures stopped { faults_of self.old ≡ 1 → (result ≡ Err StoreFault) × (self.new ≡ self.old) }
+        ensures layout { layout_of self.new ≡ layout_of self.old }
+        ensures site { site_of self.new ≡ site_of self.old }
+        ensures group { group_of self.new ≡ group_of self.old }
+    {
+        match self.tables.load(alloc) {
+            Ok(content) => Ok(durable_of(alloc, &content)?),
+            Err(error) => Err(keeper_error(error)),
+        }
+    }
+
+    /// Moves the store to another group of sites: sets its row for the site, in a transaction of its own, and nothing else.
+    /// Tables of other names, which were made behind its own, keep their rows.
+    pub fn move_to_group(&mut self, group: &str) -> Result<(), KeeperError>
+        ensures content { (it : Stored) → KeepsContent self.old it → OnOk result (KeepsContent self.new (with_site (site_text (site_of self.old) (Some group.now)) it)) }
+        ensures ok { (d : DurableState) → KeepsPart self.old d → OnOk result (KeepsPart self.new d) }
+        ensures moved { OnOk result (group_of self.new ≡ Some group.now) }
+        ensures stays { (e : KeeperError) → result ≡ Err e → group_of self.new ≡ group_of self.old }
+        ensures memory { (it : Stored) → KeepsContent self.old it → result ≡ Err Memory → KeepsContent self.new it }
+        ensures doubt { (it : Stored) → KeepsContent self.old it → result ≡ Err StoreFault
+            → KeepsEither S.Store (below self.new) it (with_site (site_text (site_of self.old) (Some group.now)) it) }
+        ensures beside { (it : Stored) → (others : Database) → KeepsContent self.old it → KeepsBeside S.Store (below self.old) others → KeepsBeside S.Store (below self.new) others }
+        ensures honest { is_honest self.new → is_honest self.old }
+        ensures told { result ≡ Err StoreFault → faults_of self.new ≡ 1 }
+        ensures sound { result ≢ Err StoreFault → faults_of self.new ≡ 0 }
+        ensures stopped { faults_of self.old ≡ 1 → (result ≡ Err StoreFault) × (self.new ≡ self.old) }
+        ensures layout { layout_of self.new ≡ layout_of self.old }
+        ensures site { site_of self.new ≡ site_of self.old }
+    {
+        if self.tables.faults() > 0 {
+            return Err(KeeperError::StoreFault);
+        }
+        let name = String::from_str(self.alloc, group)?;
+        let row = site_text(self.alloc, self.site, Some(group))?;
+        match self.tables.set_site(row.as_str()) {
+            Ok(()) => {
+                self.group = Some(name);
+                Ok(())
+            }
+            Err(error) => Err(keeper_error(error)),
+        }
+    }
+
     /// The connection, as it is. Takes no memory.
     pub fn into_connection(self) -> Connection<S>
         ensures { result ≡ below self }
@@ -412,10 +466,7 @@ impl<S: Alter> Keeper for SqlKeeper<S> {
     }
 
     fn load(&mut self, alloc: Global) -> Result<Durable, KeeperError> {
-        match self.tables.load(alloc) {
-            Ok(content) => Ok(durable_of(alloc, &content)?),
-            Err(error) => Err(keeper_error(error)),
-        }
+        self.load_part(alloc)
     }
 
     fn faults(&self) -> u64 {

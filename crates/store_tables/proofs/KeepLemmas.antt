@@ -18,7 +18,7 @@ use Rattle.store_schema.specs.Tables.{no_schema}
 use Rattle.store_rows.specs.Rows.{Stored}
 use Rattle.store_rows.specs.Holding.{IsStoreOf, HasBeside, Holds, HoldsBeside, HoldsNothing, Leaves}
 use Rattle.store_rows.proofs.BesideLemmas.{beside_then}
-use Rattle.store_tables.specs.Transacts.{HasCommitted, MayCommit, Turns, BecomesStore, made}
+use Rattle.store_tables.specs.Transacts.{HasCommitted, MayCommit, Turns, BecomesStore, made, BecomesFilled, filled}
 
 -- a store's trees hold its content
 pub store_holds : (d : Database) (it : Stored) → IsStoreOf d it → Holds it d.trees
@@ -54,6 +54,10 @@ turned_beside Fits f it others fits a b sound h turns =
 
 pub made_of : (site layout : _) (a b : Database) → IsDatabase a → HoldsNothing a.trees → BecomesStore site layout a b → Holds (made site layout) b.trees
 made_of site layout a b sound h becomes = store_holds b (made site layout) (becomes (bare a sound h))
+
+pub filled_of : (site layout : _) (cells : _) (notices : _) (a b : Database) → IsDatabase a → HoldsNothing a.trees → BecomesFilled site layout cells notices a b
+    → Holds (filled site layout cells notices) b.trees
+filled_of site layout cells notices a b sound h becomes = store_holds b (filled site layout cells notices) (becomes (bare a sound h))
 
 -- a commit that was refused keeps the one before
 refused_keeps : (old new : State) (e : Error) → FailsToCommit old new e → KeepsCommit old new

@@ -9,9 +9,11 @@ use Rattle.store_rows.specs.Rows.{cell_row, session_row, notice_row, version_tex
 use Rattle.store_rows.specs.Changes.{renewed}
 use Rattle.store_rows.specs.Holding.{HoldsRows, HoldsNotices, IsStoreOf, parts_of, mark}
 use Rattle.sqlite_catalog.specs.Change.{KeepsRows}
-use Rattle.store_rows.specs.Steps.{Makes, Brings, Any, SparesBeside, with_mark}
+use Rattle.store_rows.specs.declared.content.StoredCell.{StoredCell}
+use Rattle.store_rows.specs.declared.content.StoredNotice.{StoredNotice}
+use Rattle.store_rows.specs.Steps.{Makes, Brings, Any, SparesBeside, with_cells, with_mark, with_notices}
 use Rattle.store_rows.proofs.BesideLemmas.{spares_same, spares_then}
-use Rattle.store_tables.specs.Transacts.{Turns, Upgrades, BecomesEmpty, BecomesStore, no_parts}
+use Rattle.store_tables.specs.Transacts.{Turns, Upgrades, BecomesEmpty, BecomesFilled, BecomesStore, made, no_parts, with_site}
 
 no_rows : {X : Type 0} (row : X → Row) (rows : List Row) → rows ≡ [] → HoldsRows row [] rows
 no_rows row rows none = rw none (record { keyed = tt; numbered = tt; sound = λ r h. absurd h; complete = λ x h. absurd h })
@@ -81,3 +83,15 @@ first_upgraded a b c one next it fits h =
 
 pub second_stays : (a : Database) → Upgrades Second a a
 second_stays a it fits h = (subst (λ v. IsStoreOf a (record it { version = v })) fits h, spares_same a)
+
+-- the row for the site is one of a store's marks
+pub site_set : (a b : Database) (site : List ℕ) → Brings Any (with_mark (mark (codes "site") site)) a b → Turns (λ it. it.version ≡ Second) (with_site site) a b
+site_set a b site next it fits h = next (parts_of it) fits tt h
+
+-- counters and notices are set in a new store
+pub filled_then : (a b c d : Database) (site layout : List ℕ) (cells : List StoredCell) (notices : List StoredNotice) → BecomesStore site layout a b → Brings Any (with_cells cells) b c
+    → Brings Any (with_notices notices) c d → BecomesFilled site layout cells notices a d
+filled_then a b c d site layout cells notices one next last has =
+    let first = one has in
+    let second = next (parts_of (made site layout)) refl tt first in
+    (last (with_cells cells (parts_of (made site layout))) refl tt second.0).0

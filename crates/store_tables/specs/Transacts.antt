@@ -7,7 +7,10 @@ use Rattle.store_schema.specs.declared.Version.{Version}
 use Rattle.store_schema.specs.declared.Version.TheVariants.{Second}
 use Rattle.store_schema.specs.Tables.{no_schema}
 use Rattle.store_rows.specs.declared.content.SessionEdit.{SessionEdit}
-use Rattle.std.specs.Prelude.{Option}
+use Rattle.std.specs.Prelude.{Option, None}
+use Rattle.store_rows.specs.declared.content.StoredCell.{StoredCell}
+use Rattle.store_rows.specs.declared.content.StoredNotice.{StoredNotice}
+use Rattle.store_rows.specs.Changes.{changed}
 use Rattle.store_rows.specs.Rows.{Stored}
 use Rattle.store_rows.specs.Holding.{Parts, HoldsParts, IsStoreOf}
 use Rattle.store_rows.specs.Steps.{HasFreePlace, SparesBeside}
@@ -39,9 +42,21 @@ no_parts = record { tables = Second; marks = []; cells = []; sessions = []; noti
 abbrev pub made : List ℕ → List ℕ → Stored
 made site layout = record { version = Second; site = site; layout = layout; cells = []; sessions = []; notices = [] }
 
+-- a content with another row for its site
+abbrev pub with_site : List ℕ → Stored → Stored
+with_site site it = record it { site = site }
+
 -- a database without tables becomes a new store
 abbrev pub BecomesStore : List ℕ → List ℕ → Database → Database → Type 0
 BecomesStore site layout a b = a.schema ≡ no_schema → IsStoreOf b (made site layout)
+
+-- a new store with counters and notices in it
+abbrev pub filled : List ℕ → List ℕ → List StoredCell → List StoredNotice → Stored
+filled site layout cells notices = changed cells notices None (made site layout)
+
+-- a database without tables becomes such a store
+abbrev pub BecomesFilled : List ℕ → List ℕ → List StoredCell → List StoredNotice → Database → Database → Type 0
+BecomesFilled site layout cells notices a b = a.schema ≡ no_schema → IsStoreOf b (filled site layout cells notices)
 
 -- a database without tables gets those of a store
 abbrev pub BecomesEmpty : Database → Database → Type 0

@@ -7,9 +7,11 @@ pub use store_rows::{
 
 mod commits;
 mod error;
+mod filling;
 mod keeping;
 mod making;
 mod marking;
+mod moving;
 mod reads;
 pub mod restart;
 mod tables;

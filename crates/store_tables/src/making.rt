@@ -57,7 +57,11 @@ fn put_marks<S: Alter>(tx: &mut Transaction<'_, S>, site: &str, layout: &str) ->
 }
 
 /// Makes the tables and their marks.
-fn make_all<S: Alter>(tx: &mut Transaction<'_, S>, site: &str, layout: &str) -> Result<(), Error>
+pub(crate) fn make_all<S: Alter>(
+    tx: &mut Transaction<'_, S>,
+    site: &str,
+    layout: &str,
+) -> Result<(), Error>
     ensures same_reference { tx.new.conn.ghost_name ≡ tx.old.conn.ghost_name }
     ensures goes { HasCleanDisk (state S.Store tx.new.conn.now) → IsTrue tx.old.conn.now.in_transaction
         → OnOk result (Goes (state S.Store tx.old.conn.now) (state S.Store tx.new.conn.now) (BecomesStore site.now layout.now)) }

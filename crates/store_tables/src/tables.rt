@@ -2,8 +2,10 @@
 ghost use Rattle.std.specs.Prelude.{◌≡◌, false};
 
 use crate::error::TableError;
+use crate::filling::make_filled_kept;
 use crate::keeping::{look_kept, make_kept, renew_kept, write_kept};
 use crate::marking::{mark_kept, outdated_kept};
+use crate::moving::set_site_kept;
 use crate::reads::Unread;
 use sqlite::{Alter, Connection};
 use std::alloc::Global;
@@ -31,7 +33,7 @@ impl<S: Alter> Tables<S> {
     ghost use Rattle.store_schema.specs.Found.{found_in};
     ghost use Rattle.store_schema.specs.declared.Version.TheVariants.{Second};
     ghost use Rattle.store_schema.specs.declared.Found.TheVariants.{Blank, Store, Other};
-    ghost use Rattle.store_tables.specs.Transacts.{Takes, made};
+    ghost use Rattle.store_tables.specs.Transacts.{Takes, filled, made, with_site};
     ghost use Rattle.store_tables.specs.Reads.{IsInRange};
     ghost use Rattle.store_tables.specs.Kept.{has_failed, connection_of, schema_of, IsBlank, IsHonest, KeepsStore, KeepsOneOf, KeepsBlank, KeepsBlankOr, KeepsOthers, KeepsSome, KeepsOutdated, KeepsTold, CommitsNothing, IsRefusal, Settles, SettlesBlank};
     ghost use Rattle.store_tables.specs.declared.error.TableError.TheVariants.{BadStore, Memory, StoreFault};
@@ -90,6 +92,34 @@ impl<S: Alter> Tables<S> {
         done
     }
 
+    /// Makes a store of the second version with counters and notices in it, in a database that has none of its tables, in one
+    /// transaction.
+    pub fn make_filled(
+        &mut self,
+        site: &str,
+        layout: &str,
+        cells: &[StoredCell],
+        notices: &[StoredNotice],
+    ) -> Result<(), TableError>
+        requires cells { All (λ c. c.n < 2 ^ 63) cells.now }
+        requires notices { All (λ n. (n.announced < 2 ^ 63) × (n.finished < 2 ^ 63)) notices.now }
+        ensures ok { KeepsBlank self.old → OnOk result (KeepsStore self.new (filled site.now layout.now cells.now notices.now)) }
+        ensures memory { KeepsBlank self.old → result ≡ Err Memory → KeepsBlank self.new }
+        ensures either { KeepsBlank self.old → result ≡ Err StoreFault → KeepsBlankOr self.new (filled site.now layout.now cells.now notices.now) }
+        ensures honest { IsHonest self.new → IsHonest self.old }
+        ensures fault { result ≡ Err StoreFault → IsTrue (has_failed self.new) }
+        ensures sound { result ≢ Err StoreFault → has_failed self.new ≡ false }
+        ensures kind { result ≢ Err BadStore }
+        ensures stopped { IsTrue (has_failed self.old) → (result ≡ Err StoreFault) × (self.new ≡ self.old) }
+    {
+        if self.failed {
+            return Err(TableError::StoreFault);
+        }
+        let done = make_filled_kept(&mut self.conn, site, layout, cells, notices);
+        self.failed = done == Err(TableError::StoreFault);
+        done
+    }
+
     /// Brings a store, whose version the caller knows from a look at it, to the second version and to this layout
     /// line, in one transaction. Tables of other names, which were made behind its own, keep their rows.
     pub fn renew(&mut self, version: Version, layout: &str) -> Result<(), TableError>
@@ -107,6 +137,27 @@ impl<S: Alter> Tables<S> {
             return Err(TableError::StoreFault);
         }
         let done = renew_kept(&mut self.conn, version, layout);
+        self.failed = done == Err(TableError::StoreFault);
+        done
+    }
+
+    /// Sets the row for the site of a store of the second version, in one transaction. Tables of other names, which were made
+    /// behind its own, keep their rows.
+    pub fn set_site(&mut self, site: &str) -> Result<(), TableError>
+        ensures ok { (it : _) → it.version ≡ Second → KeepsStore self.old it → OnOk result (KeepsStore self.new (with_site site.now it)) }
+        ensures memory { (it : _) → it.version ≡ Second → KeepsStore self.old it → result ≡ Err Memory → KeepsStore self.new it }
+        ensures either { (it : _) → it.version ≡ Second → KeepsStore self.old it → result ≡ Err StoreFault → KeepsOneOf self.new it (with_site site.now it) }
+        ensures beside { (it : _) → (others : _) → it.version ≡ Second → KeepsStore self.old it → KeepsOthers self.old others → KeepsOthers self.new others }
+        ensures honest { IsHonest self.new → IsHonest self.old }
+        ensures fault { result ≡ Err StoreFault → IsTrue (has_failed self.new) }
+        ensures sound { result ≢ Err StoreFault → has_failed self.new ≡ false }
+        ensures kind { result ≢ Err BadStore }
+        ensures stopped { IsTrue (has_failed self.old) → (result ≡ Err StoreFault) × (self.new ≡ self.old) }
+    {
+        if self.failed {
+            return Err(TableError::StoreFault);
+        }
+        let done = set_site_kept(&mut self.conn, site);
         self.failed = done == Err(TableError::StoreFault);
         done
     }

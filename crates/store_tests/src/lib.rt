@@ -22,6 +22,8 @@ mod layout_lines;
 #[cfg(test)]
 mod logs_judged;
 #[cfg(test)]
+mod moves;
+#[cfg(test)]
 mod shells;
 #[cfg(test)]
 mod sites;

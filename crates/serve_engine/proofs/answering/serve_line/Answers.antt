@@ -9,6 +9,7 @@ use Rattle.serve_engine.specs.declared.request.Request.TheVariants.{Asked, Unrea
 use Rattle.serve_engine.specs.Requests.{Asks}
 use Rattle.serve_engine.specs.Answers.{show_line, sessions_line, wrong_word_line}
 use Rattle.serve_engine.specs.BadWords.{wrong_word}
+use Rattle.group_names.specs.Names.{generation_of}
 use Rattle.serve_engine.specs.Fencing.{fence_line}
 use Rattle.serve_engine.specs.Exchanges.{told_no_delta, told_counts, told_sessions, told_fence, still_no_delta}
 use Rattle.serve_engine.specs.Steps.{ServesLine, exchange_of}
@@ -95,5 +96,5 @@ returns-in-Some-Fence-clause-served g c = λ terms a are stands.
     let asks : Asks terms line (Some (Fence r h)) =
     asks_here terms c.args.marker.now line (c.layout.ensures ∙ ap (λ (x : Core). x.layout) c.core.ensures.core)
     (c.in-Some-Fence.is ∙ ap Some c.in-Some-Fence.field-0-is) are c.in-Ok.ensures in
-    look g.K.Keeper g.K.LiveKeeper.is_outdated g.L.CallLog terms a live c.args.log.now line (Fence r h) (λ b. fence_line b r h) c.fence.result (string_bytes c.fence.new.text)
-    stands asks refl (told_fence terms a line r h asks) c.fence.ensures
+    look g.K.Keeper g.K.LiveKeeper.is_outdated g.L.CallLog terms a live c.args.log.now line (Fence r h) (λ b. fence_line (generation_of terms.group) b r h) c.fence.result (string_bytes c.fence.new.text)
+    stands asks refl (told_fence terms a line r h asks) (c.fence.ensures terms are.word)

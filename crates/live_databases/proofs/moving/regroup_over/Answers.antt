@@ -1,0 +1,90 @@
+use Rattle.std.proofs.Common.{◌≡◌, ◌∙◌, List, ℕ, Option, Some, None, inl, inr, refl, sym, ap}
+use Rattle.std.specs.Prelude.{option_map, string_bytes}
+use Rattle.group_names.specs.Names.{next_name}
+use Rattle.live_databases.specs.declared.service_end.ServiceEnd.{ServiceEnd}
+use Rattle.live_databases.specs.Moves.{HasMoved, IsNotMoved, Moves, MovesNot, moving}
+use Rattle.live_databases.specs.ServedStores.{OpensServed}
+use Rattle.live_databases.proofs.MoveLemmas.{matched}
+use Rattle.live_databases.proofs.moving.regroup_over.Goals as goal
+
+pub returns-in-Ok-None : goal.returns-in-Ok-None
+returns-in-Ok-None g c =
+    let none : next_name c.args.group.now ≡ None = sym c.in-Ok-None.ensures ∙ ap (option_map string_bytes) c.in-Ok-None.field-0-is in
+    inl (refl, inl (none, refl))
+
+pub returns-in-Err : goal.returns-in-Err
+returns-in-Err g c = inl (refl, inr refl)
+
+pub returns-in-Err-open_served : goal.returns-in-Err-open_served
+returns-in-Err-open_served g c = inr (inl (record {
+  error = c.in-Err-open_served.error;
+  left = c.in-Err-open_served.connection;
+  opened = record {
+    stored = c.in-Err-open_served.ensures.store;
+    blank = c.in-Err-open_served.ensures.blank;
+    by_schema = c.in-Err-open_served.ensures.schema;
+    created = c.in-Err-open_served.ensures.created;
+    judged = c.in-Err-open_served.ensures.judged;
+    marked = c.in-Err-open_served.ensures.marked;
+    unmarked = c.in-Err-open_served.ensures.unmarked;
+    settles = c.in-Err-open_served.ensures.settles;
+    own = c.in-Err-open_served.ensures.own;
+    settles_or = c.in-Err-open_served.ensures.settles_or;
+    left = c.in-Err-open_served.ensures.left;
+    left_or = c.in-Err-open_served.ensures.left_or;
+    fault = c.in-Err-open_served.ensures.fault;
+    current = c.in-Err-open_served.ensures.current;
+    beside = c.in-Err-open_served.ensures.beside;
+  };
+  ends = c.end_refused-ended.ensures;
+}))
+
+pub move_told-told-requires-its_site : goal.move_told-told-requires-its_site
+move_told-told-requires-its_site g c = c.in-Ok-open_served.ensures.keeper.its_site
+
+pub returns : goal.returns
+returns g c =
+    let name = c.as_str.result.now in
+    let is_next : next_name c.args.group.now ≡ Some name =
+    sym c.in-Ok-Some.ensures ∙ ap (option_map string_bytes) c.in-Ok-Some.field-0-is ∙ ap (λ (n : List ℕ). Some n) (sym c.as_str.ensures.value) in
+    let keeper = c.in-Ok-open_served.opened.0 in
+    let left = c.move_told-told.new.keeper in
+    let opened = record {
+      stored = c.in-Ok-open_served.ensures.store;
+      blank = c.in-Ok-open_served.ensures.blank;
+      by_schema = c.in-Ok-open_served.ensures.schema;
+      created = c.in-Ok-open_served.ensures.created;
+      judged = c.in-Ok-open_served.ensures.judged;
+      marked = c.in-Ok-open_served.ensures.marked;
+      unmarked = c.in-Ok-open_served.ensures.unmarked;
+      settles = c.in-Ok-open_served.ensures.settles;
+      own = c.in-Ok-open_served.ensures.own;
+      settles_or = c.in-Ok-open_served.ensures.settles_or;
+      left = c.in-Ok-open_served.ensures.left;
+      left_or = c.in-Ok-open_served.ensures.left_or;
+      fault = c.in-Ok-open_served.ensures.fault;
+      current = c.in-Ok-open_served.ensures.current;
+      beside = c.in-Ok-open_served.ensures.beside;
+    } in
+    matched _ _ _ _ c.move_told-told.result
+    (λ text moves. record {
+      name = name;
+      is_next = is_next;
+      keeper = keeper;
+      made = c.in-Ok-open_served.opened.1;
+      opened = opened;
+      moved = left;
+      moves = moves;
+      handed = c.into_connection.ensures;
+    })
+    (λ ended not_moved. inr (inr (record {
+      name = name;
+      is_next = is_next;
+      keeper = keeper;
+      made = c.in-Ok-open_served.opened.1;
+      opened = opened;
+      left = left;
+      moves_not = not_moved;
+      handed = c.into_connection.ensures;
+    })))
+    c.move_told-told.ensures

@@ -1,0 +1,68 @@
+-- A site that lost its store is built again, and its store made (the project's own).
+use Rattle.std.specs.Prelude.{◌≡◌, ◌⊎◌, ℕ, List, Some}
+use Rattle.sqlite_disk.specs.declared.Disk as disk
+use Rattle.sqlite_wal.specs.Recovery.{Image}
+use Rattle.sqlite_store.specs.declared.store.FileStore.{FileStore}
+use Rattle.sqlite_trees.specs.declared.store.Store.{Ghosts as Device}
+use Rattle.sqlite.specs.Files.{over_files}
+use Rattle.sqlite.specs.State.{HasCleanDisk}
+use Rattle.sqlite.specs.Held.{Held, state}
+use Rattle.merge_core.specs.Layout.{LayoutState}
+use Rattle.admission_model.specs.declared.durable.DurableCell.{DurableCell}
+use Rattle.admission_core.specs.Core.{Core}
+use Rattle.store_rows.specs.Rows.{Stored}
+use Rattle.store_rows.specs.Holding.{Keeps, KeepsNothing}
+use Rattle.rebuild_engine.specs.Parts.{IsBuiltOf, IsUnbuilt}
+use Rattle.site_store.specs.declared.error.ServedError.{ServedError}
+use Rattle.site_store.specs.Making.{IsLeftNew, IsNew, new_content, to_make}
+use Rattle.site_store.specs.Served.{IsDenied}
+use Rattle.live_databases.specs.declared.rebuilding.RebuildEnd.{RebuildEnd}
+use Rattle.live_databases.specs.declared.rebuilding.RebuildEnd.TheVariants.{Ended, Unbuilt}
+use Rattle.live_databases.specs.declared.service_end.ServiceEnd.{ServiceEnd}
+use Rattle.live_databases.specs.Endings.{refused_store}
+use Rattle.live_databases.specs.LiveFound.{FindsFiles}
+use Rattle.live_databases.specs.LiveStores.{IsUnserved}
+
+module _ {S : Type 0} (g : Device S) where
+  -- The site was built again of the lines of the bytes, and where nothing was kept its store is: that of the site of the group,
+  -- with the counters with which it begins. None was made where one was there.
+  pub record HasRebuilt (layout : LayoutState) (i : ℕ) (lost name bytes : List ℕ) (c after : Held S) (core : Core) : Type 0 where
+    pub cells : List DurableCell
+    pub built : IsBuiltOf layout i lost name bytes core cells
+    pub is_new : IsNew layout i (Some name) cells
+    pub made : KeepsNothing g c → Keeps g after (new_content layout i (Some name) cells)
+    pub never : (it : Stored) → Keeps g c it → ¬ HasCleanDisk (state g after)
+
+  -- It was built again, and its store refused: what was there is there, or after a fault perhaps the store where nothing was.
+  pub record RefusesRebuilt (layout : LayoutState) (i : ℕ) (lost name bytes : List ℕ) (c after : Held S) (error : ServedError) : Type 0 where
+    pub core : Core
+    pub cells : List DurableCell
+    pub built : IsBuiltOf layout i lost name bytes core cells
+    pub there : (it : Stored) → Keeps g c it → Keeps g after it
+    pub left : KeepsNothing g c → IsLeftNew g layout i (Some name) cells after error
+    pub cause : HasCleanDisk (state g after) → IsDenied to_make (state g c).now.schema error
+
+  -- how a rebuild ends that made no store
+  abbrev pub HasNotRebuilt : LayoutState → ℕ → List ℕ → List ℕ → List ℕ → Held S → Held S → RebuildEnd → Type 0
+  HasNotRebuilt layout i lost name bytes c after (Unbuilt stop) = IsUnbuilt layout i lost name bytes stop × (after ≡ c)
+  HasNotRebuilt layout i lost name bytes c after (Ended ended) =
+      (error : ServedError) × (ended ≡ refused_store error) × RefusesRebuilt layout i lost name bytes c after error
+
+module _ {D : Type 0} {d : disk.Ghosts D} where
+  -- the site was built again, over files that held this
+  pub record FindsRebuilt (layout : LayoutState) (i : ℕ) (lost name bytes : List ℕ) (image : Image) (core : Core) : Type 0 where
+    pub c : Held (FileStore D d)
+    pub after : Held (FileStore D d)
+    pub found : FindsFiles image c
+    pub rebuilt : HasRebuilt over_files layout i lost name bytes c after core
+
+  pub record FindsNotRebuilt (layout : LayoutState) (i : ℕ) (lost name bytes : List ℕ) (image : Image) (ended : RebuildEnd) : Type 0 where
+    pub c : Held (FileStore D d)
+    pub after : Held (FileStore D d)
+    pub found : FindsFiles image c
+    pub not_rebuilt : HasNotRebuilt over_files layout i lost name bytes c after ended
+
+  -- it was not, or no file was opened
+  abbrev pub EndsNotRebuilt : LayoutState → ℕ → List ℕ → List ℕ → List ℕ → Image → RebuildEnd → Type 0
+  EndsNotRebuilt layout i lost name bytes image ended =
+      ((unserved : ServiceEnd) × (ended ≡ Ended unserved) × IsUnserved unserved) ⊎ FindsNotRebuilt layout i lost name bytes image ended
