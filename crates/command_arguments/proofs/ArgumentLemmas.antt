@@ -1,5 +1,5 @@
 -- From what clap met to what the arguments ask for.
-use Rattle.std.proofs.Common.{◌≡◌, ◌<◌, ◌&&◌, ℕ, Bool, true, false, List, [], ◌∷◌, length, map, codes, Option, Some, None, Result, Ok, Err, option_map, refl, ap, ◌∙◌, arith}
+use Rattle.std.proofs.Common.{◌≡◌, ◌<◌, ◌&&◌, ℕ, Bool, true, false, List, [], ◌∷◌, length, map, codes, Option, Some, None, Result, Ok, Err, option_map, refl, sym, ap, subst, ◌∙◌, arith}
 use Rattle.std.specs.List.{list_all}
 use Rattle.std.specs.Prelude.{nat_lt, option_and_then, unwrap_or}
 use Rattle.std.specs.Option.{option_map_or}
@@ -12,7 +12,7 @@ use Rattle.clap.specs.ValueTests.{is_numeral}
 use Rattle.clap.specs.Matches.{ReadsOne}
 use Rattle.clap.specs.Words.{App, Row, Text, fault_of, first_of, subcommand_of}
 use Rattle.clap.proofs.WalkLemmas.{both}
-use Rattle.command_arguments.specs.Arguments.{asked_command, asked_value, asked_words, command_in, is_true, program, short_number, usage_errors, value_in, words_at, words_in}
+use Rattle.command_arguments.specs.Arguments.{asked_command, asked_lost, asked_value, asked_words, command_in, is_true, lost_at, lost_in, program, short_number, site_of, usage_errors, value_in, words_at, words_in}
 
 -- arguments behind the program's name are judged by clap's rules
 pub errors_by_clap : (arguments : List Text) → 1 < length arguments → usage_errors arguments ≡ fault_of program arguments
@@ -29,6 +29,9 @@ module _ (a : App) (met : Option (Text × List Row)) (arguments : List Text) (mo
   pub value_met : (option : Text) → value_in option met ≡ asked_value option arguments
   value_met option = rw (lt-leb (length arguments) 1 more) (ap (value_in option) met_is)
 
+  pub lost_met : lost_at met ≡ asked_lost arguments
+  lost_met = rw (lt-leb (length arguments) 1 more) (ap lost_at met_is)
+
   pub words_met : words_at met ≡ asked_words arguments
   words_met = rw (lt-leb (length arguments) 1 more) (ap words_at met_is)
 
@@ -41,6 +44,13 @@ pub value_of_rows : (option : Text) (met : Option (Text × List Row)) (rows : Li
     → first_of option rows ≡ value_in option met
 value_of_rows option None rows has_rows = cc
 value_of_rows option (Some (name, values)) rows has_rows =
+    let rows_are : values ≡ rows = cc in
+    rw rows_are refl
+
+-- so are the sites that are lost
+pub lost_of_rows : (met : Option (Text × List Row)) (rows : List Row) → option_map (λ p. p.1) met ≡ Some rows → lost_in rows ≡ lost_at met
+lost_of_rows None rows has_rows = cc
+lost_of_rows (Some (name, values)) rows has_rows =
     let rows_are : values ≡ rows = cc in
     rw rows_are refl
 
@@ -95,6 +105,17 @@ short_of_text E text None is = go (is_short (without_leading_plus text)) refl
         let outer = both _ _ holds in
         let inner = both _ _ outer.0 in
         absurd (is.1 ((ltb-true _ _ inner.0, digits_from (without_leading_plus text) inner.1), ltb-true _ _ outer.1))
+
+-- a text that is read as a number of 16 bits names a site, and one that is not names none
+pub site_read : (E : Type 0) (text : Text) (r : Result ℕ E) (n : ℕ) → ParsesUnsigned 16 10 text r → r ≡ Ok n → site_of text ≡ n ∷ []
+site_read E text r n parsed is =
+    let read : Some n ≡ short_number text = short_of_text E text (Some n) (subst (λ (x : Result ℕ E). ParsesUnsigned 16 10 text x) is parsed) in
+    ap (λ (o : Option ℕ). option_map_or (λ k. k ∷ []) o []) (sym read)
+
+pub site_unread : (E : Type 0) (text : Text) (r : Result ℕ E) (e : E) → ParsesUnsigned 16 10 text r → r ≡ Err e → site_of text ≡ []
+site_unread E text r e parsed is =
+    let unread : None ≡ short_number text = short_of_text E text None (e, subst (λ (x : Result ℕ E). ParsesUnsigned 16 10 text x) is parsed) in
+    ap (λ (o : Option ℕ). option_map_or (λ k. k ∷ []) o []) (sym unread)
 
 -- reading by a stronger rule is reading
 reads_by : (E : Type 0) (G H : Text → Result ℕ E → Type 0) (text : Text) (read : Option ℕ)

@@ -1,11 +1,12 @@
 -- What arguments the program takes and how they are read: the project's own command line, by clap's rules.
 use Rattle.std.specs.Prelude.{◌≡◌, ℕ, ◌&&◌, nat_le, nat_lt, Bool, true, false, pos, List, [], ◌∷◌, length, Option, Some, None, codes, bytes_eq, option_and_then, unwrap_or, if◌then◌else◌, option_map}
 use Rattle.std.specs.Str.Parse.{digits_value, without_leading_plus}
+use Rattle.std.specs.List.{flat_map}
 use Rattle.std.specs.Option.{option_map_or}
-use Rattle.clap.specs.Words.{App, Kinds, Row, Rule, Shape, Text, app_of, fault_of, first_of, new_app, new_rule, one_of, rule_of, subcommand_of, with_rule, with_subcommand}
+use Rattle.clap.specs.Words.{App, Kinds, Row, Rule, Shape, Text, all_of, app_of, fault_of, first_of, new_app, new_rule, one_of, rule_of, subcommand_of, with_rule, with_subcommand}
 use Rattle.clap.specs.Simple.{on_top}
 use Rattle.clap.specs.ValueTests.{is_numeral}
-use Rattle.clap.specs.declared.builder.ArgAction.TheVariants.{Set, SetTrue}
+use Rattle.clap.specs.declared.builder.ArgAction.TheVariants.{Append, Set, SetTrue}
 use Rattle.clap.specs.declared.builder.arg.Arg.{Arg}
 use Rattle.clap.specs.declared.builder.command.Command.{Command as Parser}
 use Rattle.clap.specs.declared.builder.command.Command.TheViews.{out-Command as fields_of}
@@ -13,7 +14,7 @@ use Rattle.clap.specs.declared.builder.value_parser.ValueParser.TheVariants.{Sig
 use Rattle.command_arguments.specs.declared.arguments.Command.{Command}
 use Rattle.command_arguments.specs.declared.arguments.Serving.{Serving}
 use Rattle.command_arguments.specs.declared.arguments.Words.{Words}
-use Rattle.command_arguments.specs.declared.arguments.Command.TheVariants.{Join, Play, Site, Serve, Ask, Judge, Run}
+use Rattle.command_arguments.specs.declared.arguments.Command.TheVariants.{Join, Play, Site, Serve, Ask, Regroup, Rebuild, Judge, Run}
 
 -- an option whose value is any text (the project's own), with one name for its value
 abbrev pub text_option : Text → Rule
@@ -74,6 +75,14 @@ log_option = text_option (codes "log")
 abbrev pub group_option : Rule
 group_option = text_option (codes "group")
 
+-- .. where it is needed
+abbrev pub needed_group : Rule
+needed_group = record group_option { required = true }
+
+-- the option `--lost J` (the project's own), which may be there several times
+abbrev pub lost_option : Rule
+lost_option = record (number_option (codes "lost")) { action = Some Append }
+
 -- a word of a call (the project's own), at its place behind the options
 abbrev pub word : Text → Rule
 word name = record (new_rule name) {
@@ -112,6 +121,15 @@ abbrev pub ask_command : App
 ask_command =
     with_rule (with_rule (with_rule (with_rule (serving_command (codes "ask")) first_word) (word (codes "word2"))) (word (codes "word3"))) (word (codes "word4"))
 
+-- the command `regroup` (the project's own), with three options that are needed and one that is not
+abbrev pub regroup_command : App
+regroup_command = with_rule (with_rule (with_rule (with_rule (new_app (codes "regroup")) site_option) store_option) layout_option) needed_group
+
+-- the command `rebuild` (the project's own), with the same and one more
+abbrev pub rebuild_command : App
+rebuild_command =
+    with_rule (with_rule (with_rule (with_rule (with_rule (new_app (codes "rebuild")) site_option) store_option) layout_option) needed_group) lost_option
+
 -- the command `judge` (the project's own), with two options
 abbrev pub judge_command : App
 judge_command = with_rule (with_rule (new_app (codes "judge")) cut_option) layout_option
@@ -140,12 +158,13 @@ Offers app built = (app_of built ≡ app) × ((fields_of built).has_globals ≡ 
 abbrev pub IsOption : Rule → Arg → Type 0
 IsOption rule option = (rule_of option ≡ rule) × (option.global ≡ false)
 
--- the program, whose commands are `join`, `play`, `site`, `serve`, `ask`, `judge` and `run`
+-- the program, whose commands are `join`, `play`, `site`, `serve`, `ask`, `regroup`, `rebuild`, `judge` and `run`
 abbrev pub program : App
 program =
-    with_subcommand (with_subcommand (with_subcommand (with_subcommand
+    with_subcommand (with_subcommand (with_subcommand (with_subcommand (with_subcommand (with_subcommand
     (with_subcommand (with_subcommand (with_subcommand bare_program
-    join_command.top) play_command.top) site_command.top) serve_command.top) ask_command.top) judge_command.top) run_command.top
+    join_command.top) play_command.top) site_command.top) serve_command.top) ask_command.top) regroup_command.top) rebuild_command.top) judge_command.top)
+    run_command.top
 
 -- whether a flag's text is `true`
 abbrev pub is_true : Text → Bool
@@ -193,6 +212,8 @@ command_of name rows =
     else if bytes_eq name (codes "site") then Site (site_in rows)
     else if bytes_eq name (codes "serve") then Serve (serving_in rows)
     else if bytes_eq name (codes "ask") then Ask (serving_in rows)
+    else if bytes_eq name (codes "regroup") then Regroup (site_in rows)
+    else if bytes_eq name (codes "rebuild") then Rebuild (site_in rows)
     else if bytes_eq name (codes "judge") then Judge
     else if bytes_eq name (codes "run") then Run (turns_in rows) else Join
 
@@ -205,6 +226,23 @@ command_in (Some (name, rows)) = command_of name rows
 abbrev pub value_in : Text → Option (Text × List Row) → Option Text
 value_in option None = None
 value_in option (Some (name, rows)) = first_of option rows
+
+-- the number of 16 bits that a text names, if it names one, as a list
+abbrev pub site_of : Text → List ℕ
+site_of text = option_map_or (λ n. n ∷ []) (short_number text) []
+
+-- those that texts name
+abbrev pub sites_of : List Text → List ℕ
+sites_of texts = flat_map site_of texts
+
+-- the sites that the values name as lost, in their order
+abbrev pub lost_in : List Row → List ℕ
+lost_in rows = option_map_or sites_of (all_of (codes "lost") rows) []
+
+-- those of the command that was met
+abbrev pub lost_at : Option (Text × List Row) → List ℕ
+lost_at None = []
+lost_at (Some (name, rows)) = lost_in rows
 
 -- the words of a call, in their order, as far as they are there
 abbrev pub said : Option Text → Option Text → Option Text → Option Text → List (Option Text)
@@ -278,3 +316,7 @@ asked_group arguments = asked_value (codes "group") arguments
 -- the file for the site's log that they name
 abbrev pub asked_log : List Text → Option Text
 asked_log arguments = asked_value (codes "log") arguments
+
+-- the other sites that they name as lost
+abbrev pub asked_lost : List Text → List ℕ
+asked_lost arguments = if nat_le (length arguments) 1 then [] else lost_at (subcommand_of program arguments)

@@ -1,6 +1,6 @@
-ghost use Rattle.std.specs.Prelude.{◌≡◌, ◌≤◌, codes, false, length, map, IfOk, IsOk, option_map, string_bytes};
+ghost use Rattle.std.specs.Prelude.{◌≡◌, ◌≤◌, ◌++◌, codes, false, length, map, IfOk, OnOk, IsOk, option_map, string_bytes};
 ghost use Rattle.clap.specs.Words.{App, FailsBy, Rule, app_of, found_of, new_app, rows_of, rule_of, subcommand_rows_of, with_rule, with_subcommand};
-ghost use Rattle.command_arguments.specs.Arguments.{IsOption, Offers, ask_command, asked_command, asked_cut, asked_group, asked_layout, asked_log, asked_out, asked_store, asked_words, bare_program, command_in, command_of, flag, flag_in, first_word, join_command, judge_command, none_said, number_option, play_command, program, run_command, serve_command, serving_command, serving_in, site_command, site_in, site_option, store_option, text_option, turns_in, turns_option, usage_errors, value_in, wait_in, word, words_at, words_in, words_of};
+ghost use Rattle.command_arguments.specs.Arguments.{IsOption, Offers, ask_command, asked_command, asked_cut, asked_group, asked_layout, asked_log, asked_lost, asked_out, asked_store, asked_words, bare_program, command_in, command_of, flag, flag_in, first_word, join_command, judge_command, lost_at, lost_in, lost_option, needed_group, none_said, number_option, play_command, program, rebuild_command, regroup_command, run_command, serve_command, serving_command, serving_in, site_command, site_in, site_of, sites_of, site_option, store_option, text_option, turns_in, turns_option, usage_errors, value_in, wait_in, word, words_at, words_in, words_of};
 
 use crate::help;
 use clap::builder::ValueParser;
@@ -28,6 +28,16 @@ pub enum Command {
     Serve(Serving),
     /// One call at one site, which the words name.
     Ask(Serving),
+    /// The store of one site is moved to the next generation of its group.
+    Regroup {
+        /// The site's number.
+        site: u16,
+    },
+    /// The lines of the input are texts of the other sites, of which one that lost its store is built again.
+    Rebuild {
+        /// The site's number.
+        site: u16,
+    },
     /// The lines of the input are those of closed logs, which are judged.
     Judge,
     /// The lines of the input are calls at several sites, which work at the same time.
@@ -62,12 +72,12 @@ pub struct Words<'a> {
 }
 
 /// A command and the texts that its options name.
-#[derive(Clone, Copy)]
+#[derive(Drop)]
 pub struct Request<'a> {
     pub command: Command,
     /// The layout file, if one is named.
     pub layout: Option<&'a str>,
-    /// The file of the site's store: `site`, `serve` and `ask` have one, and no other command.
+    /// The file of the site's store: `site`, `serve`, `ask`, `regroup` and `rebuild` have one, and no other command.
     pub store: Option<&'a str>,
     /// The word for a cut, if one is named: `judge` may have one, and no other command.
     pub cut: Option<&'a str>,
@@ -75,8 +85,11 @@ pub struct Request<'a> {
     pub out: Option<&'a str>,
     /// The file for the site's log, if one is named: `serve` and `ask` may have one, and no other command.
     pub log: Option<&'a str>,
-    /// The name of the site's group, if one is named: `serve` and `ask` may have one, and no other command.
+    /// The name of the site's group, if one is named: `serve` and `ask` may have one, `regroup` and `rebuild` have one, and no
+    /// other command.
     pub group: Option<&'a str>,
+    /// The other sites that lost their stores: `rebuild` may have some, and no other command.
+    pub lost: Vec<u16>,
     /// The words of the call.
     pub words: Words<'a>,
 }
@@ -91,6 +104,7 @@ pub fn requested<'a>(alloc: Global, arguments: &'a [String]) -> Result<Request<'
     ensures out { IfOk result (λ asked. option_map (λ path. path.now) asked.out ≡ asked_out (map string_bytes arguments.now)) }
     ensures log { IfOk result (λ asked. option_map (λ path. path.now) asked.log ≡ asked_log (map string_bytes arguments.now)) }
     ensures group { IfOk result (λ asked. option_map (λ name. name.now) asked.group ≡ asked_group (map string_bytes arguments.now)) }
+    ensures lost { IfOk result (λ asked. asked.lost.items ≡ asked_lost (map string_bytes arguments.now)) }
     ensures words { IfOk result (λ asked. words_of asked.words ≡ asked_words (map string_bytes arguments.now)) }
     // An error comes just where clap's rules find one, and is of a kind that they give, or memory ran out.
     ensures refused { FailsBy (usage_errors (map string_bytes arguments.now)) result }
@@ -105,26 +119,29 @@ pub fn requested<'a>(alloc: Global, arguments: &'a [String]) -> Result<Request<'
             out: None,
             log: None,
             group: None,
+            lost: Vec::new(alloc),
             words: no_words(),
         });
     }
     let matches = parser(alloc)?.try_get_matches_from(arguments)?;
-    Ok(request_in(&matches))
+    let asked = request_in(alloc, &matches)?;
+    Ok(asked)
 }
 
 // What the arguments' matches ask for.
-fn request_in<'a>(matches: &ArgMatches<'a>) -> Request<'a>
-    ensures command { result.command ≡ command_in (subcommand_rows_of matches.now) }
-    ensures layout { option_map (λ path. path.now) result.layout ≡ value_in (codes "layout") (subcommand_rows_of matches.now) }
-    ensures store { option_map (λ path. path.now) result.store ≡ value_in (codes "store") (subcommand_rows_of matches.now) }
-    ensures cut { option_map (λ word. word.now) result.cut ≡ value_in (codes "cut") (subcommand_rows_of matches.now) }
-    ensures out { option_map (λ path. path.now) result.out ≡ value_in (codes "out") (subcommand_rows_of matches.now) }
-    ensures log { option_map (λ path. path.now) result.log ≡ value_in (codes "log") (subcommand_rows_of matches.now) }
-    ensures group { option_map (λ name. name.now) result.group ≡ value_in (codes "group") (subcommand_rows_of matches.now) }
-    ensures words { words_of result.words ≡ words_at (subcommand_rows_of matches.now) }
+fn request_in<'a>(alloc: Global, matches: &ArgMatches<'a>) -> Result<Request<'a>, AllocError>
+    ensures command { IfOk result (λ asked. asked.command ≡ command_in (subcommand_rows_of matches.now)) }
+    ensures layout { IfOk result (λ asked. option_map (λ path. path.now) asked.layout ≡ value_in (codes "layout") (subcommand_rows_of matches.now)) }
+    ensures store { IfOk result (λ asked. option_map (λ path. path.now) asked.store ≡ value_in (codes "store") (subcommand_rows_of matches.now)) }
+    ensures cut { IfOk result (λ asked. option_map (λ word. word.now) asked.cut ≡ value_in (codes "cut") (subcommand_rows_of matches.now)) }
+    ensures out { IfOk result (λ asked. option_map (λ path. path.now) asked.out ≡ value_in (codes "out") (subcommand_rows_of matches.now)) }
+    ensures log { IfOk result (λ asked. option_map (λ path. path.now) asked.log ≡ value_in (codes "log") (subcommand_rows_of matches.now)) }
+    ensures group { IfOk result (λ asked. option_map (λ name. name.now) asked.group ≡ value_in (codes "group") (subcommand_rows_of matches.now)) }
+    ensures lost { IfOk result (λ asked. asked.lost.items ≡ lost_at (subcommand_rows_of matches.now)) }
+    ensures words { IfOk result (λ asked. words_of asked.words ≡ words_at (subcommand_rows_of matches.now)) }
 {
     let Some((name, found)) = matches.subcommand() else {
-        return Request {
+        return Ok(Request {
             command: Command::Join,
             layout: None,
             store: None,
@@ -132,10 +149,12 @@ fn request_in<'a>(matches: &ArgMatches<'a>) -> Request<'a>
             out: None,
             log: None,
             group: None,
+            lost: Vec::new(alloc),
             words: no_words(),
-        };
+        });
     };
-    Request {
+    let lost = lost_in(alloc, found)?;
+    Ok(Request {
         command: command_of(name, found),
         layout: found.get_str("layout"),
         store: found.get_str("store"),
@@ -143,8 +162,41 @@ fn request_in<'a>(matches: &ArgMatches<'a>) -> Request<'a>
         out: found.get_str("out"),
         log: found.get_str("log"),
         group: found.get_str("group"),
+        lost,
         words: words_in(found),
+    })
+}
+
+// The sites that the values of `--lost` name. Clap has refused those that are no numbers of 16 bits.
+fn lost_in(alloc: Global, found: &ArgMatches) -> Result<Vec<u16>, AllocError>
+    ensures { IfOk result (λ sites. sites.items ≡ lost_in (rows_of (found_of found.now))) }
+{
+    match found.get_strs("lost") {
+        Some(texts) => sites_of(alloc, texts),
+        None => Ok(Vec::new(alloc)),
     }
+}
+
+// The numbers of 16 bits that texts name.
+fn sites_of(alloc: Global, texts: &[&str]) -> Result<Vec<u16>, AllocError>
+    ensures { IfOk result (λ sites. sites.items ≡ sites_of (map (λ t. t.now) texts.now)) }
+{
+    let mut sites = Vec::new(alloc);
+    for text in texts {
+        push_site(&mut sites, text)?;
+    }
+    Ok(sites)
+}
+
+// Adds the number of 16 bits that a text names, if it names one.
+fn push_site(sites: &mut Vec<u16>, text: &str) -> Result<(), AllocError>
+    ensures { OnOk result (sites.new.items ≡ sites.old.items ++ site_of text.now) }
+{
+    match text.parse::<u16>() {
+        Ok(site) => sites.push(site)?,
+        Err(_) => {}
+    }
+    Ok(())
 }
 
 // No words.
@@ -191,6 +243,16 @@ fn command_of(name: &str, found: &ArgMatches) -> Command
     }
     if name == "ask" {
         return Command::Ask(serving_in(found));
+    }
+    if name == "regroup" {
+        return Command::Regroup {
+            site: site_in(found),
+        };
+    }
+    if name == "rebuild" {
+        return Command::Rebuild {
+            site: site_in(found),
+        };
     }
     if name == "judge" {
         return Command::Judge;
@@ -254,6 +316,8 @@ fn parser<'a>(alloc: Global) -> Result<Parser<'a>, AllocError>
     let program = with_command(program, site_parser(alloc));
     let program = with_command(program, serve_parser(alloc));
     let program = with_command(program, ask_parser(alloc));
+    let program = with_command(program, regroup_parser(alloc));
+    let program = with_command(program, rebuild_parser(alloc));
     let program = with_command(program, judge_parser(alloc));
     with_command(program, run_parser(alloc))
 }
@@ -385,6 +449,31 @@ fn ask_parser<'a>(alloc: Global) -> Result<Parser<'a>, AllocError>
     with_option(command, word(alloc, "word4", help::WORD4))
 }
 
+// The command `regroup`.
+fn regroup_parser<'a>(alloc: Global) -> Result<Parser<'a>, AllocError>
+    ensures { IfOk result (Offers regroup_command) }
+{
+    let usage = "seat_cli regroup --site I --store FILE [--layout FILE] --group NAME";
+    let command = bare_command(alloc, "regroup", usage, help::REGROUP, help::REGROUP_NOTES);
+    let command = with_option(Ok(command), site_option(alloc));
+    let command = with_option(command, store_option(alloc));
+    let command = with_option(command, layout_option(alloc));
+    with_option(command, needed_group(alloc, help::GROUP_MOVED))
+}
+
+// The command `rebuild`.
+fn rebuild_parser<'a>(alloc: Global) -> Result<Parser<'a>, AllocError>
+    ensures { IfOk result (Offers rebuild_command) }
+{
+    let usage = "seat_cli rebuild --site I --store FILE [--layout FILE] --group NAME [--lost J ..]";
+    let command = bare_command(alloc, "rebuild", usage, help::REBUILD, help::REBUILD_NOTES);
+    let command = with_option(Ok(command), site_option(alloc));
+    let command = with_option(command, store_option(alloc));
+    let command = with_option(command, layout_option(alloc));
+    let command = with_option(command, needed_group(alloc, help::GROUP_BUILT));
+    with_option(command, lost_option(alloc))
+}
+
 // The command `judge`.
 fn judge_parser<'a>(alloc: Global) -> Result<Parser<'a>, AllocError>
     ensures { IfOk result (Offers judge_command) }
@@ -458,6 +547,22 @@ fn store_option<'a>(alloc: Global) -> Arg<'a>
     ensures local { result.global ≡ false }
 {
     text_option(alloc, "store", "FILE", help::STORE).required(true)
+}
+
+// The option `--group NAME`, where it is needed.
+fn needed_group<'a>(alloc: Global, about: &'a str) -> Arg<'a>
+    ensures rule { rule_of result ≡ needed_group }
+    ensures local { result.global ≡ false }
+{
+    text_option(alloc, "group", "NAME", about).required(true)
+}
+
+// The option `--lost J`, which may be there several times.
+fn lost_option<'a>(alloc: Global) -> Arg<'a>
+    ensures rule { rule_of result ≡ lost_option }
+    ensures local { result.global ≡ false }
+{
+    number_option(alloc, "lost", "J", help::LOST).action(ArgAction::Append)
 }
 
 // The option `--turns T`.

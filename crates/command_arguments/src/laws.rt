@@ -2,8 +2,8 @@
 ghost use Rattle.std.specs.Prelude.{◌≡◌, ◌∷◌, [], None, Some, codes, false, true};
 ghost use Rattle.clap.specs.Words.{fault_of};
 ghost use Rattle.clap.specs.declared.error.ErrorKind.TheVariants.{ArgumentConflict, InvalidSubcommand, InvalidValue, MissingRequiredArgument, TooManyValues, UnknownArgument, ValueValidation};
-ghost use Rattle.command_arguments.specs.Arguments.{asked_words, called_with, named_command, named_value, program, said, serving};
-ghost use Rattle.command_arguments.specs.declared.arguments.Command.TheVariants.{Join, Play, Site, Serve, Ask, Judge, Run};
+ghost use Rattle.command_arguments.specs.Arguments.{asked_lost, asked_words, called_with, named_command, named_value, program, said, serving};
+ghost use Rattle.command_arguments.specs.declared.arguments.Command.TheVariants.{Join, Play, Site, Serve, Ask, Regroup, Rebuild, Judge, Run};
 
 /// What arguments the program is called with and how they are read, by computation alone: the layout file that they
 /// name, and the kinds of error that clap may answer with.
@@ -93,6 +93,24 @@ pub fn ask_arguments_read()
     ensures no_word { fault_of program (called_with (codes "ask" ∷ codes "--site=1" ∷ codes "--store=a" ∷ [])) ≡ MissingRequiredArgument ∷ [] }
     ensures five_words { fault_of program (called_with (codes "ask" ∷ codes "--site=1" ∷ codes "--store=a" ∷ codes "give" ∷ codes "a" ∷ codes "1" ∷ codes "2" ∷ codes "3" ∷ []))
         ≡ UnknownArgument ∷ [] }
+{}
+
+/// The same of the commands `regroup` and `rebuild`: the site, its store and its group, which are needed; the layout file;
+/// and the other sites that are lost.
+#[tactic(auto, unfolding(clap::proofs::OnLiterals::clap_on_literals))]
+pub fn regroup_arguments_read()
+    ensures plain { named_command (called_with (codes "regroup" ∷ codes "--site=1" ∷ codes "--store=a" ∷ codes "--group=b" ∷ [])) ≡ Regroup 1 }
+    ensures store { named_value (codes "store") (called_with (codes "regroup" ∷ codes "--site=1" ∷ codes "--store" ∷ codes "a" ∷ codes "--group=b" ∷ [])) ≡ Some (codes "a") }
+    ensures group { named_value (codes "group") (called_with (codes "regroup" ∷ codes "--site=1" ∷ codes "--store=a" ∷ codes "--group=b" ∷ [])) ≡ Some (codes "b") }
+    ensures no_group { fault_of program (called_with (codes "regroup" ∷ codes "--site=1" ∷ codes "--store=a" ∷ [])) ≡ MissingRequiredArgument ∷ [] }
+    ensures lost_of_regroup { fault_of program (called_with (codes "regroup" ∷ codes "--site=1" ∷ codes "--store=a" ∷ codes "--group=b" ∷ codes "--lost=0" ∷ [])) ≡ UnknownArgument ∷ [] }
+    ensures rebuilt { named_command (called_with (codes "rebuild" ∷ codes "--site=1" ∷ codes "--store=a" ∷ codes "--group=b.2" ∷ [])) ≡ Rebuild 1 }
+    ensures none_lost { asked_lost (called_with (codes "rebuild" ∷ codes "--site=1" ∷ codes "--store=a" ∷ codes "--group=b.2" ∷ [])) ≡ [] }
+    ensures two_lost { asked_lost (called_with (codes "rebuild" ∷ codes "--site=1" ∷ codes "--lost" ∷ codes "0" ∷ codes "--store=a" ∷ codes "--lost=2" ∷ codes "--group=b.2" ∷ [])) ≡ 0 ∷ 2 ∷ [] }
+    ensures no_error { fault_of program (called_with (codes "rebuild" ∷ codes "--site=1" ∷ codes "--lost=0" ∷ codes "--store=a" ∷ codes "--lost=2" ∷ codes "--group=b.2" ∷ [])) ≡ [] }
+    ensures no_name { fault_of program (called_with (codes "rebuild" ∷ codes "--site=1" ∷ codes "--store=a" ∷ [])) ≡ MissingRequiredArgument ∷ [] }
+    ensures no_number { fault_of program (called_with (codes "rebuild" ∷ codes "--site=1" ∷ codes "--lost=x" ∷ codes "--store=a" ∷ codes "--group=b.2" ∷ [])) ≡ ValueValidation ∷ [] }
+    ensures create_of_rebuild { fault_of program (called_with (codes "rebuild" ∷ codes "--site=1" ∷ codes "--store=a" ∷ codes "--group=b.2" ∷ codes "--create" ∷ [])) ≡ UnknownArgument ∷ [] }
 {}
 
 /// The same of the command `judge`: the word for a cut, and the layout file.

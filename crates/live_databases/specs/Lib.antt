@@ -6,3 +6,4 @@ pub mod LiveFound
 pub mod LiveDatabases
 pub mod Moves
 pub mod Rebuilds
+pub mod LiveMoves

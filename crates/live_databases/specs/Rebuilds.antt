@@ -24,45 +24,44 @@ use Rattle.live_databases.specs.LiveFound.{FindsFiles}
 use Rattle.live_databases.specs.LiveStores.{IsUnserved}
 
 module _ {S : Type 0} (g : Device S) where
-  -- The site was built again of the lines of the bytes, and where nothing was kept its store is: that of the site of the group,
-  -- with the counters with which it begins. None was made where one was there.
-  pub record HasRebuilt (layout : LayoutState) (i : ℕ) (lost name bytes : List ℕ) (c after : Held S) (core : Core) : Type 0 where
-    pub cells : List DurableCell
-    pub built : IsBuiltOf layout i lost name bytes core cells
+  -- Where nothing was kept the store of a site of the group was made, with these counters. None was made where one was there.
+  pub record HasMadeAnew (layout : LayoutState) (i : ℕ) (name : List ℕ) (cells : List DurableCell) (c after : Held S) : Type 0 where
     pub is_new : IsNew layout i (Some name) cells
     pub made : KeepsNothing g c → Keeps g after (new_content layout i (Some name) cells)
     pub never : (it : Stored) → Keeps g c it → ¬ HasCleanDisk (state g after)
 
-  -- It was built again, and its store refused: what was there is there, or after a fault perhaps the store where nothing was.
-  pub record RefusesRebuilt (layout : LayoutState) (i : ℕ) (lost name bytes : List ℕ) (c after : Held S) (error : ServedError) : Type 0 where
-    pub core : Core
-    pub cells : List DurableCell
-    pub built : IsBuiltOf layout i lost name bytes core cells
+  -- It was refused: what was there is there, or after a fault perhaps the store where nothing was.
+  pub record HasNotMadeAnew (layout : LayoutState) (i : ℕ) (name : List ℕ) (cells : List DurableCell) (c after : Held S) (ended : ServiceEnd) : Type 0 where
+    pub error : ServedError
+    pub is_ended : ended ≡ refused_store error
     pub there : (it : Stored) → Keeps g c it → Keeps g after it
     pub left : KeepsNothing g c → IsLeftNew g layout i (Some name) cells after error
     pub cause : HasCleanDisk (state g after) → IsDenied to_make (state g c).now.schema error
 
-  -- how a rebuild ends that made no store
-  abbrev pub HasNotRebuilt : LayoutState → ℕ → List ℕ → List ℕ → List ℕ → Held S → Held S → RebuildEnd → Type 0
-  HasNotRebuilt layout i lost name bytes c after (Unbuilt stop) = IsUnbuilt layout i lost name bytes stop × (after ≡ c)
-  HasNotRebuilt layout i lost name bytes c after (Ended ended) =
-      (error : ServedError) × (ended ≡ refused_store error) × RefusesRebuilt layout i lost name bytes c after error
-
 module _ {D : Type 0} {d : disk.Ghosts D} where
-  -- the site was built again, over files that held this
-  pub record FindsRebuilt (layout : LayoutState) (i : ℕ) (lost name bytes : List ℕ) (image : Image) (core : Core) : Type 0 where
+  -- The site was built again of the lines of the bytes, and its store made over files that held this; the text shows the site.
+  pub record FindsRebuilt (layout : LayoutState) (i : ℕ) (lost name bytes : List ℕ) (image : Image) (text : List ℕ) : Type 0 where
+    pub core : Core
+    pub cells : List DurableCell
+    pub built : IsBuiltOf layout i lost name bytes core cells text
     pub c : Held (FileStore D d)
     pub after : Held (FileStore D d)
     pub found : FindsFiles image c
-    pub rebuilt : HasRebuilt over_files layout i lost name bytes c after core
+    pub made : HasMadeAnew over_files core.layout i name cells c after
 
-  pub record FindsNotRebuilt (layout : LayoutState) (i : ℕ) (lost name bytes : List ℕ) (image : Image) (ended : RebuildEnd) : Type 0 where
+  -- its store was refused
+  pub record FindsRefused (layout : LayoutState) (i : ℕ) (lost name bytes : List ℕ) (image : Image) (ended : ServiceEnd) : Type 0 where
+    pub core : Core
+    pub cells : List DurableCell
+    pub text : List ℕ
+    pub built : IsBuiltOf layout i lost name bytes core cells text
     pub c : Held (FileStore D d)
     pub after : Held (FileStore D d)
     pub found : FindsFiles image c
-    pub not_rebuilt : HasNotRebuilt over_files layout i lost name bytes c after ended
+    pub refused : HasNotMadeAnew over_files core.layout i name cells c after ended
 
-  -- it was not, or no file was opened
+  -- how a rebuild ends that made no store: the site is not built again of this input, and no file was opened; no file could be
+  -- opened; or the store was refused
   abbrev pub EndsNotRebuilt : LayoutState → ℕ → List ℕ → List ℕ → List ℕ → Image → RebuildEnd → Type 0
-  EndsNotRebuilt layout i lost name bytes image ended =
-      ((unserved : ServiceEnd) × (ended ≡ Ended unserved) × IsUnserved unserved) ⊎ FindsNotRebuilt layout i lost name bytes image ended
+  EndsNotRebuilt layout i lost name bytes image (Unbuilt stop) = IsUnbuilt layout i lost name bytes stop
+  EndsNotRebuilt layout i lost name bytes image (Ended ended) = IsUnserved ended ⊎ FindsRefused layout i lost name bytes image ended

@@ -1,13 +1,16 @@
 //! The database at a path, of a runtime that has some.
-ghost use Rattle.std.specs.Prelude.{◌≡◌, ◌<◌, true, false, IfErr, IfOk, option_copied};
+ghost use Rattle.std.specs.Prelude.{◌≡◌, ◌<◌, true, false, string_bytes, IfErr, IfOk, MatchResult, option_copied};
 ghost use Rattle.sqlite_wal.specs.Files.{image_at};
 ghost use Rattle.live_databases.specs.LiveDatabases.{EndsLive};
 ghost use Rattle.live_databases.specs.LiveFound.{EndsFound, FindsFiles, RunsOver};
+ghost use Rattle.live_databases.specs.LiveMoves.{EndsUntold, MovesSome, RebuildsNone, RebuildsSome};
 ghost use Rattle.live_databases.specs.LiveStores.{IsUnserved};
 ghost use Rattle.live_databases.specs.Services.{served_by};
 ghost use Rattle.live_databases.specs.Endings.{is_unlogged, unopened_end};
 
 use crate::places::{Place, StoreFile, find_file, is_at, is_store_file};
+use crate::rebuilding::RebuildEnd;
+use crate::regrouping::{rebuild_found, regroup_found};
 use crate::service_end::{Absence, ServiceEnd};
 use crate::serving::{Service, serve_live_over, serve_logged_over};
 use exit_status::{Status, StoreRefusal};
@@ -48,6 +51,33 @@ pub trait LiveDatabases {
         requires { opening.service.site < layout.sites }
         ensures { EndsLive C.Conversation layout opening.entry.service.site (option_copied opening.entry.service.group) opening.entry.service.marking
             conversation.old conversation.new result };
+
+    /// Moves the store of a site of the layout at a path to the next generation of its group, and gives the text to print: the
+    /// site's whole delta behind a mark of its own.
+    fn move_store(
+        &self,
+        path: &str,
+        layout: Layout,
+        site: u16,
+        group: &str,
+    ) -> Result<String, ServiceEnd>
+        requires { site < layout.sites }
+        ensures { MatchResult result (λ text. MovesSome layout site group.now (string_bytes text)) EndsUntold };
+
+    /// Builds a site of the group of this name again, which lost its store with these others, of the bytes of an input, makes
+    /// its store at a path where none is, and gives what is printed of the site.
+    fn rebuild_store(
+        &self,
+        path: &str,
+        layout: Layout,
+        site: u16,
+        lost: &[u16],
+        name: &str,
+        bytes: &[u8],
+    ) -> Result<String, RebuildEnd>
+        ensures { MatchResult result
+            (λ text. RebuildsSome layout site lost.now name.now bytes.now (string_bytes text))
+            (RebuildsNone layout site lost.now name.now bytes.now) };
 }
 
 impl LiveDatabases for HostRuntime {
@@ -58,6 +88,28 @@ impl LiveDatabases for HostRuntime {
         conversation: &mut C,
     ) -> ServiceEnd {
         serve_found::<Unknown, C>(self, opening, layout, conversation)
+    }
+
+    fn move_store(
+        &self,
+        path: &str,
+        layout: Layout,
+        site: u16,
+        group: &str,
+    ) -> Result<String, ServiceEnd> {
+        regroup_found::<Unknown>(self, path, layout, site, group)
+    }
+
+    fn rebuild_store(
+        &self,
+        path: &str,
+        layout: Layout,
+        site: u16,
+        lost: &[u16],
+        name: &str,
+        bytes: &[u8],
+    ) -> Result<String, RebuildEnd> {
+        rebuild_found::<Unknown>(self, path, layout, site, lost, name, bytes)
     }
 }
 
@@ -250,6 +302,22 @@ fn unopened(error: Error) -> ServiceEnd
         Error::SqliteFailure(ErrorCode::NotADatabase) => ServiceEnd::Absent(Absence::NotAStore),
         _ => ServiceEnd::Ended(Status::NoStore(StoreRefusal::StoreFault)),
     }
+}
+
+/// Moves the store of a site at a path, if the layout has the site.
+pub fn move_live<R: LiveDatabases>(
+    rt: &R,
+    path: &str,
+    layout: Layout,
+    site: u16,
+    group: &str,
+) -> Result<String, ServiceEnd>
+    ensures { MatchResult result (λ text. MovesSome layout site group.now (string_bytes text)) EndsUntold }
+{
+    if site >= layout.sites() {
+        return Err(ServiceEnd::Ended(Status::NoLayout(LayoutFault::NoSite)));
+    }
+    rt.move_store(path, layout, site, group)
 }
 
 /// Serves a site over the database at a path, if the layout has the site.

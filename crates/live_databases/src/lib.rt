@@ -2,9 +2,9 @@
 //! answered one by one.
 #![tactic(auto)]
 
-pub use databases::{Beginning, LiveDatabases, Opening, serve_found, serve_live};
+pub use databases::{Beginning, LiveDatabases, Opening, move_live, serve_found, serve_live};
 pub use moving::regroup_over;
-pub use rebuilding::{RebuildEnd, rebuild_over};
+pub use rebuilding::{RebuildEnd, make_rebuilt_over};
 pub use regrouping::{rebuild_found, regroup_found};
 pub use service_end::{Absence, ServiceEnd};
 pub use serving::{Service, serve_live_over, serve_logged_over};

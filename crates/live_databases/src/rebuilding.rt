@@ -1,12 +1,12 @@
-//! A site that lost its store is built again, and its store made.
-ghost use Rattle.std.specs.Prelude.{◌≡◌, false, MatchResult};
-ghost use Rattle.live_databases.specs.Rebuilds.{HasNotRebuilt, HasRebuilt};
+//! The store of a site that is built again.
+ghost use Rattle.std.specs.Prelude.{◌≡◌, false, string_bytes, MatchResult};
+ghost use Rattle.durable_keeper.specs.Keeping.{IsChange};
+ghost use Rattle.site_store.specs.Making.{counters_alone};
+ghost use Rattle.live_databases.specs.Rebuilds.{HasMadeAnew, HasNotMadeAnew};
 
 use crate::service_end::ServiceEnd;
 use crate::serving::refused_store;
-use admission_core::SiteCore;
-use merge_core::Layout;
-use rebuild_engine::{RebuildStop, Rebuilt, rebuilt_site};
+use rebuild_engine::{RebuildStop, Rebuilt};
 use site_store::make_store;
 use sqlite::{Alter, Connection};
 use std::alloc::Global;
@@ -20,32 +20,26 @@ pub enum RebuildEnd {
     Unbuilt(RebuildStop),
 }
 
-/// Builds a site of the group of this name again, which lost its store, of the bytes of an input, and makes its store in a
-/// database that holds nothing, in one transaction. The lines of the input are the texts that the moves of all other sites to
-/// that group printed, one for each; where no other site is lost, a text that such a site sends serves too. Hands the database
-/// back. Linear in the bytes, and cubic in the number of sites.
-pub fn rebuild_over<S: Alter>(
+/// Makes the store of a site of the group of this name that was built again, in a database that holds nothing, in one
+/// transaction, and gives what is printed of the site. Hands the database back. Linear in the counters and in the layout.
+pub fn make_rebuilt_over<S: Alter>(
     alloc: Global,
     connection: Connection<S>,
-    layout: Layout,
+    rebuilt: Rebuilt,
     site: u16,
-    lost: &[u16],
     name: &str,
-    bytes: &[u8],
-) -> (Result<SiteCore, RebuildEnd>, Connection<S>)
-    requires { connection.in_transaction ≡ false }
+) -> (Result<String, ServiceEnd>, Connection<S>)
+    requires idle { connection.in_transaction ≡ false }
+    requires cells { IsChange rebuilt.core.layout site (counters_alone rebuilt.cells.items) }
     ensures { MatchResult result.0
-        (λ core. HasRebuilt S.Store layout site lost.now name.now bytes.now connection result.1 core)
-        (λ ended. HasNotRebuilt S.Store layout site lost.now name.now bytes.now connection result.1 ended) }
+        (λ shown. (string_bytes shown ≡ string_bytes rebuilt.shown) × HasMadeAnew S.Store rebuilt.core.layout site name.now rebuilt.cells.items connection result.1)
+        (λ ended. HasNotMadeAnew S.Store rebuilt.core.layout site name.now rebuilt.cells.items connection result.1 ended) }
 {
-    let Rebuilt { core, cells } = match rebuilt_site(alloc, layout, site, lost, name, bytes) {
-        Ok(rebuilt) => rebuilt,
-        Err(stop) => return (Err(RebuildEnd::Unbuilt(stop)), connection),
-    };
+    let Rebuilt { core, cells, shown } = rebuilt;
     let group = Some(name);
     let (made, connection) = make_store(alloc, connection, core.layout(), site, group, cells);
     match made {
-        Ok(()) => (Ok(core), connection),
-        Err(error) => (Err(RebuildEnd::Ended(refused_store(error))), connection),
+        Ok(()) => (Ok(shown), connection),
+        Err(error) => (Err(refused_store(error)), connection),
     }
 }

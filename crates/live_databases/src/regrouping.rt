@@ -6,10 +6,10 @@ ghost use Rattle.live_databases.specs.Rebuilds.{EndsNotRebuilt, FindsRebuilt};
 
 use crate::databases::{Beginning, open_once};
 use crate::moving::regroup_over;
-use crate::rebuilding::{RebuildEnd, rebuild_over};
+use crate::rebuilding::{RebuildEnd, make_rebuilt_over};
 use crate::service_end::ServiceEnd;
-use admission_core::SiteCore;
 use merge_core::Layout;
+use rebuild_engine::rebuilt_site;
 
 /// Moves the store of a site at a path to the next generation of its group, and gives the text to print, as
 /// [`regroup_over`](crate::regroup_over) does. `S` stands for what the files at the path hold. A database that another process
@@ -35,8 +35,11 @@ pub fn regroup_found<S: Beginning>(
     told
 }
 
-/// Builds a site again, and makes its store at a path where no store is, as [`rebuild_over`](crate::rebuild_over) does. `S`
-/// stands for what the files at the path hold. A refusal may leave an empty file there, which no service opens.
+/// Builds a site of the group of this name again, which lost its store, of the bytes of an input, makes its store at a path
+/// where none is, and gives what is printed of the site. The lines of the input are the texts that the moves of all other sites
+/// to that group printed, one for each; where no other site is lost, a text that such a site sends serves too. `S` stands for
+/// what the files at the path hold; they are not looked at where the site is not built. Where the store can't be made, an empty
+/// file may be left, which no service opens. Linear in the bytes, and cubic in the number of sites.
 pub fn rebuild_found<S: Beginning>(
     rt: &HostRuntime,
     path: &str,
@@ -45,16 +48,23 @@ pub fn rebuild_found<S: Beginning>(
     lost: &[u16],
     name: &str,
     bytes: &[u8],
-) -> Result<SiteCore, RebuildEnd>
+) -> Result<String, RebuildEnd>
     ensures { MatchResult result
-        (λ core. FindsRebuilt layout site lost.now name.now bytes.now (image_at S.Start) core)
+        (λ text. FindsRebuilt layout site lost.now name.now bytes.now (image_at S.Start) (string_bytes text))
         (λ ended. EndsNotRebuilt layout site lost.now name.now bytes.now (image_at S.Start) ended) }
 {
+    let rebuilt = match rebuilt_site(rt.alloc(), layout, site, lost, name, bytes) {
+        Ok(rebuilt) => rebuilt,
+        Err(stop) => return Err(RebuildEnd::Unbuilt(stop)),
+    };
     let (connection, _place) = match open_once::<S>(rt, path, true) {
         Ok(opened) => opened,
         Err(ended) => return Err(RebuildEnd::Ended(ended)),
     };
-    let (built, connection) = rebuild_over(rt.alloc(), connection, layout, site, lost, name, bytes);
+    let (made, connection) = make_rebuilt_over(rt.alloc(), connection, rebuilt, site, name);
     let _ = connection.close(); // what was committed is in the log, if not in the file
-    built
+    match made {
+        Ok(shown) => Ok(shown),
+        Err(ended) => Err(RebuildEnd::Ended(ended)),
+    }
 }

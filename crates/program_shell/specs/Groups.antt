@@ -1,32 +1,36 @@
--- The name of a group of sites (the project's own): 1 to 32 bytes, a letter from a to z first, and then such letters, digits
--- and `-`; and no word that begins a reply.
-use Rattle.std.specs.Prelude.{ℕ, ◌&&◌, ◌||◌, not, nat_le, bytes_eq, Bool, true, false, List, [], ◌∷◌, length, codes, Option, Some, None, is_some}
-use Rattle.std.specs.List.{list_all}
-use Rattle.merge_core.specs.Layout.{is_name_byte}
+-- The group that arguments name (the project's own).
+use Rattle.std.specs.Prelude.{ℕ, ◌&&◌, nat_lt, not, Bool, true, false, List, codes, Option, Some, None, is_some, if◌then◌else◌}
+use Rattle.command_arguments.specs.declared.arguments.Command.{Command}
+use Rattle.command_arguments.specs.declared.arguments.Command.TheVariants.{Serve, Ask, Rebuild}
+use Rattle.group_names.specs.Names.{generation_of, is_group_name}
+use Rattle.program_shell.specs.declared.group.GroupFault.{GroupFault}
+use Rattle.program_shell.specs.declared.group.GroupFault.TheVariants.{BadWord, Plain, NotMoved}
 
--- the form of a group's name
-abbrev pub has_group_form : List ℕ → Bool
-has_group_form [] = false
-has_group_form (b ∷ bs) = (nat_le 97 b && nat_le b 122) && (nat_le (length bs) 31 && list_all is_name_byte bs)
-
--- the words that begin the replies to calls
-abbrev pub is_answer_word : List ℕ → Bool
-is_answer_word word =
-    bytes_eq word (codes "refused") || (bytes_eq word (codes "admitted") || (bytes_eq word (codes "announced") || (bytes_eq word (codes "left")
-    || (bytes_eq word (codes "withdrawn") || (bytes_eq word (codes "given") || (bytes_eq word (codes "gave") || bytes_eq word (codes "merged")))))))
-
--- the words that begin what is shown of a record
-abbrev pub is_look_word : List ℕ → Bool
-is_look_word word = bytes_eq word (codes "rights") || bytes_eq word (codes "fence")
-
-abbrev pub is_reply_word : List ℕ → Bool
-is_reply_word word = is_answer_word word || is_look_word word
-
--- the arguments name no group, or one that has such a name
+-- they name no group, or one by a name that a group can have
 abbrev pub is_good_group : Option (List ℕ) → Bool
 is_good_group None = true
-is_good_group (Some name) = has_group_form name && not (is_reply_word name)
+is_good_group (Some name) = is_group_name name
 
--- they name a group, and ask for deltas without a mark
-abbrev pub is_plain_group : Bool → Option (List ℕ) → Bool
-is_plain_group plain group = plain && is_some group
+-- whether a command asks for deltas without a mark
+abbrev pub is_plain : Command → Bool
+is_plain (Serve serving) = serving.plain
+is_plain (Ask serving) = serving.plain
+is_plain command = false
+
+-- whether a site is to be built again in a group that was never moved
+abbrev pub is_unmoved : Command → Option (List ℕ) → Bool
+is_unmoved (Rebuild site) group = nat_lt (generation_of group) 2
+is_unmoved command group = false
+
+-- the first fault of the group
+abbrev pub group_fault : Command → Option (List ℕ) → Option GroupFault
+group_fault command group =
+    if not (is_good_group group) then Some BadWord
+    else if is_plain command && is_some group then Some Plain
+    else if is_unmoved command group then Some NotMoved else None
+
+-- what is said of it
+abbrev pub group_text : GroupFault → List ℕ
+group_text BadWord = codes "group refused BadWord\n"
+group_text Plain = codes "group refused Plain\n"
+group_text NotMoved = codes "group refused NotMoved\n"

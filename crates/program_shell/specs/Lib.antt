@@ -2,4 +2,5 @@ pub mod Groups
 pub mod Refusals
 pub mod Runs
 pub mod Services
+pub mod Moves
 pub mod Shell

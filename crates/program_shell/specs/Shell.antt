@@ -1,5 +1,5 @@
 -- What the program does: the command that its arguments ask for, or what is said of them (the project's own).
-use Rattle.std.specs.Prelude.{◌≡◌, ◌⊎◌, ℕ, Bool, true, false, List, [], ◌∷◌, ◌++◌, codes, Result, Ok, Err, Option, Some, None}
+use Rattle.std.specs.Prelude.{◌≡◌, ◌⊎◌, ℕ, Bool, true, false, List, [], ◌∷◌, ◌++◌, codes, Result, Ok, Err, Option, Some, None, unwrap_or}
 use Rattle.merge_core.specs.Layout.{LayoutState, shape_of}
 use Rattle.text_input.specs.Source.{HasFault, SourceState}
 use Rattle.text_input.specs.Sink.{Prints, SinkState, Writes}
@@ -9,13 +9,13 @@ use Rattle.clap.specs.Words.{Text, IsAmong}
 use Rattle.clap.specs.declared.error.ErrorKind.{ErrorKind}
 use Rattle.clap.specs.declared.error.ErrorKind.TheVariants.{OutOfMemory, DisplayHelp, DisplayVersion}
 use Rattle.command_arguments.specs.declared.arguments.Command.{Command}
-use Rattle.command_arguments.specs.declared.arguments.Command.TheVariants.{Join, Play, Site, Serve, Ask, Judge, Run}
+use Rattle.command_arguments.specs.declared.arguments.Command.TheVariants.{Join, Play, Site, Serve, Ask, Regroup, Rebuild, Judge, Run}
 use Rattle.layout_file.specs.declared.fault.LayoutFault.{LayoutFault}
 use Rattle.layout_file.specs.declared.fault.LayoutFault.TheVariants as layout
 use Rattle.layout_file.specs.declared.refusal.LayoutRefusal.{LayoutRefusal}
 use Rattle.exit_status.specs.declared.status.Status.{Status}
 use Rattle.exit_status.specs.declared.status.Status.TheVariants.{Done, Memory, Io}
-use Rattle.command_arguments.specs.Arguments.{asked_command, asked_cut, asked_group, asked_layout, asked_out, asked_words, usage_errors}
+use Rattle.command_arguments.specs.Arguments.{asked_command, asked_cut, asked_group, asked_layout, asked_lost, asked_out, asked_words, usage_errors}
 use Rattle.exit_status.specs.Endings.{EndsWith}
 use Rattle.join_engine.specs.Engine.{EndsJoin}
 use Rattle.judge_engine.specs.declared.cut.CutError.{CutError}
@@ -29,7 +29,9 @@ use Rattle.line_conversation.specs.Stream.{StreamState}
 use Rattle.line_conversation.specs.declared.conversation.Conversation.{Ghosts}
 use Rattle.service_talk.specs.Notes.{NotedState}
 use Rattle.service_talk.specs.OneLine.{OneLineState}
-use Rattle.program_shell.specs.Groups.{is_good_group, is_plain_group}
+use Rattle.program_shell.specs.declared.group.GroupFault.{GroupFault}
+use Rattle.program_shell.specs.Groups.{group_fault, group_text}
+use Rattle.program_shell.specs.Moves.{EndsRebuild, EndsRegroup}
 use Rattle.program_shell.specs.Refusals.{EndsWithoutLayout}
 use Rattle.program_shell.specs.Runs.{EndsRunTo}
 use Rattle.program_shell.specs.Services.{EndsAsk, EndsServe, marking_of}
@@ -105,41 +107,39 @@ abbrev pub EndsWithoutCut : CutError → SinkState → SinkState → ℕ → Typ
 EndsWithoutCut cut.BadWord errors errors_after code = (Writes errors errors_after no_cut_text ⊎ HasFault errors_after.fault) × (code ≡ 2)
 EndsWithoutCut cut.Memory errors errors_after code = EndsWith Memory errors errors_after code
 
--- whether a command asks for deltas without a mark
-abbrev pub is_plain : Command → Bool
-is_plain (Serve serving) = serving.plain
-is_plain (Ask serving) = serving.plain
-is_plain command = false
-
 -- an engine ended so, and the program with it
 abbrev pub EndsBy : (Status → Type 0) → SinkState → SinkState → ℕ → Type 0
 EndsBy Ends errors errors_after code = (ended : Status) × Ends ended × EndsWith ended errors errors_after code
 
 module _ (t : Ghosts (NotedState StreamState)) (u : Ghosts (NotedState OneLineState)) where
   -- a command under a layout: what its engine did, and how the program ended
-  abbrev pub EndsCommand : Command → Option (List ℕ) → Option Text → Option Text → List (Option Text) → LayoutState → SourceState → SourceState → SinkState → SinkState
+  abbrev pub EndsCommand : Command → Option (List ℕ) → Option Text → Option Text → List ℕ → List (Option Text) → LayoutState → SourceState → SourceState → SinkState → SinkState
       → SinkState → SinkState → ℕ → Type 0
-  EndsCommand Join lengths out group words layout source source_after sink sink_after errors errors_after code =
+  EndsCommand Join lengths out group others words layout source source_after sink sink_after errors errors_after code =
       EndsBy (EndsJoin (shape_of layout) source source_after sink sink_after) errors errors_after code
-  EndsCommand (Play tables first) lengths out group words layout source source_after sink sink_after errors errors_after code =
+  EndsCommand (Play tables first) lengths out group others words layout source source_after sink sink_after errors errors_after code =
       EndsBy (EndsPlay layout first tables source source_after sink sink_after) errors errors_after code
-  EndsCommand (Site site) lengths out group words layout source source_after sink sink_after errors errors_after code =
+  EndsCommand (Site site) lengths out group others words layout source source_after sink sink_after errors errors_after code =
       EndsBy (EndsStored layout site source source_after sink sink_after) errors errors_after code
-  EndsCommand (Serve serving) lengths out group words layout source source_after sink sink_after errors errors_after code =
+  EndsCommand (Serve serving) lengths out group others words layout source source_after sink sink_after errors errors_after code =
       EndsServe t layout serving.site group (marking_of serving.plain) source source_after sink sink_after errors errors_after code
-  EndsCommand (Ask serving) lengths out group words layout source source_after sink sink_after errors errors_after code =
+  EndsCommand (Ask serving) lengths out group others words layout source source_after sink sink_after errors errors_after code =
       (source_after ≡ source) × EndsAsk u layout serving.site group (marking_of serving.plain) words sink sink_after errors errors_after code
-  EndsCommand Judge lengths out group words layout source source_after sink sink_after errors errors_after code =
+  EndsCommand (Regroup site) lengths out group others words layout source source_after sink sink_after errors errors_after code =
+      (source_after ≡ source) × EndsRegroup layout site (unwrap_or group []) sink sink_after errors errors_after code
+  EndsCommand (Rebuild site) lengths out group others words layout source source_after sink sink_after errors errors_after code =
+      EndsRebuild layout site others (unwrap_or group []) source source_after sink sink_after errors errors_after code
+  EndsCommand Judge lengths out group others words layout source source_after sink sink_after errors errors_after code =
       EndsBy (EndsJudge layout lengths source source_after sink sink_after) errors errors_after code
-  EndsCommand (Run turns) lengths out group words layout source source_after sink sink_after errors errors_after code =
+  EndsCommand (Run turns) lengths out group others words layout source source_after sink sink_after errors errors_after code =
       EndsBy (EndsRunTo out layout source source_after sink sink_after) errors errors_after code
 
   -- a command under what was found for a layout: without a layout nothing is read or written
-  abbrev pub EndsUnder : Command → Option (List ℕ) → Option Text → Option Text → List (Option Text) → Result LayoutState LayoutRefusal → SourceState → SourceState
+  abbrev pub EndsUnder : Command → Option (List ℕ) → Option Text → Option Text → List ℕ → List (Option Text) → Result LayoutState LayoutRefusal → SourceState → SourceState
       → SinkState → SinkState → SinkState → SinkState → ℕ → Type 0
-  EndsUnder command lengths out group words (Ok layout) source source_after sink sink_after errors errors_after code =
-      EndsCommand command lengths out group words layout source source_after sink sink_after errors errors_after code
-  EndsUnder command lengths out group words (Err refusal) source source_after sink sink_after errors errors_after code =
+  EndsUnder command lengths out group others words (Ok layout) source source_after sink sink_after errors errors_after code =
+      EndsCommand command lengths out group others words layout source source_after sink sink_after errors errors_after code
+  EndsUnder command lengths out group others words (Err refusal) source source_after sink sink_after errors errors_after code =
       (source_after ≡ source) × (sink_after ≡ sink) × EndsWithoutLayout command refusal errors errors_after code
 
   -- a command is asked for, and that one was carried out under the cut and the layout that the arguments name
@@ -148,11 +148,10 @@ module _ (t : Ghosts (NotedState StreamState)) (u : Ghosts (NotedState OneLineSt
     pub asked : usage_errors arguments ≡ []
     pub lengths : Option (List ℕ)
     pub cut_found : FindsCut (asked_cut arguments) (Ok lengths)
-    pub group_fits : is_good_group (asked_group arguments) ≡ true
-    pub marked : is_plain_group (is_plain (asked_command arguments)) (asked_group arguments) ≡ false
+    pub group_fits : group_fault (asked_command arguments) (asked_group arguments) ≡ None
     pub layout : Result LayoutState LayoutRefusal
     pub found : FindsLayout remaining (asked_layout arguments) layout
-    pub carried_out : EndsUnder (asked_command arguments) lengths (asked_out arguments) (asked_group arguments) (asked_words arguments) layout source source_after sink sink_after
+    pub carried_out : EndsUnder (asked_command arguments) lengths (asked_out arguments) (asked_group arguments) (asked_lost arguments) (asked_words arguments) layout source source_after sink sink_after
         errors errors_after code
 
 -- a command is asked for, and a word that names no cut, or memory ran out: nothing is read or written
@@ -164,28 +163,14 @@ pub record RefusesCut (arguments : List Text) (source source_after : SourceState
   pub unwritten : sink_after ≡ sink
   pub told : EndsWithoutCut error errors errors_after code
 
--- what is said of a name that a group can't have
-abbrev pub no_group_text : List ℕ
-no_group_text = codes "group refused BadWord\n"
-
--- what is said of a group whose deltas are to have no mark
-abbrev pub plain_group_text : List ℕ
-plain_group_text = codes "group refused Plain\n"
-
--- what is said of the group that arguments name: none can have the name, or its deltas are to have no mark
-abbrev pub group_text : Bool → List ℕ
-group_text false = no_group_text
-group_text true = plain_group_text
-
--- the arguments name a group by a name that none can have, or beside deltas without a mark: nothing is read or written
+-- the group that the arguments name is refused: nothing is read or written
 pub record RefusesGroup (arguments : List Text) (source source_after : SourceState) (sink sink_after errors errors_after : SinkState) (code : ℕ) : Type 0 where
   pub asked : usage_errors arguments ≡ []
-  pub fits : Bool
-  pub is_fit : is_good_group (asked_group arguments) ≡ fits
-  pub refused : fits ≡ true → is_plain_group (is_plain (asked_command arguments)) (asked_group arguments) ≡ true
+  pub fault : GroupFault
+  pub refused : group_fault (asked_command arguments) (asked_group arguments) ≡ Some fault
   pub unread : source_after ≡ source
   pub unwritten : sink_after ≡ sink
-  pub told : Writes errors errors_after (group_text fits) ⊎ HasFault errors_after.fault
+  pub told : Writes errors errors_after (group_text fault) ⊎ HasFault errors_after.fault
   pub status : code ≡ 2
 
 -- no command is asked for, or memory ran out: nothing is read, and what clap says is told

@@ -1,88 +1,88 @@
 //! The name of a group of sites.
 ghost use Rattle.std.specs.Prelude.{◌≡◌, ◌⊎◌, option_copied};
-ghost use Rattle.std.specs.List.{list_all};
 ghost use Rattle.text_input.specs.Sink.{Writes};
 ghost use Rattle.text_input.specs.Source.{HasFault};
-ghost use Rattle.merge_core.specs.Layout.{is_name_byte};
-ghost use Rattle.program_shell.specs.Groups.{has_group_form, is_answer_word, is_good_group, is_look_word, is_reply_word};
-ghost use Rattle.program_shell.specs.Shell.{no_group_text, plain_group_text};
+ghost use Rattle.program_shell.specs.Groups.{group_fault, group_text, is_good_group, is_plain, is_unmoved};
 
+use command_arguments::Command;
 use exit_status::Status;
+use group_names::{generation_of, is_group_name};
 use std::io::Write;
 use text_input::Sink;
 
-/// Whether no group is named, or by a name that a group can have: 1 to 32 bytes, a letter from a to z first, and then such
-/// letters, digits and `-`; and no word that begins a reply, since the name stands in front of the deltas that are sent.
-pub(crate) fn is_good_group(group: Option<&str>) -> bool
+/// Why the group that arguments name is refused.
+#[derive(Clone, Copy, Debug, PartialEq, Eq)]
+pub(crate) enum GroupFault {
+    /// No group can have the name.
+    BadWord,
+    /// The group's deltas are to have no mark.
+    Plain,
+    /// A site is to be built again in a group that was never moved.
+    NotMoved,
+}
+
+/// The first fault of the group that a command names.
+pub(crate) fn group_fault(command: Command, group: Option<&str>) -> Option<GroupFault>
+    ensures { result ≡ group_fault command (option_copied group.entry) }
+{
+    if !is_good_group(group) {
+        return Some(GroupFault::BadWord);
+    }
+    if is_plain(command) && group.is_some() {
+        return Some(GroupFault::Plain);
+    }
+    if is_unmoved(command, group) {
+        return Some(GroupFault::NotMoved);
+    }
+    None
+}
+
+// Whether no group is named, or by a name that a group can have.
+fn is_good_group(group: Option<&str>) -> bool
     ensures { result ≡ is_good_group (option_copied group.entry) }
 {
     match group {
-        Some(name) => has_group_form(name.as_bytes()) && !is_reply_word(name),
+        Some(name) => is_group_name(name),
         None => true,
     }
 }
 
-// Whether a word begins a reply.
-fn is_reply_word(word: &str) -> bool
-    ensures { result ≡ is_reply_word word.now }
+// Whether a command asks for deltas without a mark.
+fn is_plain(command: Command) -> bool
+    ensures { result ≡ is_plain command }
 {
-    is_answer_word(word) || is_look_word(word)
-}
-
-// Whether a word begins the reply to a call.
-fn is_answer_word(word: &str) -> bool
-    ensures { result ≡ is_answer_word word.now }
-{
-    word == "refused"
-        || word == "admitted"
-        || word == "announced"
-        || word == "left"
-        || word == "withdrawn"
-        || word == "given"
-        || word == "gave"
-        || word == "merged"
-}
-
-// Whether a word begins what is shown of a record.
-fn is_look_word(word: &str) -> bool
-    ensures { result ≡ is_look_word word.now }
-{
-    word == "rights" || word == "fence"
-}
-
-// Whether a name has the form of a group's name.
-fn has_group_form(name: &[u8]) -> bool
-    ensures { result ≡ has_group_form name.now }
-{
-    match name {
-        [first, rest @ ..] => {
-            first.is_ascii_lowercase() && rest.len() <= 31 && are_name_bytes(rest)
-        }
-        [] => false,
+    match command {
+        Command::Serve(serving) | Command::Ask(serving) => serving.plain,
+        _ => false,
     }
 }
 
-// Whether all bytes are such as names have behind their first letter.
-fn are_name_bytes(bytes: &[u8]) -> bool
-    ensures { result ≡ list_all is_name_byte bytes.now }
+// Whether a site is to be built again in a group that was never moved.
+fn is_unmoved(command: Command, group: Option<&str>) -> bool
+    ensures { result ≡ is_unmoved command (option_copied group.entry) }
 {
-    bytes.iter().all(|b| (*b >= b'a' && *b <= b'z') || (*b >= b'0' && *b <= b'9') || *b == b'-')
+    match command {
+        Command::Rebuild { site: _ } => generation_of(group) < 2,
+        _ => false,
+    }
 }
 
-/// Says that no site of a group sends deltas without its name, and gives the exit status.
-pub(crate) fn end_with_plain_group<E: Write>(errors: &mut Sink<E>) -> u8
-    ensures told { Writes errors.old errors.new plain_group_text ⊎ HasFault errors.new.fault }
+/// Says why the group is refused, and gives the exit status.
+pub(crate) fn end_without_group<E: Write>(fault: GroupFault, errors: &mut Sink<E>) -> u8
+    ensures told { Writes errors.old errors.new (group_text fault) ⊎ HasFault errors.new.fault }
     ensures status { result ≡ 2 }
 {
-    let _ = errors.write_and_flush("group refused Plain\n");
+    let _ = errors.write_and_flush(group_text(fault));
     Status::Usage.end(errors)
 }
 
-/// Says that no group can have the name, and gives the exit status.
-pub(crate) fn end_without_group<E: Write>(errors: &mut Sink<E>) -> u8
-    ensures told { Writes errors.old errors.new no_group_text ⊎ HasFault errors.new.fault }
-    ensures status { result ≡ 2 }
+// What is said of a group that is refused.
+fn group_text(fault: GroupFault) -> &'static str
+    ensures { result.now ≡ group_text fault }
 {
-    let _ = errors.write_and_flush("group refused BadWord\n");
-    Status::Usage.end(errors)
+    match fault {
+        GroupFault::BadWord => "group refused BadWord\n",
+        GroupFault::Plain => "group refused Plain\n",
+        GroupFault::NotMoved => "group refused NotMoved\n",
+    }
 }

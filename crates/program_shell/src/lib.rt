@@ -6,6 +6,7 @@ pub use shell::{run, run_with};
 
 mod group;
 mod logs_file;
+mod moves;
 mod refused_layout;
 mod service;
 mod shell;

@@ -10,7 +10,8 @@ use layout_file::LayoutRefusal;
 use std::io::Write;
 use text_input::Sink;
 
-/// Says why there is no layout and, if a site was to be served at once, which record is at fault. Gives the exit status.
+/// Says why there is no layout and, if a site was to be served at once, moved or built again, which record is at fault. Gives
+/// the exit status.
 pub(crate) fn end_without_layout<E: Write>(
     command: Command,
     refusal: LayoutRefusal,
@@ -28,7 +29,10 @@ fn named_place(command: Command, place: Option<usize>) -> Option<usize>
     ensures { result ≡ named_place command place }
 {
     match command {
-        Command::Serve(_) | Command::Ask(_) => place,
+        Command::Serve(_)
+        | Command::Ask(_)
+        | Command::Regroup { site: _ }
+        | Command::Rebuild { site: _ } => place,
         _ => None,
     }
 }

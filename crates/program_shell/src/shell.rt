@@ -2,10 +2,11 @@ ghost use Rattle.std.specs.Prelude.{◌≡◌, ◌⊎◌, None, Some, map, Match
 ghost use Rattle.clap.specs.Words.{kind_of};
 ghost use Rattle.command_arguments.specs.Arguments.{words_of};
 ghost use Rattle.program_shell.specs.Services.{marking_of};
-ghost use Rattle.program_shell.specs.Shell.{is_plain, EndsCommand, EndsUnasked, EndsWithoutCut, EndsUnread, FindsBuiltIn, FindsCut, FindsFile, IsUnopened, RunsProgram, unopened};
+ghost use Rattle.program_shell.specs.Shell.{EndsCommand, EndsUnasked, EndsWithoutCut, EndsUnread, FindsBuiltIn, FindsCut, FindsFile, IsUnopened, RunsProgram, unopened};
 
-use crate::group::{end_with_plain_group, end_without_group, is_good_group};
+use crate::group::{end_without_group, group_fault};
 use crate::logs_file::run_sites;
+use crate::moves::{rebuild_site, regroup_site};
 use crate::refused_layout::end_without_layout;
 use crate::service::{ask_once, serve_lines};
 use crate::standard_error::StandardError;
@@ -96,11 +97,8 @@ pub fn run_with<
         Ok(cut) => cut,
         Err(error) => return (end_without_cut(error, errors), source, sink),
     };
-    if !is_good_group(asked.group) {
-        return (end_without_group(errors), source, sink);
-    }
-    if is_plain(asked.command) && asked.group.is_some() {
-        return (end_with_plain_group(errors), source, sink);
+    if let Some(fault) = group_fault(asked.command, asked.group) {
+        return (end_without_group(fault, errors), source, sink);
     }
     let layout = match layout_at(rt, asked.layout) {
         Ok(layout) => layout,
@@ -130,7 +128,7 @@ fn carry_out<
     errors: &mut Sink<E>,
 ) -> (u8, Source<I>, Sink<O>)
     ensures { EndsCommand ⟦<Noted<StreamConversation<I, O>> as Conversation>⟧ ⟦<Noted<OneLine<'static, O>> as Conversation>⟧ asked.now.command cut.now
-        (option_map (λ path. path.now) asked.now.out) (option_copied asked.now.group) (words_of asked.now.words) layout source result.1 sink result.2 errors.old errors.new result.0 }
+        (option_map (λ path. path.now) asked.now.out) (option_copied asked.now.group) asked.now.lost.items (words_of asked.now.words) layout source result.1 sink result.2 errors.old errors.new result.0 }
 {
     let mut source = source;
     let mut sink = sink;
@@ -155,6 +153,27 @@ fn carry_out<
         Command::Ask(serving) => {
             let opening = opening(asked, serving);
             let (code, sink) = ask_once(rt, opening, layout, &asked.words, sink, errors);
+            (code, source, sink)
+        }
+        Command::Regroup { site } => {
+            let group = asked.group.unwrap_or(""); // clap has refused `regroup` without one
+            let code = regroup_site(rt, path, layout, site, group, &mut sink, errors);
+            (code, source, sink)
+        }
+        Command::Rebuild { site } => {
+            let group = asked.group.unwrap_or("");
+            let lost = asked.lost.as_slice();
+            let code = rebuild_site(
+                rt,
+                path,
+                layout,
+                site,
+                lost,
+                group,
+                &mut source,
+                &mut sink,
+                errors,
+            );
             (code, source, sink)
         }
         Command::Judge => {
@@ -209,16 +228,6 @@ fn marking_of(plain: bool) -> Marking
         return Marking::Plain;
     }
     Marking::Marked
-}
-
-// Whether a command asks for deltas without a mark.
-fn is_plain(command: Command) -> bool
-    ensures { result ≡ is_plain command }
-{
-    match command {
-        Command::Serve(serving) | Command::Ask(serving) => serving.plain,
-        _ => false,
-    }
 }
 
 // Prints what clap says where it gives no command: help, the version, or what is wrong with the arguments.

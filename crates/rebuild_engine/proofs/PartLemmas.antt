@@ -25,7 +25,8 @@ use Rattle.desk_log.specs.Log.{begun}
 use Rattle.desk_log.proofs.KeptLemmas.{durable_begun}
 use Rattle.rebuild_laws.specs.Groups.{told_most}
 use Rattle.site_rebuild.specs.Rebuilt.{gone_of, part_by}
-use Rattle.rebuild_engine.specs.Parts.{IsBuiltOf, IsCoreOf, counters_alone}
+use Rattle.rebuild_engine.specs.Parts.{IsBuiltOf, IsCoreOf, counters_alone, is_alone, is_moved_name}
+use Rattle.rebuild_engine.specs.Shown.{shown_text}
 
 -- a site has at most 65,535 seats of a record at the start
 grant_few : (layout : LayoutState) → IsLayout layout → (r s : ℕ) → grant (shape_of layout) r s ≤ 65535
@@ -98,17 +99,21 @@ is_change layout is i part core from =
     }
 
 -- a core that was built again, and its counters
-pub has_built : (layout : LayoutState) → IsLayout layout → (i : ℕ) (lost name bytes : List ℕ) (core : Core) (cells : List DurableCell)
-    → IsCoreOf layout i lost name bytes core → ((a : Account) → Stands a core → cells ≡ (durable_of a).cells) → IsBuiltOf layout i lost name bytes core cells
-has_built layout is i lost name bytes core cells of tell =
-    let part : DurableState = part_by layout (gone_of lost) i (told_most (shape_of layout) of.deltas) in
+pub has_built : (layout : LayoutState) → IsLayout layout → (i : ℕ) (lost name bytes : List ℕ) (core : Core) (deltas : List DeltaState) (cells : List DurableCell)
+    (shown : List ℕ) → is_moved_name name ≡ true → IsCoreOf layout i lost name bytes core deltas → ((a : Account) → Stands a core → cells ≡ (durable_of a).cells)
+    → ((a : Account) → Stands a core → shown ≡ shown_text a core.layout (is_alone lost) deltas) → IsBuiltOf layout i lost name bytes core cells shown
+has_built layout is i lost name bytes core deltas cells shown moved of tell show =
+    let part : DurableState = part_by layout (gone_of lost) i (told_most (shape_of layout) deltas) in
     let from : IsCoreFrom layout i part core = of.rebuilt.1.1.1.1.1.0 in
     let same : cells ≡ part.cells = tell (begun layout i part) from.stands ∙ ap (λ (d : DurableState). d.cells) (same_part layout is i part core from) in
     record {
-      deltas = of.deltas;
+      moved = moved;
+      deltas = deltas;
       read = of.read;
       rebuilt = of.rebuilt;
       same_layout = from.stands.shows.layout;
       told = same;
-      is_change = subst (λ (cs : List DurableCell). IsChange layout i (counters_alone cs)) (sym same) (is_change layout is i part core from);
+      is_change = subst (λ (l : LayoutState). IsChange l i (counters_alone cells)) (sym from.stands.shows.layout)
+          (subst (λ (cs : List DurableCell). IsChange layout i (counters_alone cs)) (sym same) (is_change layout is i part core from));
+      is_shown = λ a stands. show a stands ∙ ap (λ (l : LayoutState). shown_text a l (is_alone lost) deltas) from.stands.shows.layout;
     }

@@ -1,3 +1,5 @@
 pub mod Lines
 pub mod Steps
+pub mod Shown
 pub mod Parts
+pub mod Refusals

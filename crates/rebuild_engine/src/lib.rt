@@ -3,6 +3,9 @@
 
 pub use lines::{LineFault, LineRefusal, LineStop, read_deltas};
 pub use rebuilding::{RebuildStop, Rebuilt, rebuilt_site};
+pub use refusals::write_stop;
 
 mod lines;
 mod rebuilding;
+mod refusals;
+mod shown;

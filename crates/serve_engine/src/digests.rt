@@ -1,7 +1,7 @@
 //! The digests in marks.
 ghost use Rattle.std.specs.Prelude.{◌≡◌, string_bytes, IfOk};
 ghost use Rattle.layout_line.specs.Line.{line_of, records_text};
-ghost use Rattle.serve_engine.specs.Marks.{records_digest, text_digest};
+ghost use Rattle.serve_engine.specs.Marks.{first_digits, records_digest, text_digest};
 
 use layout_line::layout_line;
 use merge_core::Layout;
@@ -14,7 +14,14 @@ pub(crate) fn record_digits(alloc: Global, layout: &Layout) -> Result<String, Al
     ensures { IfOk result (λ digits. string_bytes digits ≡ records_digest layout.now.records) }
 {
     let line = layout_line(alloc, layout)?;
-    let digest = Sha256::digest(records_in(layout, line.as_bytes()));
+    digest_digits(alloc, records_in(layout, line.as_bytes()))
+}
+
+/// The first 16 hexadecimal digits of the SHA-256 digest of a text. Linear in it.
+pub fn digest_digits(alloc: Global, text: &[u8]) -> Result<String, AllocError>
+    ensures { IfOk result (λ digits. string_bytes digits ≡ first_digits 8 text.now) }
+{
+    let digest = Sha256::digest(text);
     hex::encode(alloc, &digest[..8])
 }
 

@@ -1,10 +1,12 @@
 //! The service of one site: each line is answered before the next one is read, over any keeper, conversation and log.
 #![tactic(auto)]
 
+pub use digests::digest_digits;
 pub use engine::{LINE_LIMIT, line_limit, serve_engine};
 pub use marks::{MarkFault, Marking};
 pub use moved_texts::{TextFault, TextStop, moved_text, told_delta};
 pub use request::Request;
+pub use showing::push_counts;
 
 mod answering;
 mod checksums;

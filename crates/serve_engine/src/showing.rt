@@ -11,7 +11,7 @@ use std::alloc::AllocError;
 use text_parts::push_field;
 
 /// Writes the counts of a record, each behind its word, and LF; or that there is no such record.
-pub(crate) fn push_counts(text: &mut String, core: &SiteCore, r: u16) -> Result<(), AllocError>
+pub fn push_counts(text: &mut String, core: &SiteCore, r: u16) -> Result<(), AllocError>
     requires { IsCore core.now }
     ensures { IfOk result (λ _. (a : Account) → Stands a core.now → string_bytes text.new ≡ string_bytes text.old ++ show_line a r) }
 {

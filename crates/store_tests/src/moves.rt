@@ -4,8 +4,8 @@ use crate::databases::{after_texts, in_memory, layout};
 use crate::files::{Work, closed_after, empty_files, found_after_crash, fused, left_after};
 use crate::stores::{At, Opened, held_by};
 use exit_status::{Status, StoreRefusal};
-use live_databases::{Absence, RebuildEnd, ServiceEnd, rebuild_over, regroup_over};
-use rebuild_engine::{LineFault, LineRefusal, RebuildStop};
+use live_databases::{Absence, RebuildEnd, ServiceEnd, make_rebuilt_over, regroup_over};
+use rebuild_engine::{LineFault, LineRefusal, RebuildStop, rebuilt_site};
 use serve_engine::{MarkFault, TextFault};
 use site_rebuild::RebuildError;
 use site_store::{Permission, ServedError, SqlKeeper};
@@ -163,16 +163,14 @@ fn built_at<S: Alter + Drop>(
         return None;
     }
     let name = at.group.unwrap_or("");
-    let (built, back) = rebuild_over(
-        alloc,
-        connection,
-        layout,
-        at.site,
-        lost,
-        name,
-        bytes.as_bytes(),
-    );
-    Some((built.err(), back))
+    let rebuilt = match rebuilt_site(alloc, layout, at.site, lost, name, bytes.as_bytes()) {
+        Ok(rebuilt) => rebuilt,
+        Err(stop) => return Some((Some(RebuildEnd::Unbuilt(stop)), connection)),
+    };
+    match make_rebuilt_over(alloc, connection, rebuilt, at.site, name) {
+        (Ok(_), back) => Some((None, back)),
+        (Err(ended), back) => Some((Some(RebuildEnd::Ended(ended)), back)),
+    }
 }
 
 fn is_built(ended: Option<RebuildEnd>, wanted: Came) -> bool {
@@ -344,7 +342,7 @@ macro_rules! kept_out {
 }
 
 /// Stores of sites that are built again, or not.
-static REBUILDS: [&[Step]; 10] = [
+static REBUILDS: [&[Step]; 11] = [
     // of the text of a move, and not over the store that is there then
     &[
         Step::Build(LOST, &[1], GAVE, Came::Rebuilt),
@@ -381,6 +379,21 @@ static REBUILDS: [&[Step]; 10] = [
         Step::Build(LOST, &[1], "", unbuilt!(RebuildError::NoDelta { site: 0 })),
         Step::Open(LOST, Came::Refused(ServedError::NoStore)),
     ],
+    // a group that was never moved
+    &[
+        Step::Build(
+            at!(2, 1, Some("east")),
+            &[1],
+            SENT,
+            Came::NotRebuilt(RebuildEnd::Unbuilt(RebuildStop::NotMoved)),
+        ),
+        Step::Build(
+            at!(2, 1, Some("refused.2")),
+            &[1],
+            SENT,
+            Came::NotRebuilt(RebuildEnd::Unbuilt(RebuildStop::NotMoved)),
+        ),
+    ],
     // a line is not to be taken
     &[
         Step::Build(LOST, &[1], TWICE, line!(2, LineFault::Twice)),
@@ -415,7 +428,7 @@ static REBUILDS: [&[Step]; 10] = [
     &[
         Step::Run("CREATE TABLE other (x INTEGER)"),
         Step::Build(LOST, &[1], GAVE, kept_out!(NotAStore)),
-        Step::Run("INSERT INTO other VALUES (1)"),
+        Step::Run("INSERT INTO other VALUES (1); CREATE TABLE meta (x INTEGER)"),
     ],
     // a store of another site
     &[

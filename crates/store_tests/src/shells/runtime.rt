@@ -1,11 +1,15 @@
 //! A runtime whose arguments, files and standard streams the test chooses.
 use exit_status::{Status, StoreRefusal};
 use line_conversation::Conversation;
-use live_databases::{Absence, LiveDatabases, Opening, Service, ServiceEnd, serve_live_over};
+use live_databases::{
+    Absence, LiveDatabases, Opening, RebuildEnd, Service, ServiceEnd, make_rebuilt_over,
+    regroup_over, serve_live_over,
+};
 use live_site::{NoLog, NoPlace};
 use merge_core::Layout;
-use site_store::Permission;
-use sqlite::Connection;
+use rebuild_engine::rebuilt_site;
+use site_store::{Permission, SqlKeeper};
+use sqlite::{Connection, MemStore};
 use std::alloc::{Allocator, Global};
 use std::cell::RefCell;
 use std::env::FillError;
@@ -346,5 +350,82 @@ impl LiveDatabases for Fake {
             &NoPlace {},
         );
         ended
+    }
+    // The store at one path is that of site 0 of a group in which nothing was done.
+    fn move_store(
+        &self,
+        path: &str,
+        layout: Layout,
+        site: u16,
+        group: &str,
+    ) -> Result<String, ServiceEnd> {
+        let connection = self.moved_database(path, &layout, site)?;
+        let (told, _connection) = regroup_over(self.alloc, connection, layout, site, group);
+        told
+    }
+
+    // No store is at one path, and one is at another.
+    fn rebuild_store(
+        &self,
+        path: &str,
+        layout: Layout,
+        site: u16,
+        lost: &[u16],
+        name: &str,
+        bytes: &[u8],
+    ) -> Result<String, RebuildEnd> {
+        let rebuilt = match rebuilt_site(self.alloc, layout, site, lost, name, bytes) {
+            Ok(rebuilt) => rebuilt,
+            Err(stop) => return Err(RebuildEnd::Unbuilt(stop)),
+        };
+        if kept(&self.opened, path).is_err() || kept(&self.opened, "\n").is_err() {
+            return Err(RebuildEnd::Ended(ServiceEnd::Ended(Status::Memory)));
+        }
+        if path != "new.db" {
+            return Err(RebuildEnd::Ended(ServiceEnd::Absent(Absence::Exists)));
+        }
+        let Ok(connection) = Connection::open_in_memory(self.alloc) else {
+            return Err(RebuildEnd::Ended(ServiceEnd::Ended(Status::Memory)));
+        };
+        let (made, _connection) = make_rebuilt_over(self.alloc, connection, rebuilt, site, name);
+        match made {
+            Ok(shown) => Ok(shown),
+            Err(ended) => Err(RebuildEnd::Ended(ended)),
+        }
+    }
+}
+
+impl Fake {
+    // A database with a new store of the site in the group `east`, at one path, and none at another.
+    fn moved_database(
+        &self,
+        path: &str,
+        layout: &Layout,
+        site: u16,
+    ) -> Result<Connection<MemStore>, ServiceEnd> {
+        if kept(&self.opened, path).is_err() || kept(&self.opened, "\n").is_err() {
+            return Err(ServiceEnd::Ended(Status::Memory));
+        }
+        if path != "old.db" {
+            return Err(ServiceEnd::Absent(Absence::NoStore));
+        }
+        let Ok(connection) = Connection::open_in_memory(self.alloc) else {
+            return Err(ServiceEnd::Ended(Status::Memory));
+        };
+        let permission = Permission {
+            create: true,
+            grow: false,
+        };
+        match SqlKeeper::open_served(
+            self.alloc,
+            connection,
+            layout,
+            site,
+            Some("east"),
+            permission,
+        ) {
+            Ok((keeper, _)) => Ok(keeper.into_connection()),
+            Err(_) => Err(ServiceEnd::Ended(Status::Memory)),
+        }
     }
 }

@@ -9,5 +9,7 @@ returns c =
     let with_site = c.with_command-program-3.ensures _ _ with_play c.site_parser.ensures in
     let with_serve = c.with_command-program-4.ensures _ _ with_site c.serve_parser.ensures in
     let with_ask = c.with_command-program-5.ensures _ _ with_serve c.ask_parser.ensures in
-    let with_judge = c.with_command-program-6.ensures _ _ with_ask c.judge_parser.ensures in
+    let with_regroup = c.with_command-program-6.ensures _ _ with_ask c.regroup_parser.ensures in
+    let with_rebuild = c.with_command-program-7.ensures _ _ with_regroup c.rebuild_parser.ensures in
+    let with_judge = c.with_command-program-8.ensures _ _ with_rebuild c.judge_parser.ensures in
     IfOk-weaker c.with_command.result _ _ (λ built is. is.0) (c.with_command.ensures _ _ with_judge c.run_parser.ensures)

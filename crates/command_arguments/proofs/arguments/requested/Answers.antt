@@ -1,7 +1,7 @@
 use Rattle.std.proofs.Common.{rules, ◌≡◌, ◌∙◌, ap, map, sym, subst, string_bytes, codes, arith}
 use Rattle.clap.specs.Words.{FailsBy, app_of, fault_of, is_simple, is_simple_and_free}
 use Rattle.command_arguments.specs.Arguments.{program}
-use Rattle.command_arguments.proofs.ArgumentLemmas.{command_met, errors_by_clap, more_texts, value_met, words_met}
+use Rattle.command_arguments.proofs.ArgumentLemmas.{command_met, errors_by_clap, lost_met, more_texts, value_met, words_met}
 use Rattle.command_arguments.proofs.arguments.requested.Goals as goal
 
 pub returns-clause-refused : goal.returns-clause-refused
@@ -26,7 +26,7 @@ returns-clause-command c =
     let a = app_of c.in_ok-parser.field-0 in
     let parser_is : a ≡ program = c.in_ok-parser.ensures in
     let meets = (c.in_ok-matches.ensures.matches (ap is_simple parser_is)).1 in
-    c.request_in.ensures.command ∙ command_met a _ texts (more_texts string_bytes c.args.arguments.now (omega arith)) parser_is meets
+    c.in_ok-asked.ensures.command ∙ command_met a _ texts (more_texts string_bytes c.args.arguments.now (omega arith)) parser_is meets
 
 pub returns-clause-layout : goal.returns-clause-layout
 returns-clause-layout c =
@@ -34,7 +34,7 @@ returns-clause-layout c =
     let a = app_of c.in_ok-parser.field-0 in
     let parser_is : a ≡ program = c.in_ok-parser.ensures in
     let meets = (c.in_ok-matches.ensures.matches (ap is_simple parser_is)).1 in
-    c.request_in.ensures.layout ∙ value_met a _ texts (more_texts string_bytes c.args.arguments.now (omega arith)) parser_is meets (codes "layout")
+    c.in_ok-asked.ensures.layout ∙ value_met a _ texts (more_texts string_bytes c.args.arguments.now (omega arith)) parser_is meets (codes "layout")
 
 pub returns-clause-store : goal.returns-clause-store
 returns-clause-store c =
@@ -42,7 +42,7 @@ returns-clause-store c =
     let a = app_of c.in_ok-parser.field-0 in
     let parser_is : a ≡ program = c.in_ok-parser.ensures in
     let meets = (c.in_ok-matches.ensures.matches (ap is_simple parser_is)).1 in
-    c.request_in.ensures.store ∙ value_met a _ texts (more_texts string_bytes c.args.arguments.now (omega arith)) parser_is meets (codes "store")
+    c.in_ok-asked.ensures.store ∙ value_met a _ texts (more_texts string_bytes c.args.arguments.now (omega arith)) parser_is meets (codes "store")
 
 pub returns-clause-cut : goal.returns-clause-cut
 returns-clause-cut c =
@@ -50,7 +50,7 @@ returns-clause-cut c =
     let a = app_of c.in_ok-parser.field-0 in
     let parser_is : a ≡ program = c.in_ok-parser.ensures in
     let meets = (c.in_ok-matches.ensures.matches (ap is_simple parser_is)).1 in
-    c.request_in.ensures.cut ∙ value_met a _ texts (more_texts string_bytes c.args.arguments.now (omega arith)) parser_is meets (codes "cut")
+    c.in_ok-asked.ensures.cut ∙ value_met a _ texts (more_texts string_bytes c.args.arguments.now (omega arith)) parser_is meets (codes "cut")
 
 pub returns-clause-out : goal.returns-clause-out
 returns-clause-out c =
@@ -58,7 +58,7 @@ returns-clause-out c =
     let a = app_of c.in_ok-parser.field-0 in
     let parser_is : a ≡ program = c.in_ok-parser.ensures in
     let meets = (c.in_ok-matches.ensures.matches (ap is_simple parser_is)).1 in
-    c.request_in.ensures.out ∙ value_met a _ texts (more_texts string_bytes c.args.arguments.now (omega arith)) parser_is meets (codes "out")
+    c.in_ok-asked.ensures.out ∙ value_met a _ texts (more_texts string_bytes c.args.arguments.now (omega arith)) parser_is meets (codes "out")
 
 pub returns-clause-log : goal.returns-clause-log
 returns-clause-log c =
@@ -66,7 +66,7 @@ returns-clause-log c =
     let a = app_of c.in_ok-parser.field-0 in
     let parser_is : a ≡ program = c.in_ok-parser.ensures in
     let meets = (c.in_ok-matches.ensures.matches (ap is_simple parser_is)).1 in
-    c.request_in.ensures.log ∙ value_met a _ texts (more_texts string_bytes c.args.arguments.now (omega arith)) parser_is meets (codes "log")
+    c.in_ok-asked.ensures.log ∙ value_met a _ texts (more_texts string_bytes c.args.arguments.now (omega arith)) parser_is meets (codes "log")
 
 pub returns-clause-group : goal.returns-clause-group
 returns-clause-group c =
@@ -74,7 +74,7 @@ returns-clause-group c =
     let a = app_of c.in_ok-parser.field-0 in
     let parser_is : a ≡ program = c.in_ok-parser.ensures in
     let meets = (c.in_ok-matches.ensures.matches (ap is_simple parser_is)).1 in
-    c.request_in.ensures.group ∙ value_met a _ texts (more_texts string_bytes c.args.arguments.now (omega arith)) parser_is meets (codes "group")
+    c.in_ok-asked.ensures.group ∙ value_met a _ texts (more_texts string_bytes c.args.arguments.now (omega arith)) parser_is meets (codes "group")
 
 pub returns-clause-words : goal.returns-clause-words
 returns-clause-words c =
@@ -82,4 +82,12 @@ returns-clause-words c =
     let a = app_of c.in_ok-parser.field-0 in
     let parser_is : a ≡ program = c.in_ok-parser.ensures in
     let meets = (c.in_ok-matches.ensures.matches (ap is_simple parser_is)).1 in
-    c.request_in.ensures.words ∙ words_met a _ texts (more_texts string_bytes c.args.arguments.now (omega arith)) parser_is meets
+    c.in_ok-asked.ensures.words ∙ words_met a _ texts (more_texts string_bytes c.args.arguments.now (omega arith)) parser_is meets
+
+pub returns-clause-lost : goal.returns-clause-lost
+returns-clause-lost c =
+    let texts = map string_bytes c.args.arguments.now in
+    let a = app_of c.in_ok-parser.field-0 in
+    let parser_is : a ≡ program = c.in_ok-parser.ensures in
+    let meets = (c.in_ok-matches.ensures.matches (ap is_simple parser_is)).1 in
+    c.in_ok-asked.ensures.lost ∙ lost_met a _ texts (more_texts string_bytes c.args.arguments.now (omega arith)) parser_is meets

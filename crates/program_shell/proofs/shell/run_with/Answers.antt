@@ -8,7 +8,6 @@ returns-in-Err-layout_at g c =
       lengths = c.in-Ok-cut_of.cut;
       cut_found = search rules;
       group_fits = search rules;
-      marked = search rules;
       layout = Err c.in-Err-layout_at.refusal;
       found = search rules;
       carried_out = (search rules, search rules, rw (sym c.in-Ok.ensures.command) c.end_without_layout-code.ensures);
@@ -21,8 +20,7 @@ returns g c =
       lengths = c.in-Ok-cut_of.cut;
       cut_found = search rules;
       group_fits = search rules;
-      marked = search rules;
       layout = Ok c.in-Ok-layout_at.layout;
       found = search rules;
-      carried_out = rw (sym c.in-Ok.ensures.command, sym c.in-Ok.ensures.out, sym c.in-Ok.ensures.group, sym c.in-Ok.ensures.words) c.carry_out.ensures;
+      carried_out = rw (sym c.in-Ok.ensures.command, sym c.in-Ok.ensures.out, sym c.in-Ok.ensures.group, sym c.in-Ok.ensures.lost, sym c.in-Ok.ensures.words) c.carry_out.ensures;
     })
