@@ -82,16 +82,7 @@ fn rebuild_to<R: LiveDatabases + AllocGlobal, I: Read, O: Write>(
     ensures { RebuildsTo layout site others.now name.now source.old source.new sink.old sink.new result }
 {
     match read_input(rt.alloc(), source) {
-        Ok(input) => answer_input(
-            rt,
-            path,
-            layout,
-            site,
-            others,
-            name,
-            input.as_slice(),
-            sink,
-        ),
+        Ok(input) => answer_input(rt, path, layout, site, others, name, input.as_slice(), sink),
         Err(InputError::TooLong) => {
             if !sink.write_and_flush("input refused TooLong\n") {
                 return ServiceEnd::Ended(Status::Io);

@@ -96,12 +96,7 @@ fn push_texts(
 }
 
 // Writes the text of a delta, if it is of this site, and LF.
-fn push_text(
-    alloc: Global,
-    texts: &mut String,
-    site: u16,
-    delta: &Delta,
-) -> Result<(), AllocError>
+fn push_text(alloc: Global, texts: &mut String, site: u16, delta: &Delta) -> Result<(), AllocError>
     ensures { IfOk result (λ _. string_bytes texts.new ≡ string_bytes texts.old ++ text_of site delta.now) }
 {
     if delta.from_site() != site {

@@ -1,5 +1,6 @@
 //! The whole program on a fake runtime.
 mod helps;
+mod move_programs;
 mod programs;
 mod run_programs;
 mod runtime;

@@ -11,13 +11,15 @@ Admits readers and writers to shared records at several sites, which exchange de
 Usage: seat_cli [COMMAND]
 
 Commands:
-  join   Joins deltas, one a line, and prints one delta that has all of them
-  play   Simulates several sites: carries out one event a line, and prints one reply a line
-  site   Serves one site over its store: carries out one call a line, and prints one reply a line
-  serve  Serves one site at once: answers each line before it reads the next one
-  ask    Makes one call at one site, and prints its reply
-  judge  Judges the closed logs of all sites, and prints where it looked and the verdict
-  run    Runs several sites at the same time, with links between them, and judges their logs
+  join     Joins deltas, one a line, and prints one delta that has all of them
+  play     Simulates several sites: carries out one event a line, and prints one reply a line
+  site     Serves one site over its store: carries out one call a line, and prints one reply a line
+  serve    Serves one site at once: answers each line before it reads the next one
+  ask      Makes one call at one site, and prints its reply
+  regroup  Moves a site's store to the next generation of its group, and prints all that the site knows
+  rebuild  Builds a site again that lost its store, of what the other sites know of it
+  judge    Judges the closed logs of all sites, and prints where it looked and the verdict
+  run      Runs several sites at the same time, with links between them, and judges their logs
 
 Options:
   -h, --help     Print help
@@ -30,7 +32,7 @@ Exit status:
   1  the call of `ask` was refused
   2  the arguments are wrong, or `judge` was given no cut: `cut refused BadWord` on standard error
   3  there is no layout, or it has no such site: `layout refused NAME` on standard error
-  4  a line can't be read, or `join` or `run` refused it, or the input is above 16 MiB: the output says which
+  4  a line can't be read, or `join`, `run` or `rebuild` refused it, or the input is refused: the output says which
   5  the store can't be used: `store refused NAME` on standard error; or it failed: a reply was `refused StoreFault`
   6  out of memory: `memory` on standard error
   7  reading or writing failed: `io` on standard error
@@ -178,7 +180,8 @@ status 5, else 0.
 
 With --group the site is one of a group of sites: NAME is kept in a store that is made, and a store of another group, or
 of none, is refused with `store refused WrongGroup`. NAME has 1 to 32 bytes: a letter from a to z first, then such
-letters, digits and `-`; no word that begins a reply, as `refused`.
+letters, digits and `-`; no word that begins a reply, as `refused`. Behind these may stand the number of the group's
+generation, as in `east.2`, which `regroup` gives.
 
 With --log each call and its reply are appended to FILE before the call is committed, so that `judge` can read the logs
 of all sites behind one another, even after a crash.
@@ -215,6 +218,63 @@ The words are a call as `serve` reads it. The status is 0 if the call was carrie
 
 Example:
   seat_cli ask --site 0 --store site_0.db --wait 5 read a 7
+";
+
+const REGROUP_HELP: &str = "\
+Moves a site's store to the next generation of its group, and prints all that the site knows
+
+Usage: seat_cli regroup --site I --store FILE [--layout FILE] --group NAME
+
+Options:
+      --site <I>       The number of the site in the layout, from 0
+      --store <FILE>   The file of the site's store
+      --layout <FILE>  A TOML file with the sites and records [default: two sites, record a of two seats at site 0]
+      --group <NAME>   The name of the group that the store is in
+  -h, --help           Print help
+
+It is for a group in which another site lost its store. Each site that is left is moved: from group `east` to `east.2`,
+from there to `east.3`, and so on. NAME is the group in which the store is. Nothing else in the store changes, so
+counters and sessions stay. End the site before: while another process has FILE open, `store refused InUse`.
+
+The output is one line, which `rebuild` reads: the site's delta, behind a mark that begins with the new name, as
+`east.2:moved`. Keep it: it is printed once. A store that is moved already is `store refused WrongGroup`, one of no group
+`store refused NoGroup`. No store is made: where none is, `store refused NoStore`. These end with status 5. If the output
+can't be written, the status is 7, and the store is moved all the same.
+
+Example:
+  seat_cli regroup --site 0 --store site_0.db --group east > moved_0
+";
+
+const REBUILD_HELP: &str = "\
+Builds a site again that lost its store, of what the other sites know of it
+
+Usage: seat_cli rebuild --site I --store FILE [--layout FILE] --group NAME [--lost J ..]
+
+Options:
+      --site <I>       The number of the site in the layout, from 0
+      --store <FILE>   The file of the site's store
+      --layout <FILE>  A TOML file with the sites and records [default: two sites, record a of two seats at site 0]
+      --group <NAME>   The name of the group's generation in which the site is built again, as east.2
+      --lost <J>       Another site that lost its store; once for each
+  -h, --help           Print help
+
+The input has a line for each site that is left, as `regroup` printed it there. NAME is the group to which these sites
+were moved, as `east.2`. If no other site lost its store, a line that a site sent in that group, by `send`, serves too.
+If others did, name each of them by a --lost, and build all of them of the same lines.
+
+The site gets the seats that nobody else has, and no session; its writers have finished. The output is what `show`
+replies for each record, behind its name; with --lost then `texts DIGEST`, which is the same at all lost sites if their
+lines are. If a line is refused, the output is `line K refused NAME` alone, for the first such line; if no site can be
+built of the lines, it is `input refused NAME` alone. The status is 4 then.
+
+FILE must have no store, else `store refused Exists` and status 5. It gets one if the status is 0. A site that is built
+again begins with counters that no log shows, so it is served without --log.
+
+Nothing finds out for certain that the lost store is served again, that callers of the lost site go on, or that a site
+is built twice in one generation. Then a writer may not be alone: docs/OPERATING.md says what to make sure of.
+
+Example:
+  cat moved_0 moved_2 | seat_cli rebuild --site 1 --store site_1.db --group east.2
 ";
 
 const JUDGE_HELP: &str = "\
@@ -295,7 +355,7 @@ Example:
 ";
 
 // Arguments, and what goes to standard output.
-static TOLD: [(&[&[u8]], &str); 18] = [
+static TOLD: [(&[&[u8]], &str); 22] = [
     (&[b"seat_cli", b"--help"], HELP),
     (&[b"seat_cli", b"-h"], HELP),
     (&[b"seat_cli", b"join", b"--help"], JOIN_HELP),
@@ -308,6 +368,10 @@ static TOLD: [(&[&[u8]], &str); 18] = [
     (&[b"seat_cli", b"serve", b"-h"], SERVE_HELP),
     (&[b"seat_cli", b"ask", b"--help"], ASK_HELP),
     (&[b"seat_cli", b"ask", b"-h"], ASK_HELP),
+    (&[b"seat_cli", b"regroup", b"--help"], REGROUP_HELP),
+    (&[b"seat_cli", b"regroup", b"-h"], REGROUP_HELP),
+    (&[b"seat_cli", b"rebuild", b"--help"], REBUILD_HELP),
+    (&[b"seat_cli", b"rebuild", b"-h"], REBUILD_HELP),
     (&[b"seat_cli", b"judge", b"--help"], JUDGE_HELP),
     (&[b"seat_cli", b"judge", b"-h"], JUDGE_HELP),
     (&[b"seat_cli", b"run", b"--help"], RUN_HELP),

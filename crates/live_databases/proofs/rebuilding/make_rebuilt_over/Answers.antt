@@ -11,12 +11,14 @@ make_store-made-requires-cells g c =
 
 pub returns-in-Ok : goal.returns-in-Ok
 returns-in-Ok g c =
-    let made = c.make_store-made.ensures in
-    (refl, has_made g.S.Store c.args.rebuilt.core.layout c.layout.result.now c.args.site c.args.name.now c.args.rebuilt.cells.items c.args.connection c.make_store-made.result.1
-        c.layout.ensures c.make_store-made.result.0 _ c.in-Ok.is made.made made.content made.never)
+    let made = c.make_store-made.ensures in (
+      refl,
+      has_made g.S.Store c.args.rebuilt.core.layout c.layout.result.now c.args.site c.args.name.now c.args.rebuilt.cells.items c.args.connection c.make_store-made.result.1
+          c.layout.ensures c.make_store-made.result.0 _ c.in-Ok.is made.made made.content made.never,
+    )
 
 pub returns-in-Err : goal.returns-in-Err
 returns-in-Err g c =
     let made = c.make_store-made.ensures in
     has_not_made g.S.Store c.args.rebuilt.core.layout c.layout.result.now c.args.site c.args.name.now c.args.rebuilt.cells.items c.args.connection c.make_store-made.result.1
-        c.layout.ensures c.make_store-made.result.0 c.in-Err.error _ c.in-Err.is c.refused_store.ensures made.there made.left made.denied
+    c.layout.ensures c.make_store-made.result.0 c.in-Err.error _ c.in-Err.is c.refused_store.ensures made.there made.left made.denied
