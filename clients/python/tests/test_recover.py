@@ -1,6 +1,7 @@
 """`zinduroi recover`: sites that are moved and built again, step by step, and from wherever an earlier call stopped."""
 import os
 import random
+import shlex
 import shutil
 import subprocess
 import sys
@@ -302,7 +303,7 @@ class Recoveries(Case):
     def program(self, command, script):
         """A program that carries out this command by a script of sh, in which `real` is the program; all others itself."""
         path = self.folder / f"{command}-program"
-        path.write_text(f'#!/bin/sh\nreal() {{ {PROGRAM} "$@"; }}\n[ "$1" = {command} ] || {{ real "$@"; exit $?; }}\n{script}\n')
+        path.write_text(f'#!/bin/sh\nreal() {{ {shlex.quote(PROGRAM)} "$@"; }}\n[ "$1" = {command} ] || {{ real "$@"; exit $?; }}\n{script}\n')
         path.chmod(0o755)
         return str(path)
 
