@@ -5,7 +5,7 @@
     compare.py site PROGRAM [CALLS] [SEED]     each run over a store, and what the store then holds
     compare.py judge PROGRAM [LOGS] [SEED]     the logs of forged_logs.py, then so many forged ones and some honest ones
     compare.py run PROGRAM [RUNS] [SEED]       each script: its closed logs, and what `judge` says
-    compare.py rebuild PROGRAM [INPUTS] [SEED] `regroup` and `rebuild`, as compare_rebuild.py says; the program does not have them yet
+    compare.py rebuild PROGRAM [INPUTS] [SEED] `regroup` and `rebuild`, as compare_rebuild.py says
 
 Stops at the first difference and leaves its files; else tells how often each reply or verdict came. Some runs
 of `site` are killed: the next one goes on behind some call, and behind all that were answered. The

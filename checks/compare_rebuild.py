@@ -19,6 +19,8 @@ import second_site as rules
 import stand_in
 
 GROUP = "east"
+# Groups in which no store is, and how a move from one is refused.
+WRONG = (("east.2", "WrongGroup"), ("eas", "WrongGroup"), ("east.1048574", "WrongGroup"), ("east.1048575", "LastGeneration"))
 NAMES = ("cells", "sessions", "notices", "meta")
 
 
@@ -131,9 +133,9 @@ class Story:
         """Moves the sites that are left, and has some of them served in the new group."""
         for s in self.rng.sample(self.left, len(self.left)):
             store = self.stores[s]
-            wrong = again.next_name(GROUP) if self.rng.random() < 0.2 else None
+            wrong, refused = self.rng.choice(WRONG) if self.rng.random() < 0.2 else (None, None)
             if wrong:
-                store.same("a move from another group", told(store.words("regroup", wrong)), "'store refused WrongGroup\\n' 5")
+                store.same("a move from another group", told(store.words("regroup", wrong)), f"'store refused {refused}\\n' 5")
                 store.compare_content("behind a refused move")
             line = again.moved_text(store.site, GROUP)
             store.same(" ".join(store.words("regroup")), told(store.words("regroup")), f"{line}\n'' 0")
@@ -260,8 +262,58 @@ def outcome(text):
     return " ".join(words[words.index("refused") - 1:])
 
 
+# Calls under the built-in layout, one after the other: words, input, and what is written; `?` stands for any errors. Where a store
+# is named that is not there, none is there behind the call, but where the status is 0.
+SILENT = again.marked(rules.reader.BUILT_IN, "east.2:moved", rules.Site(rules.reader.BUILT_IN, 0).send()) + "\n"
+FIXED = (
+    ("ask 0 alone.db --create send", "", again.marked(rules.reader.BUILT_IN, "-", SILENT.split(" ", 3)[3][:-1]) + "\n'' 0"),
+    ("ask 0 0.db --group east --create show a", "", "rights 2 inside 0 unfinished 0\n'' 0"),
+    ("regroup 0 none.db --group east", "", "'store refused NoStore\\n' 5"),
+    ("regroup 0 none/0.db --group east", "", "'store refused NoFolder\\n' 5"),
+    ("regroup 0 alone.db --group east", "", "'store refused NoGroup\\n' 5"),
+    ("regroup 1 0.db --group east", "", "'store refused WrongSite\\n' 5"),
+    ("regroup 2 0.db --group east", "", "'layout refused NoSite\\n' 3"),
+    ("regroup 0 0.db --group east.1", "", "'group refused BadWord\\n' 2"),
+    ("regroup 0 0.db", "", "? 2"),
+    ("regroup 0 0.db --group east", "", f"{SILENT}'' 0"),
+    ("regroup 0 0.db --group east", "", "'store refused WrongGroup\\n' 5"),
+    ("rebuild 1 1.db --group east", SILENT, "'group refused BadWord\\n' 2"),
+    ("rebuild 1 1.db", SILENT, "? 2"),
+    ("rebuild 1 1.db --group east.2 --lost 1", SILENT, "? 2"),
+    ("rebuild 1 1.db --group east.2 --lost 0 --lost 0", SILENT, "? 2"),
+    ("rebuild 1 1.db --group east.2 --lost 2", SILENT, "'layout refused NoSite\\n' 3"),
+    ("rebuild 2 1.db --group east.2", SILENT, "'layout refused NoSite\\n' 3"),
+    ("rebuild 1 1.db --group east.2 --lost 0", SILENT, "input refused Acted\n'' 4"),
+    ("rebuild 1 none/1.db --group east.2", "", "input refused NoDelta 0\n'' 4"),
+    ("rebuild 1 none/1.db --group east.2", SILENT, "'store refused NoFolder\\n' 5"),
+    ("rebuild 1 0.db --group east.2", "", "input refused NoDelta 0\n'' 4"),
+    ("rebuild 1 0.db --group east.2", SILENT, "'store refused Exists\\n' 5"),
+    ("rebuild 1 1.db --group east.2", SILENT, "a rights 0 inside 0 unfinished 0\n'' 0"),
+    ("rebuild 1 1.db --group east.2", SILENT, "'store refused Exists\\n' 5"),
+    ("ask 1 1.db --group east.2 sessions a", "", "0\n'' 0"),
+)
+
+
+def fixed(program, folder):
+    """Compares the calls of the list."""
+    for line, data, wanted in FIXED:
+        command, site, name, *more = line.split(" ")
+        path = f"{folder}/{name}"
+        words, there = [program, command, "--site", site, "--store", path, *more], os.path.exists(path)
+        found = told(words, data.encode())
+        if wanted == "? 2":
+            found = found if found.startswith("''") else f"? {found.rsplit(' ', 1)[1]}"
+        at = Store(program, folder, rules.Site(rules.reader.BUILT_IN, 0))
+        at.path = path
+        at.same(" ".join(words), found, wanted)
+        if not there and not wanted.endswith("'' 0"):
+            at.same(f"tables of {path} behind a refusal", at.tables(), [])
+
+
 def rebuild(program, inputs, rng, folder, counts):
-    """Stories until so many inputs of `rebuild` were compared."""
+    """The calls of the list, and then stories until so many inputs of `rebuild` were compared."""
+    os.mkdir(f"{folder}/fixed")
+    fixed(program, f"{folder}/fixed")
     while counts.total() - counts["(sites moved)"] < inputs:
         os.mkdir(f"{folder}/story")
         story = Story(program, rng, f"{folder}/story", counts)

@@ -84,7 +84,6 @@ class Store:
         self.marks, self.layout, self.frozen, self.outdated = not given.get("--plain"), layout, False, False
         if self.number >= layout["sites"]:
             raise Ends(3, "layout refused NoSite")
-        refuse_store(not os.path.isdir(os.path.dirname(self.path) or "."), "NoFolder")
 
     def lock(self, wait):
         """Locks the file, which is made if it is not there."""
@@ -108,13 +107,17 @@ class Store:
 
     def is_there(self):
         """Opens the file, and says whether it has a store."""
+        self.look_for_folder()
         refuse_store(os.path.exists(self.path) and not os.path.isfile(self.path), "StoreFault")
         self.lock(self.wait)
         names = self.connect()
         refuse_store(names and sorted(names) != ["cells", "meta", "notices", "sessions"], "NotAStore")
         return bool(names)
 
-    wait, file = 0, None
+    wait = 0
+
+    def look_for_folder(self):
+        refuse_store(not os.path.isdir(os.path.dirname(self.path) or "."), "NoFolder")
 
     def name(self):
         return f"{self.number}{' ' + self.group if self.group else ''}"
@@ -134,6 +137,7 @@ class Store:
 
     def load(self, grows):
         """Reads the site, and refuses a store that is not its own."""
+        refuse_store(self.moves and again.next_name(self.group) is None, "LastGeneration")
         meta = dict(self.base.execute("SELECT name, value FROM meta"))
         number, _, group = meta["site"].partition(" ")
         refuse_store(int(number) != self.number, "WrongSite")
@@ -251,6 +255,7 @@ def opened(given, moves=False):
     store = Store(given, layout)
     store.wait, store.moves = int(given.get("--wait", 0)), moves
     create = given.get("--create", False)
+    store.look_for_folder()
     refuse_store(not os.path.exists(store.path) and not create, "NoStore")
     there = store.is_there()
     refuse_store(there and create, "Exists")
@@ -281,11 +286,9 @@ def ask(given, words):
 def regroup(given):
     if "--group" not in given:
         raise Ends(2, "error: --group is required")
-    group = again.next_name(given["--group"])
-    refuse_store(group is None, "LastGeneration")
     store = opened(given, moves=True)
     text = again.moved_text(store.site, store.group)
-    store.group = group
+    store.group = again.next_name(store.group)
     store.base.execute("UPDATE meta SET value = ? WHERE name = 'site'", (store.name(),))
     store.base.close()
     print(text)
@@ -294,17 +297,16 @@ def regroup(given):
 def rebuild(given, lost):
     if again.generation(given.get("--group", "")) in (None, 1):
         raise Ends(2, "group refused BadWord")
+    if int(given["--site"]) in lost or len(set(lost)) < len(lost):
+        raise Ends(2, "error: a lost site is named twice")
     layout = read_layout(given.get("--layout"))
     store = Store(given, layout)
-    if store.number in lost or len(set(lost)) < len(lost):
-        raise Ends(2, "error: a lost site is named twice")
     if any(j >= layout["sites"] for j in lost):
         raise Ends(3, "layout refused NoSite")
-    there = os.path.exists(store.path) and store.is_there()
     data = sys.stdin.buffer.read(reader.INPUT_LIMIT + 1)
     text, status, site = again.rebuild(layout, store.number, lost, store.group, data)
     if status == 0:
-        refuse_store(there or store.file is None and store.is_there(), "Exists")
+        refuse_store(store.is_there(), "Exists")
         store.make(site)
         store.base.close()
     sys.stdout.write(text)

@@ -10,9 +10,11 @@ _seat_cli() {
         site) COMPREPLY=($(compgen -W "--help --layout --site --store" -- "$word")) ;;
         serve) COMPREPLY=($(compgen -W "--create --group --grow --help --layout --log --plain --site --store --wait" -- "$word")) ;;
         ask) COMPREPLY=($(compgen -W "--create --group --grow --help --layout --log --plain --site --store --wait" -- "$word")) ;;
+        regroup) COMPREPLY=($(compgen -W "--group --help --layout --site --store" -- "$word")) ;;
+        rebuild) COMPREPLY=($(compgen -W "--group --help --layout --lost --site --store" -- "$word")) ;;
         judge) COMPREPLY=($(compgen -W "--cut --help --layout" -- "$word")) ;;
         run) COMPREPLY=($(compgen -W "--help --layout --out --turns" -- "$word")) ;;
-        *) COMPREPLY=($(compgen -W "join play site serve ask judge run --help --version" -- "$word")) ;;
+        *) COMPREPLY=($(compgen -W "join play site serve ask regroup rebuild judge run --help --version" -- "$word")) ;;
     esac
 }
 complete -F _seat_cli seat_cli

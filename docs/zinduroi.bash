@@ -10,8 +10,8 @@ _zinduroi() {
         done
     fi
     case $before in
-        --config | --layout | --program | --socket | --status | --store) COMPREPLY=($(compgen -f -- "$word")); return ;;
-        --group | --interval | --site | --timeout | --wait) return ;;
+        --config | --folder | --layout | --program | --socket | --status | --store) COMPREPLY=($(compgen -f -- "$word")); return ;;
+        --group | --host | --interval | --lost | --messages | --mqtt | --option | --port | --publish | --site | --timeout | --to | --wait) return ;;
     esac
     case ${COMP_WORDS[1]} in
         node) COMPREPLY=($(compgen -W "--config --create --help" -- "$word")) ;;
@@ -19,7 +19,8 @@ _zinduroi() {
         ask) COMPREPLY=($(compgen -W "--socket --wait --help" -- "$word")) ;;
         status) COMPREPLY=($(compgen -W "--json --socket --help" -- "$word")) ;;
         watch) COMPREPLY=($(compgen -W "--group --interval --layout --once --program --site --socket --status --store --wait --help" -- "$word")) ;;
-        *) COMPREPLY=($(compgen -W "node lock ask status watch --help" -- "$word")) ;;
+        recover) COMPREPLY=($(compgen -W "--config --folder --host --layout --lost --messages --mqtt --option --port --program --publish --site --store --to --wait --help" -- "$word")) ;;
+        *) COMPREPLY=($(compgen -W "node lock ask status watch recover --help" -- "$word")) ;;
     esac
 }
 complete -F _zinduroi zinduroi

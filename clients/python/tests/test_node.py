@@ -106,7 +106,7 @@ class Configs(Case):
                 right.replace("0", "true"): "site: is not a whole number",
                 right.replace('"s.db"', "7"): "store: is not a text",
                 right.replace('"s.db"', '""'): "store: is not a text without zero bytes, not empty: ''",
-                'group = "Crew"\n' + right: "group: is not 1 to 32 lowercase letters, digits and -, the first a letter: 'Crew'",
+                'group = "Crew"\n' + right: "group: is not 1 to 32 lowercase letters, digits and -, the first a letter; behind a move also a dot and a number: 'Crew'",
                 'site = 0\nstore = "s.db"\n': "socket.path: is missing",
                 right + 'mode = "689"\n': "socket.mode: is not three octal digits: '689'",
                 right + "mode = 660\n": "socket.mode: is not a text",

@@ -23,7 +23,9 @@ from zinduroi.node.link import Interrupted
 from zinduroi.node.sharing_task import Sharer, Sharing
 from zinduroi.node.waiting import Queues, Waiter
 from zinduroi.peers import Peers
+from zinduroi.recovery import Plan, Recovery
 from zinduroi.site import Layout, Record
+from zinduroi.transports import Folder
 
 from .common import PACKAGE, PROGRAM, Case, wait_for
 from .test_peers import OPENSSL, Authority, free_ports
@@ -47,7 +49,7 @@ class Nodes(Case):
         super().setUp()
         self.layout = self.write_layout("layout.toml", 2, ("a", 6, 0, 2), ("b", 4, 1, 1))
         self.ports = free_ports(2)
-        self.processes, self.clients = {}, []
+        self.processes, self.clients, self.group = {}, [], GROUP
         self.addCleanup(self.end_all)
 
     def table(self, site, **changes):
@@ -62,7 +64,7 @@ class Nodes(Case):
 
     def write_config(self, site, exchange="", table=None):
         path = self.folder / f"{site}.toml"
-        path.write_text(f'site = {site}\nstore = "{site}.db"\nlayout = "layout.toml"\ngroup = "{GROUP}"\nprogram = "{PROGRAM}"\n'
+        path.write_text(f'site = {site}\nstore = "{site}.db"\nlayout = "layout.toml"\ngroup = "{self.group}"\nprogram = "{PROGRAM}"\n'
                         f'[socket]\npath = "{site}.sock"\n[exchange]\ninterval = 0.1\n{exchange}\n' + (table or self.table(site) + self.peer(1 - site)))
         return path
 
@@ -202,6 +204,26 @@ class Together(Nodes):
         self.assertEqual(holder.ask(f"resume {token}"), "resumed 1 a w writer")
         self.assertEqual(holder.ask("leave a w"), "left writer")
         self.assertEqual(self.connect(0).ask("wait 30 write a v"), "admitted")
+
+    def test_a_lost_store_is_built_again(self):
+        """The nodes go on in the next generation, with the same certificates."""
+        for site in range(2):
+            self.start(site)
+        self.assertEqual(self.connect(1).ask("wait 60 write a 9"), "admitted")
+        self.end(1, signal.SIGKILL)
+        self.end(0)
+        for path in self.folder.glob("1.db*"):
+            path.unlink()
+        self.group = f"{GROUP}.2"
+        for site in range(2):
+            plan = Plan(site, str(self.folder / f"{site}.db"), self.group, (1,), str(self.layout), PROGRAM)
+            Recovery(plan, Folder(self.folder), lambda line: None, lambda premise: True).run()
+            self.start(site)
+        for site in (0, 1, 0):
+            client = self.connect(site)
+            self.assertEqual(client.ask("wait 60 write a 9"), "admitted")
+            self.assertEqual(client.ask("leave a 9"), "left writer")
+        self.assertTrue(wait_for(lambda: self.seats("a") == 6))
 
     def test_callers_while_a_peer_is_away(self):
         """A start waits 2 seconds for a peer that is not there; then callers are served."""

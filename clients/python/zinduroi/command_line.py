@@ -10,6 +10,7 @@ from typing import Any, Callable, Dict, List, Optional, Sequence, Tuple
 from .errors import ZinduroiError
 from .node.client import DEFAULT_SOCKET, NodeClient, NodeGone
 from .node.lock import HELP, NO_NODE, run_lock
+from .recover import add_recover, run_recover
 from .watch import add_watch, rows_of, run_watch, table
 
 # Exit statuses of sysexits.h: the configuration is wrong.
@@ -49,6 +50,7 @@ def parser() -> argparse.ArgumentParser:
     _add_socket(status)
     status.add_argument("--json", action="store_true", help="as the node tells it")
     add_watch(commands)
+    add_recover(commands)
     return made
 
 
@@ -72,6 +74,8 @@ def main(words: Optional[Sequence[str]] = None) -> int:
     given = made.parse_args(before)
     if given.command == "watch":
         return run_watch(given, made)
+    if given.command == "recover":
+        return _interruptible(lambda: run_recover(given, made))
     if given.command == "node":
         return run_node(given.config, given.create)
     if given.command == "lock":

@@ -232,7 +232,8 @@ class StoreRefused(_Named):
     set), `Exists` (there is one, and `create` is set), `NotAStore` (the file is no database, or another program made its
     tables), `InUse` (another process has it open), `WrongSite`, `WrongGroup` (it is of another group of sites, or of none),
     `WrongLayout` (the layout has other records, fewer sites, or more sites and `grow` is not set), `BadStore`, `WrongCounters`,
-    `WrongSessions`, `Outdated` (it is older than what its site once sent) or `StoreFault`."""
+    `WrongSessions`, `Outdated` (it is older than what its site once sent) or `StoreFault`. Only `regroup` has `NoGroup` (its site is in no group) and
+    `LastGeneration`."""
 
     what = "store"
 

@@ -161,7 +161,9 @@ def _peers(table: Table, site: int, group: Optional[str]) -> Callable[[], Transp
         if number in peers:
             raise one.fault("site", f"is that of another peer too: {number}")
         peers[number] = peer
-    return lambda: _made(table, lambda: Peers(site, peers, listen, authority, certificate, key, group, plain))
+    # Certificates stay as they are when the group goes on to its next generation.
+    base = None if group is None else group.partition(".")[0]
+    return lambda: _made(table, lambda: Peers(site, peers, listen, authority, certificate, key, base, plain))
 
 
 def _peer(table: Table) -> "Tuple[int, Peer]":
@@ -208,7 +210,8 @@ def read_config(file: "str | os.PathLike[str]") -> Config:
 def _config(top: Table) -> Config:
     exchange = top.table("exchange")
     site = top.number("site", 0, 15)
-    group = top.text("group", None, r"[a-z][a-z0-9-]{0,31}", "1 to 32 lowercase letters, digits and -, the first a letter")
+    group = top.text("group", None, r"[a-z][a-z0-9-]{0,31}(\.[1-9][0-9]{0,6})?",
+                     "1 to 32 lowercase letters, digits and -, the first a letter; behind a move also a dot and a number")
     made = Config(
         site=site,
         store=top.path("store"),
