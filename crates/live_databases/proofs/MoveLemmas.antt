@@ -2,12 +2,13 @@
 use Rattle.std.proofs.Common.{◌≡◌, ◌≢◌, ◌⊎◌, inl, inr, ℕ, List, Option, Some, None, Result, Ok, Err, refl, sym, subst, ap, ◌∙◌, arith}
 use Rattle.std.specs.Prelude.{MatchResult}
 use Rattle.sqlite_trees.specs.declared.store.Store.{Ghosts as Device}
+use Rattle.sqlite.specs.Effect.{Database}
 use Rattle.merge_core.specs.Layout.{LayoutState}
 use Rattle.admission_core.specs.Kept.{DurableState}
 use Rattle.durable_keeper.specs.declared.error.KeeperError.{KeeperError}
 use Rattle.durable_keeper.specs.declared.error.KeeperError.TheVariants as keeping
 use Rattle.store_rows.specs.Rows.{Stored}
-use Rattle.store_rows.specs.Holding.{Holds, KeepsEither}
+use Rattle.store_rows.specs.Holding.{Holds, KeepsBeside, KeepsEither}
 use Rattle.store_tables.specs.Transacts.{with_site}
 use Rattle.store_tables.proofs.KeepLemmas.{leaves_first}
 use Rattle.site_store.specs.declared.sql.SqlKeeper.{SqlKeeper}
@@ -37,8 +38,10 @@ module _ {S : Type 0} (g : Device S) (layout : LayoutState) (i : ℕ) (name : Li
   pub has_moved : (j : ℕ) (text : List ℕ) → j ≡ i
       → TellsWhole layout i name k l text → ((it : Stored) → KeepsContent k it → KeepsContent l it) → ((d : DurableState) → KeepsPart k d → KeepsPart l d)
       → ((it : Stored) → KeepsContent l it → KeepsContent m (with_site (site_text j (Some name)) it)) → ((d : DurableState) → KeepsPart l d → KeepsPart m d)
-      → group_of m ≡ Some name → (is_honest m → is_honest l) → faults_of m ≡ 0 → Moves layout i name k m text
-  has_moved j text same tells content part next next_part group honest sound = record {
+      → group_of m ≡ Some name → (is_honest m → is_honest l) → faults_of m ≡ 0
+      → ((others : Database) → KeepsBeside g (below k) others → KeepsBeside g (below l) others)
+      → ((it : Stored) (others : Database) → KeepsContent l it → KeepsBeside g (below l) others → KeepsBeside g (below m) others) → Moves layout i name k m text
+  has_moved j text same tells content part next next_part group honest sound beside next_beside = record {
     tells = record {
       first = tells.first;
       given = λ d keeps clean. tells.given d keeps (honest clean);
@@ -48,6 +51,7 @@ module _ {S : Type 0} (g : Device S) (layout : LayoutState) (i : ℕ) (name : Li
     };
     content = λ it keeps. content_at j it same (next it (content it keeps));
     part = λ d keeps. next_part d (part d keeps);
+    beside = λ it others keeps there. next_beside it others (content it keeps) (beside others there);
     in_group = group;
     sound = sound;
   }
@@ -58,24 +62,30 @@ module _ {S : Type 0} (g : Device S) (layout : LayoutState) (i : ℕ) (name : Li
       → (error ≡ keeping.StoreFault → faults_of m ≡ 1)
       → ((it : Stored) → KeepsContent l it → error ≡ keeping.Memory → KeepsContent m it)
       → ((it : Stored) → KeepsContent l it → error ≡ keeping.StoreFault → KeepsEither g (below m) it (with_site (site_text j (Some name)) it))
+      → ((others : Database) → KeepsBeside g (below k) others → KeepsBeside g (below l) others)
+      → ((it : Stored) (others : Database) → KeepsContent l it → KeepsBeside g (below l) others → KeepsBeside g (below m) others)
       → MovesNot layout i name k m ended
-  refused_move j keeping.Memory ended same is content fault memory doubt = record {
+  refused_move j keeping.Memory ended same is content fault memory doubt beside next_beside = record {
     why = inl (record { error = keeping.Memory; is_ended = is; fault = fault });
     content = λ it keeps none. memory it (content it keeps) refl;
     either = λ it keeps. kept_either it (moved_content i name it) (memory it (content it keeps) refl);
+    beside = λ it others keeps there. next_beside it others (content it keeps) (beside others there);
   }
-  refused_move j keeping.StoreFault ended same is content fault memory doubt = record {
+  refused_move j keeping.StoreFault ended same is content fault memory doubt beside next_beside = record {
     why = inl (record { error = keeping.StoreFault; is_ended = is; fault = fault });
     content = λ it keeps none. let one = fault refl in absurd (omega (arith, one, none));
     either = λ it keeps. either_at j it same (doubt it (content it keeps) refl);
+    beside = λ it others keeps there. next_beside it others (content it keeps) (beside others there);
   }
 
   -- no text was made, and no move tried
-  pub untold_move : (ended : ServiceEnd) → TellsNone layout i k m ended → ((it : Stored) → KeepsContent k it → KeepsContent m it) → MovesNot layout i name k m ended
-  untold_move ended why content = record {
+  pub untold_move : (ended : ServiceEnd) → TellsNone layout i k m ended → ((it : Stored) → KeepsContent k it → KeepsContent m it)
+      → ((others : Database) → KeepsBeside g (below k) others → KeepsBeside g (below m) others) → MovesNot layout i name k m ended
+  untold_move ended why content beside = record {
     why = why;
     content = λ it keeps none. content it keeps;
     either = λ it keeps. kept_either it (moved_content i name it) (content it keeps);
+    beside = λ it others keeps there. beside others there;
   }
 
 -- want of memory is no fault

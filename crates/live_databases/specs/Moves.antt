@@ -7,6 +7,7 @@ use Rattle.sqlite_wal.specs.Recovery.{Image}
 use Rattle.sqlite_store.specs.declared.store.FileStore.{FileStore}
 use Rattle.sqlite_trees.specs.declared.store.Store.{Ghosts as Device}
 use Rattle.sqlite.specs.Files.{over_files}
+use Rattle.sqlite.specs.Effect.{Database}
 use Rattle.sqlite.specs.State.{HasCleanDisk}
 use Rattle.sqlite.specs.Held.{Held, state}
 use Rattle.merge_core.specs.Layout.{LayoutState}
@@ -20,13 +21,14 @@ use Rattle.admission_core.specs.declared.restoring.RestoreError.TheVariants as r
 use Rattle.desk_log.specs.Log.{begun}
 use Rattle.durable_keeper.specs.declared.error.KeeperError.{KeeperError}
 use Rattle.durable_keeper.specs.declared.error.KeeperError.TheVariants as keeping
-use Rattle.group_names.specs.Names.{next_name}
+use Rattle.group_names.specs.Names.{is_group_name, next_name}
 use Rattle.layout_file.specs.declared.fault.LayoutFault.TheVariants.{NoSite}
 use Rattle.exit_status.specs.declared.status.Status.TheVariants.{Memory, NoLayout, NoStore}
 use Rattle.exit_status.specs.declared.store_refusal.StoreRefusal.TheVariants.{WrongCounters, WrongSessions}
 use Rattle.store_rows.specs.Rows.{Stored}
-use Rattle.store_rows.specs.Holding.{Keeps, KeepsEither}
+use Rattle.store_rows.specs.Holding.{Keeps, KeepsBeside, KeepsEither}
 use Rattle.store_tables.specs.Transacts.{with_site}
+use Rattle.store_content.specs.Content.{durable_in}
 use Rattle.store_tables.specs.declared.error.TableError.{TableError}
 use Rattle.serve_engine.specs.declared.marks.Marking.TheVariants.{Marked}
 use Rattle.serve_engine.specs.Moved.{moved_text}
@@ -106,6 +108,7 @@ module _ {S : Type 0} {g : Device S} where
     pub tells : TellsWhole layout i name k m text
     pub content : (it : Stored) → KeepsContent k it → KeepsContent m (moved_content i name it)
     pub part : (d : DurableState) → KeepsPart k d → KeepsPart m d
+    pub beside : (it : Stored) (others : Database) → KeepsContent k it → KeepsBeside g (below k) others → KeepsBeside g (below m) others
     pub in_group : group_of m ≡ Some name
     pub sound : faults_of m ≡ 0
 
@@ -114,10 +117,12 @@ module _ {S : Type 0} {g : Device S} where
     pub why : TellsNone layout i k m ended
     pub content : (it : Stored) → KeepsContent k it → faults_of m ≡ 0 → KeepsContent m it
     pub either : (it : Stored) → KeepsContent k it → KeepsEither g (below m) it (moved_content i name it)
+    pub beside : (it : Stored) (others : Database) → KeepsContent k it → KeepsBeside g (below k) others → KeepsBeside g (below m) others
 
 module _ {S : Type 0} (g : Device S) where
-  -- the store was opened, told of, and moved
+  -- The store was opened, told of, and moved. So what the database kept is told of, and kept.
   pub record HasMoved (layout : LayoutState) (i : ℕ) (group : List ℕ) (c after : Held S) (text : List ℕ) : Type 0 where
+    pub is_name : is_group_name group ≡ true
     pub name : List ℕ
     pub is_next : next_name group ≡ Some name
     pub keeper : SqlKeeper S g
@@ -126,6 +131,8 @@ module _ {S : Type 0} (g : Device S) where
     pub moved : SqlKeeper S g
     pub moves : Moves layout i name keeper moved text
     pub handed : after ≡ below moved
+    pub told : (it : Stored) → Keeps g c it → is_honest moved → text ≡ whole_text layout i name (durable_in it)
+    pub kept : (it : Stored) → Keeps g c it → KeepsPart moved (durable_in it)
 
   -- the store was opened and not moved, or after a fault of the device perhaps was
   pub record HasNotMoved (layout : LayoutState) (i : ℕ) (group : List ℕ) (c after : Held S) (ended : ServiceEnd) : Type 0 where
@@ -159,10 +166,11 @@ module _ {S : Type 0} (g : Device S) where
     pub opened : OpensServed g layout (moving i group) c (Err (error, left))
     pub ends : EndsRefused i error left after ended
 
-  -- no store was looked at: no generation is behind the group's own, or memory ran out
+  -- no store was looked at: no group has the name, none is behind its generation, or memory ran out
   abbrev pub LooksAtNone : List ℕ → Held S → Held S → ServiceEnd → Type 0
   LooksAtNone group c after ended =
-      (after ≡ c) × (((next_name group ≡ None) × (ended ≡ Absent LastGeneration)) ⊎ (ended ≡ Ended Memory))
+      (after ≡ c) × (((is_group_name group ≡ false) × (ended ≡ Absent WrongGroup))
+      ⊎ (((next_name group ≡ None) × (ended ≡ Absent LastGeneration)) ⊎ (ended ≡ Ended Memory)))
 
   -- no store was moved, or after a fault of the device perhaps one was
   abbrev pub IsNotMoved : LayoutState → ℕ → List ℕ → Held S → Held S → ServiceEnd → Type 0

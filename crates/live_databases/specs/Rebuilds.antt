@@ -1,5 +1,5 @@
 -- A site that lost its store is built again, and its store made (the project's own).
-use Rattle.std.specs.Prelude.{◌≡◌, ◌⊎◌, ℕ, List, Some}
+use Rattle.std.specs.Prelude.{◌≡◌, ◌≢◌, ◌⊎◌, ℕ, List, Some}
 use Rattle.sqlite_disk.specs.declared.Disk as disk
 use Rattle.sqlite_wal.specs.Recovery.{Image}
 use Rattle.sqlite_store.specs.declared.store.FileStore.{FileStore}
@@ -15,7 +15,9 @@ use Rattle.store_rows.specs.Holding.{Keeps, KeepsNothing}
 use Rattle.rebuild_engine.specs.Parts.{IsBuiltOf, IsUnbuilt}
 use Rattle.site_store.specs.declared.error.ServedError.{ServedError}
 use Rattle.site_store.specs.Making.{IsLeftNew, IsNew, new_content, to_make}
-use Rattle.site_store.specs.Served.{IsDenied}
+use Rattle.site_store.specs.declared.error.ServedError.TheVariants.{Memory, StoreFault}
+use Rattle.site_store.specs.Opened.{CommitsNothing}
+use Rattle.site_store.specs.Served.{IsDenied, IsPermitted}
 use Rattle.live_databases.specs.declared.rebuilding.RebuildEnd.{RebuildEnd}
 use Rattle.live_databases.specs.declared.rebuilding.RebuildEnd.TheVariants.{Ended, Unbuilt}
 use Rattle.live_databases.specs.declared.service_end.ServiceEnd.{ServiceEnd}
@@ -24,19 +26,22 @@ use Rattle.live_databases.specs.LiveFound.{FindsFiles}
 use Rattle.live_databases.specs.LiveStores.{IsUnserved}
 
 module _ {S : Type 0} (g : Device S) where
-  -- Where nothing was kept the store of a site of the group was made, with these counters. None was made where one was there.
+  -- Where nothing was kept the store of a site of the group was made, with these counters. None was made where anything was there.
   pub record HasMadeAnew (layout : LayoutState) (i : ℕ) (name : List ℕ) (cells : List DurableCell) (c after : Held S) : Type 0 where
     pub is_new : IsNew layout i (Some name) cells
     pub made : KeepsNothing g c → Keeps g after (new_content layout i (Some name) cells)
     pub never : (it : Stored) → Keeps g c it → ¬ HasCleanDisk (state g after)
+    pub blank : HasCleanDisk (state g after) → IsPermitted to_make (state g c).now.schema
 
-  -- It was refused: what was there is there, or after a fault perhaps the store where nothing was.
+  -- It was refused: what was there is there, or after a fault perhaps the store where nothing was; nothing was written before all
+  -- was judged.
   pub record HasNotMadeAnew (layout : LayoutState) (i : ℕ) (name : List ℕ) (cells : List DurableCell) (c after : Held S) (ended : ServiceEnd) : Type 0 where
     pub error : ServedError
     pub is_ended : ended ≡ refused_store error
     pub there : (it : Stored) → Keeps g c it → Keeps g after it
     pub left : KeepsNothing g c → IsLeftNew g layout i (Some name) cells after error
     pub cause : HasCleanDisk (state g after) → IsDenied to_make (state g c).now.schema error
+    pub judged : error ≢ StoreFault → error ≢ Memory → CommitsNothing g c after
 
 module _ {D : Type 0} {d : disk.Ghosts D} where
   -- The site was built again of the lines of the bytes, and its store made over files that held this; the text shows the site.

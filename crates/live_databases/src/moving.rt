@@ -7,16 +7,17 @@ ghost use Rattle.admission_model.specs.Merging.{snapshot_of};
 ghost use Rattle.admission_model.specs.View.{view_of};
 ghost use Rattle.serve_engine.specs.Moved.{moved_text};
 ghost use Rattle.store_rows.specs.Rows.{Stored};
-ghost use Rattle.store_rows.specs.Holding.{Keeps};
+ghost use Rattle.sqlite.specs.Effect.{Database};
+ghost use Rattle.store_rows.specs.Holding.{Keeps, KeepsBeside};
 ghost use Rattle.site_store.specs.Opened.{CommitsNothing};
-ghost use Rattle.site_store.specs.Sql.{KeepsContent, KeepsPart, site_of};
+ghost use Rattle.site_store.specs.Sql.{KeepsContent, KeepsPart, below, site_of};
 ghost use Rattle.live_databases.specs.Moves.{EndsForeign, EndsRefused, HasMoved, IsNotMoved, Moves, MovesNot, TellsNone, TellsWhole, foreign_end, unfit_end};
 
 use crate::service_end::{Absence, ServiceEnd};
 use crate::serving::{refused_store, unloaded};
 use admission_core::{RestoreError, SiteCore};
 use exit_status::{Status, StoreRefusal};
-use group_names::next_name;
+use group_names::{is_group_name, next_name};
 use layout_file::LayoutFault;
 use merge_core::Layout;
 use serve_engine::moved_text;
@@ -41,6 +42,9 @@ pub fn regroup_over<S: Alter + Drop>(
         (λ text. HasMoved S.Store layout site group.now connection result.1 (string_bytes text))
         (λ ended. IsNotMoved S.Store layout site group.now connection result.1 ended) }
 {
+    if !is_group_name(group) {
+        return (Err(ServiceEnd::Absent(Absence::WrongGroup)), connection); // no store is of such a group
+    }
     let next = match next_name(alloc, group) {
         Ok(Some(next)) => next,
         Ok(None) => return (Err(ServiceEnd::Absent(Absence::LastGeneration)), connection),
@@ -145,6 +149,7 @@ fn whole_text<S: Alter>(
         (λ ended. TellsNone layout site keeper.old keeper.new ended) }
     ensures content { (it : Stored) → KeepsContent keeper.old it → KeepsContent keeper.new it }
     ensures part { (d : DurableState) → KeepsPart keeper.old d → KeepsPart keeper.new d }
+    ensures beside { (others : Database) → KeepsBeside S.Store (below keeper.old) others → KeepsBeside S.Store (below keeper.new) others }
     ensures same_site { site_of keeper.new ≡ site_of keeper.old }
 {
     let first = match keeper.load_part(alloc) {

@@ -1,6 +1,6 @@
 -- A store that is made with counters in it.
-use Rattle.std.proofs.Common.{◌≡◌, ◌≢◌, ℕ, true, false, List, [], ◌∷◌, Option, None, Result, Ok, Err, IsTrue, refl, sym, ap, subst, ◌∙◌}
-use Rattle.std.specs.Prelude.{IfErr}
+use Rattle.std.proofs.Common.{◌≡◌, ◌≢◌, inl, inr, ℕ, true, false, List, [], ◌∷◌, Option, None, Result, Ok, Err, IsTrue, refl, sym, ap, subst, ◌∙◌}
+use Rattle.std.specs.Prelude.{IfErr, OnOk}
 use Rattle.std.specs.List.{AllByRecursion}
 use Rattle.sqlite_trees.specs.declared.store.Store.{Ghosts}
 use Rattle.sqlite.specs.Held.{Held}
@@ -24,6 +24,7 @@ use Rattle.store_content.specs.Plan.{IsPlan, IsTellable, Makes, RowsState, after
 use Rattle.store_content.proofs.LawLemmas.{makes, same_rows}
 use Rattle.store_content.proofs.TellableLemmas.{tellable}
 use Rattle.site_store.specs.declared.error.ServedError.{ServedError}
+use Rattle.site_store.specs.declared.error.ServedError.TheVariants.{Memory, StoreFault}
 use Rattle.site_store.specs.Errors.{open_error, served_error}
 use Rattle.site_store.specs.Making.{IsLeftNew, IsNew, counters_alone, new_content}
 use Rattle.site_store.specs.declared.served.Permission.{Permission}
@@ -95,3 +96,14 @@ denied_new (Err e) p schema is = device_denied p schema e is
 -- a store that is to be made is none that is there
 pub true_is_none : true ≡ false → ⊥
 true_is_none is = cc
+
+-- what is known anyway is known of an answer that went well
+pub on_well : {A E : Type 0} {P : Type 0} (r : Result A E) → P → OnOk r P
+on_well (Ok x) p = p
+on_well (Err e) p = tt
+
+-- an answer that only the device refuses is of no other kind
+pub none_judged : {A P : Type 0} (r : Result A ServedError) → IfErr r IsDevice → IfErr r (λ e. e ≢ StoreFault → e ≢ Memory → P)
+none_judged (Ok x) is = tt
+none_judged (Err e) (inl fault) = λ no_fault no_memory. absurd (no_fault fault)
+none_judged (Err e) (inr memory) = λ no_fault no_memory. absurd (no_memory memory)

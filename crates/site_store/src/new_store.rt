@@ -7,8 +7,10 @@ ghost use Rattle.store_rows.specs.Rows.{Stored};
 ghost use Rattle.store_rows.specs.Holding.{Keeps, KeepsNothing};
 ghost use Rattle.store_content.specs.Plan.{IsTellable};
 ghost use Rattle.store_tables.specs.Kept.{connection_of};
+ghost use Rattle.site_store.specs.declared.error.ServedError.TheVariants.{Memory, StoreFault};
+ghost use Rattle.site_store.specs.Opened.{CommitsNothing};
 ghost use Rattle.site_store.specs.Making.{IsLeftNew, IsNew, counters_alone, new_content, to_make};
-ghost use Rattle.site_store.specs.Served.{IsDenied, IsDevice};
+ghost use Rattle.site_store.specs.Served.{IsDenied, IsDevice, IsPermitted};
 ghost use Rattle.site_store.specs.SiteText.{named};
 
 use crate::error::ServedError;
@@ -41,7 +43,9 @@ pub fn make_store<S: Alter>(
     ensures left { KeepsNothing S.Store connection → IfErr result.0 (IsLeftNew S.Store layout.now site (named group.entry) cells.items result.1) }
     ensures there { (it : Stored) → Keeps S.Store connection it → Keeps S.Store result.1 it }
     ensures never { (it : Stored) → Keeps S.Store connection it → HasCleanDisk (state S.Store result.1) → IfOk result.0 (λ _. ⊥) }
+    ensures blank { HasCleanDisk (state S.Store result.1) → OnOk result.0 (IsPermitted to_make (state S.Store connection).now.schema) }
     ensures denied { HasCleanDisk (state S.Store result.1) → IfErr result.0 (IsDenied to_make (state S.Store connection).now.schema) }
+    ensures judged { IfErr result.0 (λ e. e ≢ StoreFault → e ≢ Memory → CommitsNothing S.Store connection result.1) }
 {
     let _ = layout.sites(); // tells that the layout is one
     let mut connection = connection;

@@ -366,6 +366,7 @@ impl<S: Alter> SqlKeeper<S> {
         ensures content { (it : Stored) → KeepsContent self.old it → KeepsContent self.new it }
         ensures kept { (d : DurableState) → KeepsPart self.old d → KeepsPart self.new d }
         ensures either { (d e : DurableState) → KeepsEitherPart self.old d e → KeepsEitherPart self.new d e }
+        ensures beside { (others : Database) → KeepsBeside S.Store (below self.old) others → KeepsBeside S.Store (below self.new) others }
         ensures honest { is_honest self.new → is_honest self.old }
         ensures told { result ≡ Err StoreFault → faults_of self.new ≡ 1 }
         ensures sound { result ≢ Err StoreFault → faults_of self.new ≡ 0 }

@@ -1,8 +1,10 @@
-use Rattle.std.proofs.Common.{◌≡◌, ◌∙◌, List, ℕ, Option, Some, None, inl, inr, refl, sym, ap}
+use Rattle.std.proofs.Common.{rules, ◌≡◌, ◌∙◌, List, ℕ, Option, Some, None, inl, inr, refl, sym, ap}
 use Rattle.std.specs.Prelude.{option_map, string_bytes}
 use Rattle.group_names.specs.Names.{next_name}
 use Rattle.live_databases.specs.declared.service_end.ServiceEnd.{ServiceEnd}
-use Rattle.live_databases.specs.Moves.{HasMoved, IsNotMoved, Moves, MovesNot, moving}
+use Rattle.admission_core.specs.Kept.{DurableState}
+use Rattle.store_content.specs.Content.{durable_in}
+use Rattle.live_databases.specs.Moves.{HasMoved, IsNotMoved, Moves, MovesNot, moving, whole_text}
 use Rattle.live_databases.specs.ServedStores.{OpensServed}
 use Rattle.live_databases.proofs.MoveLemmas.{matched}
 use Rattle.live_databases.proofs.moving.regroup_over.Goals as goal
@@ -10,10 +12,10 @@ use Rattle.live_databases.proofs.moving.regroup_over.Goals as goal
 pub returns-in-Ok-None : goal.returns-in-Ok-None
 returns-in-Ok-None g c =
     let none : next_name c.args.group.now ≡ None = sym c.in-Ok-None.ensures ∙ ap (option_map string_bytes) c.in-Ok-None.field-0-is in
-    inl (refl, inl (none, refl))
+    inl (refl, inr (inl (none, refl)))
 
 pub returns-in-Err : goal.returns-in-Err
-returns-in-Err g c = inl (refl, inr refl)
+returns-in-Err g c = inl (refl, inr (inr refl))
 
 pub returns-in-Err-open_served : goal.returns-in-Err-open_served
 returns-in-Err-open_served g c = inr (inl (record {
@@ -68,6 +70,7 @@ returns g c =
     } in
     matched _ _ _ _ c.move_told-told.result
     (λ text moves. record {
+      is_name = search rules;
       name = name;
       is_next = is_next;
       keeper = keeper;
@@ -76,6 +79,9 @@ returns g c =
       moved = left;
       moves = moves;
       handed = c.into_connection.ensures;
+      told = λ it keeps honest.
+          moves.tells.is_text ∙ ap (λ (d : DurableState). whole_text c.args.layout c.args.site name d) (moves.tells.given (durable_in it) (c.in-Ok-open_served.ensures.store it keeps).1 honest);
+      kept = λ it keeps. moves.part (durable_in it) (c.in-Ok-open_served.ensures.store it keeps).1;
     })
     (λ ended not_moved. inr (inr (record {
       name = name;

@@ -21,4 +21,4 @@ pub returns-in-Err : goal.returns-in-Err
 returns-in-Err g c =
     let made = c.make_store-made.ensures in
     has_not_made g.S.Store c.args.rebuilt.core.layout c.layout.result.now c.args.site c.args.name.now c.args.rebuilt.cells.items c.args.connection c.make_store-made.result.1
-    c.layout.ensures c.make_store-made.result.0 c.in-Err.error _ c.in-Err.is c.refused_store.ensures made.there made.left made.denied
+    c.layout.ensures c.make_store-made.result.0 c.in-Err.error _ c.in-Err.is c.refused_store.ensures made.there made.left made.denied made.judged

@@ -7,7 +7,7 @@ use Rattle.store_tables.specs.Kept.{connection_of}
 use Rattle.store_tables.proofs.KeepLemmas.{leaves_still}
 use Rattle.site_store.specs.Making.{IsLeftNew, new_content, to_make}
 use Rattle.site_store.specs.SiteText.{named}
-use Rattle.site_store.proofs.NewLemmas.{denied_new, is_new, left_new, tells_counters, true_is_none}
+use Rattle.site_store.proofs.NewLemmas.{denied_new, is_new, left_new, none_judged, on_well, tells_counters, true_is_none}
 use Rattle.site_store.proofs.OpenLemmas.{if_honest}
 use Rattle.site_store.proofs.ServedLemmas.{off_store}
 use Rattle.site_store.proofs.new_store.make_store.Goals as goal
@@ -25,6 +25,9 @@ returns-in-Err-clause-left g c keeps =
 
 pub returns-in-Err-clause-there : goal.returns-in-Err-clause-there
 returns-in-Err-clause-there g c it keeps = leaves_still g.S.Store c.args.connection c.check_permission.new.connection (Holds it) c.check_permission.ensures.survives keeps
+
+pub returns-in-Err-clause-judged : goal.returns-in-Err-clause-judged
+returns-in-Err-clause-judged g c = λ no_fault no_memory. c.check_permission.ensures.survives
 
 -- ---- it holds nothing
 
@@ -68,3 +71,12 @@ returns-clause-never g c it keeps clean =
 
 pub returns-clause-denied : goal.returns-clause-denied
 returns-clause-denied g c clean = denied_new c.fill_new-done.result to_make _ c.fill_new-done.ensures.device
+
+pub returns-clause-blank : goal.returns-clause-blank
+returns-clause-blank g c clean =
+    let at = subst (λ (h : Held g.row.S.Denot). HasCleanDisk (state g.S.Store h)) c.into_connection.ensures clean in
+    let before = subst (λ (h : Held g.row.S.Denot). HasCleanDisk (state g.S.Store h)) c.over-tables.ensures.connection (c.fill_new-done.ensures.honest at) in
+    on_well c.fill_new-done.result (c.in-Ok.ensures.granted before)
+
+pub returns-clause-judged : goal.returns-clause-judged
+returns-clause-judged g c = none_judged c.fill_new-done.result c.fill_new-done.ensures.device
