@@ -295,10 +295,10 @@ def regroup(given):
 
 
 def rebuild(given, lost):
-    if again.generation(given.get("--group", "")) in (None, 1):
-        raise Ends(2, "group refused BadWord")
-    if int(given["--site"]) in lost or len(set(lost)) < len(lost):
-        raise Ends(2, "error: a lost site is named twice")
+    if "--group" not in given:
+        raise Ends(2, "error: --group is required")
+    if again.generation(given["--group"]) == 1:
+        raise Ends(2, "group refused NotMoved")
     layout = read_layout(given.get("--layout"))
     store = Store(given, layout)
     if any(j >= layout["sites"] for j in lost):
