@@ -17,7 +17,7 @@ use Rattle.admission_model.specs.Sound.{FitsRow}
 use Rattle.admission_model.proofs.HeardLemmas.{known_fits}
 use Rattle.admission_model.proofs.LawLemmas.{sound_reached}
 use Rattle.admission_core.specs.Core.{Core, Stands}
-use Rattle.admission_core.specs.Kept.{DurableState, durable_of}
+use Rattle.admission_core.specs.Kept.{ChangeState, DurableState, durable_of}
 use Rattle.admission_core.specs.Restored.{IsCoreFrom, IsListed}
 use Rattle.admission_core.proofs.LimitLemmas.{seats_few}
 use Rattle.durable_keeper.specs.Keeping.{IsChange, most_kept}
@@ -25,8 +25,11 @@ use Rattle.desk_log.specs.Log.{begun}
 use Rattle.desk_log.proofs.KeptLemmas.{durable_begun}
 use Rattle.rebuild_laws.specs.Groups.{told_most}
 use Rattle.site_rebuild.specs.Rebuilt.{gone_of, part_by}
-use Rattle.rebuild_engine.specs.Parts.{IsBuiltOf, IsCoreOf, counters_alone, is_alone, is_moved_name}
+use Rattle.rebuild_engine.specs.Parts.{IsBuiltOf, IsCoreOf, is_alone, is_moved_name}
 use Rattle.rebuild_engine.specs.Shown.{shown_text}
+
+abbrev counters_alone : List DurableCell → ChangeState
+counters_alone cells = record { cells = cells; session = None }
 
 -- a site has at most 65,535 seats of a record at the start
 grant_few : (layout : LayoutState) → IsLayout layout → (r s : ℕ) → grant (shape_of layout) r s ≤ 65535

@@ -5,7 +5,6 @@ use Rattle.merge_core.specs.Layout.{LayoutState, shape_of}
 use Rattle.admission_model.specs.declared.durable.DurableCell.{DurableCell}
 use Rattle.admission_model.specs.Account.{Account}
 use Rattle.admission_core.specs.Core.{Core, Stands}
-use Rattle.admission_core.specs.Kept.{ChangeState}
 use Rattle.durable_keeper.specs.Keeping.{IsChange}
 use Rattle.rebuild_laws.specs.Groups.{told_most}
 use Rattle.group_names.specs.Names.{generation_of, is_group_name}
@@ -22,10 +21,6 @@ use Rattle.rebuild_engine.specs.Shown.{shown_text}
 -- the site is lost alone
 abbrev pub is_alone : List ℕ → Bool
 is_alone lost = length lost == 1
-
--- counters and no session
-abbrev pub counters_alone : List DurableCell → ChangeState
-counters_alone cells = record { cells = cells; session = None }
 
 -- the counters with which a site begins that is built again of deltas
 abbrev pub cells_told : LayoutState → ℕ → List ℕ → List DeltaState → List DurableCell
@@ -44,7 +39,7 @@ pub record IsBuiltOf (layout : LayoutState) (i : ℕ) (lost name bytes : List �
   pub rebuilt : IsRebuilt layout lost i deltas (Ok core)
   pub same_layout : core.layout ≡ layout
   pub told : cells ≡ cells_told layout i lost deltas
-  pub is_change : IsChange core.layout i (counters_alone cells)
+  pub is_change : IsChange core.layout i (record { cells = cells; session = None })
   pub is_shown : (a : Account) → Stands a core → shown ≡ shown_text a layout (is_alone lost) deltas
 
 -- the core alone, of these deltas
