@@ -62,7 +62,7 @@ EndsJoin shape source source_after sink sink_after Refused =
 EndsJoin shape source source_after sink sink_after Memory =
     LosesSome source source_after (input_limit + 1) × LacksMemory source.fault source_after.fault × (sink_after ≡ sink)
 EndsJoin shape source source_after sink sink_after Io =
-    LosesSome source source_after (input_limit + 1) × (IsFailure source_after.fault ⊎ HasFault sink_after.fault)
+    LosesSome source source_after (input_limit + 1) × ((IsFailure source_after.fault × (sink_after ≡ sink)) ⊎ HasFault sink_after.fault)
 EndsJoin shape source source_after sink sink_after Usage = ⊥
 EndsJoin shape source source_after sink sink_after (NoLayout fault) = ⊥
 EndsJoin shape source source_after sink sink_after (NoStore refusal) = ⊥

@@ -75,7 +75,7 @@ EndsPlay layout first tables source source_after sink sink_after Refused =
 EndsPlay layout first tables source source_after sink sink_after Memory =
     MayBeFirst (first_sites first layout) layout × LosesSome source source_after (input_limit + 1) × LacksMemory source.fault source_after.fault × (sink_after ≡ sink)
 EndsPlay layout first tables source source_after sink sink_after Io =
-    MayBeFirst (first_sites first layout) layout × LosesSome source source_after (input_limit + 1) × (IsFailure source_after.fault ⊎ HasFault sink_after.fault)
+    MayBeFirst (first_sites first layout) layout × LosesSome source source_after (input_limit + 1) × ((IsFailure source_after.fault × (sink_after ≡ sink)) ⊎ HasFault sink_after.fault)
 EndsPlay layout first tables source source_after sink sink_after Usage = ⊥
 EndsPlay layout first tables source source_after sink sink_after (NoStore refusal) = ⊥
 EndsPlay layout first tables source source_after sink sink_after Fault = ⊥
