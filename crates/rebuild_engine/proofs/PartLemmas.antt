@@ -1,16 +1,17 @@
 -- The durable part of a site that is built again is a change of nothing.
-use Rattle.std.proofs.Common.{◌≡◌, ℕ, ◌+◌, ◌<◌, ◌≤◌, ◌≢◌, ◌⊎◌, inl, inr, Bool, true, false, cond, eqb, List, [], ◌∷◌, length, get_or, Option, Some, None, IsSome, refl, sym, ap, subst, ◌∙◌, arith}
-use Rattle.std.specs.Prelude.{All}
+use Rattle.std.proofs.Common.{◌≡◌, ℕ, ◌+◌, ◌<◌, ◌≤◌, ◌≢◌, ◌⊎◌, inl, inr, Bool, true, false, cond, eqb, List, [], ◌∷◌, length, get_or, Option, Some, None, IsSome, Err, refl, sym, ap, subst, ◌∙◌, arith}
+use Rattle.std.specs.Prelude.{All, ◌==◌, not}
 use Rattle.std.specs.List.{AllByRecursion}
 use Rattle.std.proofs.lemmas.Bool.{cases_Bool, cases_eq, cond-true, cond-false}
 use Rattle.std.proofs.lemmas.List.Elements.{All-from_recursion, recursion_from_All}
 use Rattle.merge_core.specs.declared.cell.Cell.{Cell}
 use Rattle.merge_core.specs.declared.cell.Cell.TheVariants.{Out, Taken, Ann, Fin}
+use Rattle.merge_core.specs.Delta.{DeltaState}
 use Rattle.merge_core.specs.Layout.{LayoutState, IsLayout, RecordShape, shape_of}
 use Rattle.merge_core.specs.Rows.{grant, start_counter, no_record}
 use Rattle.admission_model.specs.declared.durable.DurableCell.{DurableCell}
 use Rattle.admission_model.specs.Account.{Account}
-use Rattle.admission_model.specs.Durable.{Named, Place, at_slot, counter_named, named, pick, slots_of}
+use Rattle.admission_model.specs.Durable.{Named, Place, at_slot, counter_named, named, pick, places, slots_of, start_slots}
 use Rattle.admission_model.specs.Knowledge.{known}
 use Rattle.admission_model.specs.Reached.{IsReached}
 use Rattle.admission_model.specs.Sound.{FitsRow}
@@ -24,8 +25,13 @@ use Rattle.durable_keeper.specs.Keeping.{IsChange, most_kept}
 use Rattle.desk_log.specs.Log.{begun}
 use Rattle.desk_log.proofs.KeptLemmas.{durable_begun}
 use Rattle.rebuild_laws.specs.Groups.{told_most}
-use Rattle.site_rebuild.specs.Rebuilt.{gone_of, part_by}
-use Rattle.rebuild_engine.specs.Parts.{IsBuiltOf, IsCoreOf, is_alone, is_moved_name}
+use Rattle.site_rebuild.specs.declared.rebuilding.RebuildError.{RebuildError}
+use Rattle.site_rebuild.specs.declared.rebuilding.RebuildError.TheVariants as site
+use Rattle.site_rebuild.specs.Rebuilt.{IsRebuilt, gone_of, part_by}
+use Rattle.text_input.specs.Lines.{lines_of}
+use Rattle.rebuild_engine.specs.Lines.{AreRead}
+use Rattle.rebuild_engine.specs.Stops.{stop_of}
+use Rattle.rebuild_engine.specs.Parts.{IsBuiltOf, IsCoreOf, IsUnbuiltIn, is_alone, is_moved_name}
 use Rattle.rebuild_engine.specs.Shown.{shown_text}
 
 abbrev counters_alone : List DurableCell → ChangeState
@@ -70,7 +76,8 @@ picked_few test value n (p ∷ ps) few = by (test p.r p.slot) (picked_few test v
     by false rest = rest
 
 small_cells : (a : Account) → IsReached a → IsLayout a.origin.layout → All (λ c. c.value ≤ most_kept) (durable_of a).cells
-small_cells a reached is = All-from_recursion _ (durable_of a).cells (picked_few _ (slots_of a) most_kept _ at_place)
+small_cells a reached is = All-from_recursion (λ (c : DurableCell). c.value ≤ most_kept) (durable_of a).cells
+    (picked_few (λ (r slot : ℕ). not (slots_of a r slot == start_slots a r slot)) (slots_of a) most_kept (places a.origin.layout) at_place)
   where
     at_place : (r slot : ℕ) → slots_of a r slot ≤ most_kept
     at_place r slot =
@@ -120,3 +127,14 @@ has_built layout is i lost name bytes core deltas cells shown moved of tell show
           (subst (λ (cs : List DurableCell). IsChange layout i (counters_alone cs)) (sym same) (is_change layout is i part core from));
       is_shown = λ a stands. show a stands ∙ ap (λ (l : LayoutState). shown_text a l (is_alone lost) deltas) from.stands.shows.layout;
     }
+
+-- why there is none, where the deltas are refused
+module _ (layout : LayoutState) (i : ℕ) (lost name bytes : List ℕ) (deltas : List DeltaState) (read : AreRead layout.records name (is_alone lost) (lines_of bytes) deltas) where
+  pub unbuilt_by : (error : RebuildError) → IsRebuilt layout lost i deltas (Err error) → IsUnbuiltIn layout i lost name bytes (stop_of error)
+  unbuilt_by site.Memory is = tt
+  unbuilt_by site.BadSite is = ((λ same. cc), (deltas, read, is))
+  unbuilt_by (site.NoDelta j) is = ((λ same. cc), (deltas, read, is))
+  unbuilt_by (site.BadDelta k) is = ((λ same. cc), (deltas, read, is))
+  unbuilt_by site.CounterFull is = ((λ same. cc), (deltas, read, is))
+  unbuilt_by site.Acted is = ((λ same. cc), (deltas, read, is))
+  unbuilt_by site.Apart is = ((λ same. cc), (deltas, read, is))

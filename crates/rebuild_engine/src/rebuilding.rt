@@ -4,6 +4,7 @@ ghost use Rattle.merge_core.specs.Layout.{IsLayout};
 ghost use Rattle.admission_core.specs.Core.{Stands};
 ghost use Rattle.admission_core.specs.Kept.{durable_of};
 ghost use Rattle.admission_model.specs.Account.{Account};
+ghost use Rattle.rebuild_engine.specs.Stops.{stop_of};
 ghost use Rattle.rebuild_engine.specs.Parts.{IsBuiltOf, IsCoreOf, IsUnbuilt, IsUnbuiltIn, is_alone, is_moved_name};
 
 use crate::lines::{LineRefusal, LineStop, read_deltas};
@@ -97,8 +98,17 @@ fn core_of(
     };
     match rebuilt_core(alloc, layout, site, lost, &deltas) {
         Ok(core) => Ok((core, deltas)),
-        Err(RebuildError::Memory) => Err(RebuildStop::NoRoom),
-        Err(error) => Err(RebuildStop::Site(error)),
+        Err(error) => Err(stop_of(error)),
+    }
+}
+
+// What stops a rebuild whose deltas are refused: that, or that memory ran out.
+fn stop_of(error: RebuildError) -> RebuildStop
+    ensures { result ≡ stop_of error }
+{
+    match error {
+        RebuildError::Memory => RebuildStop::NoRoom,
+        error => RebuildStop::Site(error),
     }
 }
 

@@ -103,7 +103,7 @@ on_well (Ok x) p = p
 on_well (Err e) p = tt
 
 -- an answer that only the device refuses is of no other kind
-pub none_judged : {A P : Type 0} (r : Result A ServedError) → IfErr r IsDevice → IfErr r (λ e. e ≢ StoreFault → e ≢ Memory → P)
-none_judged (Ok x) is = tt
-none_judged (Err e) (inl fault) = λ no_fault no_memory. absurd (no_fault fault)
-none_judged (Err e) (inr memory) = λ no_fault no_memory. absurd (no_memory memory)
+pub none_judged : {A : Type 0} (P : Type 0) (r : Result A ServedError) → IfErr r IsDevice → IfErr r (λ e. e ≢ StoreFault → e ≢ Memory → P)
+none_judged P (Ok x) is = tt
+none_judged P (Err e) (inl fault) = λ no_fault no_memory. absurd (no_fault fault)
+none_judged P (Err e) (inr memory) = λ no_fault no_memory. absurd (no_memory memory)

@@ -3,7 +3,6 @@ use Rattle.std.specs.Prelude.{IfErr, OnOk}
 use Rattle.sqlite.specs.State.{HasCleanDisk}
 use Rattle.sqlite.specs.Held.{Held, state}
 use Rattle.store_rows.specs.Holding.{Holds, HoldsNothing, Keeps, KeepsNothing}
-use Rattle.store_tables.specs.Kept.{connection_of}
 use Rattle.store_tables.proofs.KeepLemmas.{leaves_still}
 use Rattle.site_store.specs.Making.{IsLeftNew, new_content, to_make}
 use Rattle.site_store.specs.SiteText.{named}
@@ -79,4 +78,4 @@ returns-clause-blank g c clean =
     on_well c.fill_new-done.result (c.in-Ok.ensures.granted before)
 
 pub returns-clause-judged : goal.returns-clause-judged
-returns-clause-judged g c = none_judged c.fill_new-done.result c.fill_new-done.ensures.device
+returns-clause-judged g c = none_judged _ c.fill_new-done.result c.fill_new-done.ensures.device

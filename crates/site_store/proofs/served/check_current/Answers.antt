@@ -1,4 +1,4 @@
-use Rattle.std.proofs.Common.{◌≡◌, Bool, Err, Result, inl, sym, ap, subst, ◌∙◌}
+use Rattle.std.proofs.Common.{Bool, Err, Result, inl, sym, ap, subst, ◌∙◌}
 use Rattle.std.proofs.lemmas.Bool.{both_ways}
 use Rattle.std.proofs.lemmas.Result.{err_from_is_err_and}
 use Rattle.store_tables.specs.declared.error.TableError.{TableError}

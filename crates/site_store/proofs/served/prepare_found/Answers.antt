@@ -17,8 +17,8 @@ use Rattle.site_store.specs.declared.error.ServedError.{ServedError}
 use Rattle.site_store.specs.declared.error.ServedError.TheVariants as served
 use Rattle.site_store.specs.Errors.{open_error}
 use Rattle.site_store.specs.SiteText.{named}
-use Rattle.site_store.specs.Opened.{IsCurrent, IsDue, IsReady}
-use Rattle.site_store.specs.Served.{Finds, IsContentCause, IsDevice, IsDeviceOrMark, IsTaken, IsUntaken}
+use Rattle.site_store.specs.Opened.{IsCurrent, IsDue}
+use Rattle.site_store.specs.Served.{Finds, IsContentCause, IsDevice, IsDeviceOrMark, IsUntaken}
 use Rattle.site_store.proofs.OpenLemmas.{beside_some, refused}
 use Rattle.site_store.proofs.OwnLemmas.{any_of, any_of_either, fault_of, if_err_from, some_found, some_kept, table_cause}
 use Rattle.site_store.proofs.RangeLemmas.{in_range}

@@ -1,4 +1,4 @@
-use Rattle.std.proofs.Common.{inl, ap, sym, subst, ◌∙◌, arith}
+use Rattle.std.proofs.Common.{inl, ap, sym, subst, ◌∙◌}
 use Rattle.store_rows.specs.Holding.{HoldsBeside}
 use Rattle.admission_core.specs.Kept.{DurableState}
 use Rattle.store_tables.specs.Kept.{connection_of}

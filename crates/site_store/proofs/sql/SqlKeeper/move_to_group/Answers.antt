@@ -1,4 +1,6 @@
 use Rattle.std.proofs.Common.{◌≡◌, ◌∙◌, List, ℕ, Some, Result, Err, ap, sym, arith}
+use Rattle.store_rows.specs.Holding.{Holds}
+use Rattle.store_tables.proofs.KeepLemmas.{leaves_first}
 use Rattle.store_tables.specs.declared.error.TableError.{TableError}
 use Rattle.store_tables.specs.Kept.{connection_of}
 use Rattle.store_tables.specs.Transacts.{with_site}
@@ -12,6 +14,11 @@ use Rattle.site_store.proofs.sql.SqlKeeper.move_to_group.Goals as goal
 
 abbrev error : TableError → Result (Unit {0}) TableError
 error e = Err e
+
+pub returns-then-faults-gt0-clause-doubt : goal.returns-then-faults-gt0-clause-doubt
+returns-then-faults-gt0-clause-doubt g c it keeps same =
+    let k = c.args.self.now in
+    leaves_first g.S.Store (connection_of k.tables) (Holds it) (Holds (with_site (site_text k.site (Some c.args.group.now)) it)) keeps.kept
 
 pub returns-in-Ok-clause-content : goal.returns-in-Ok-clause-content
 returns-in-Ok-clause-content g c it keeps =

@@ -1,4 +1,3 @@
-use Rattle.std.proofs.Common.{ap, arith}
 use Rattle.store_rows.specs.Holding.{HoldsBeside}
 use Rattle.store_tables.specs.Kept.{connection_of}
 use Rattle.store_tables.specs.Marking.{HasOutdatedMark}
