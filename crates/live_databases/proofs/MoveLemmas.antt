@@ -20,8 +20,8 @@ use Rattle.live_databases.specs.Moves.{BeginsNone, GivesBack, LoadsNone, Moves, 
 
 -- an answer by what is known of each kind
 pub matched : {A E : Type 0} (P P2 : A → Type 0) (Q Q2 : E → Type 0) (r : Result A E) → ((x : A) → P x → P2 x) → ((e : E) → Q e → Q2 e) → MatchResult r P Q → MatchResult r P2 Q2
-matched P P2 Q Q2 (Ok x) yes no is = yes x is
-matched P P2 Q Q2 (Err e) yes no is = no e is
+matched P P2 Q Q2 (Ok x) well ill is = well x is
+matched P P2 Q Q2 (Err e) well ill is = ill e is
 
 module _ {S : Type 0} (g : Device S) (layout : LayoutState) (i : ℕ) (name : List ℕ) (k l m : SqlKeeper S g) where
   -- what is kept is one of two
@@ -91,3 +91,7 @@ module _ {S : Type 0} (g : Device S) (layout : LayoutState) (i : ℕ) (name : Li
 -- want of memory is no fault
 pub memory_is_none : {P : Type 0} → keeping.Memory ≡ keeping.StoreFault → P
 memory_is_none is = cc
+
+-- an answer that went well is no refusal
+pub ok_is_none : {A E P : Type 0} (x : A) (e : E) → Ok x ≡ Err e → P
+ok_is_none x e is = cc

@@ -105,22 +105,22 @@ untold_move g layout i group c after ended (inl (same, inr (inr is))) = is_untol
 untold_move g layout i group c after ended (inr (inl refuses)) = untold_refused g i refuses.left after ended refuses.error refuses.ends
 untold_move g layout i group c after ended (inr (inr found)) = untold_why layout i found.keeper found.left ended found.moves_not.why
 
-module _ {D : Type 0} {d : disk.Ghosts D} (layout : LayoutState) (i : ℕ) (group : List ℕ) (image : Image) where
-  pub moves_some : (text : List ℕ) → FindsMoved {d = d} layout i group image text → MovesSome layout i group text
+module _ {D : Type 0} (d : disk.Ghosts D) (layout : LayoutState) (i : ℕ) (group : List ℕ) (image : Image) where
+  pub moves_some : (text : List ℕ) → FindsMoved d layout i group image text → MovesSome layout i group text
   moves_some text found =
       let has = found.moved in
       let tells = has.moves.tells in
       record { name = has.name; is_next = has.is_next; first = tells.first; cells = tells.cells; sessions = tells.sessions; is_text = tells.is_text }
 
-  pub untold_unmoved : (ended : ServiceEnd) → EndsUnmoved {d = d} layout i group image ended → EndsUntold ended
+  pub untold_unmoved : (ended : ServiceEnd) → EndsUnmoved d layout i group image ended → EndsUntold ended
   untold_unmoved ended (inl unserved) = untold_unserved ended unserved
   untold_unmoved ended (inr found) = untold_move over_files layout i group found.c found.after ended found.unmoved
 
-module _ {D : Type 0} {d : disk.Ghosts D} (layout : LayoutState) (i : ℕ) (lost name bytes : List ℕ) (image : Image) where
-  pub rebuilds_some : (text : List ℕ) → FindsRebuilt {d = d} layout i lost name bytes image text → RebuildsSome layout i lost name bytes text
+module _ {D : Type 0} (d : disk.Ghosts D) (layout : LayoutState) (i : ℕ) (lost name bytes : List ℕ) (image : Image) where
+  pub rebuilds_some : (text : List ℕ) → FindsRebuilt d layout i lost name bytes image text → RebuildsSome layout i lost name bytes text
   rebuilds_some text found = record { core = found.core; cells = found.cells; built = found.built }
 
-  pub rebuilds_none : (ended : RebuildEnd) → EndsNotRebuilt {d = d} layout i lost name bytes image ended → RebuildsNone layout i lost name bytes ended
+  pub rebuilds_none : (ended : RebuildEnd) → EndsNotRebuilt d layout i lost name bytes image ended → RebuildsNone layout i lost name bytes ended
   rebuilds_none (rebuilding.Unbuilt stop) is = is
   rebuilds_none (rebuilding.Ended ended) (inl unserved) = untold_unserved ended unserved
   rebuilds_none (rebuilding.Ended ended) (inr found) = is_untold ended _ found.refused.is_ended (untold_store found.refused.error)

@@ -177,7 +177,7 @@ module _ {S : Type 0} (g : Device S) where
   IsNotMoved layout i group c after ended =
       LooksAtNone group c after ended ⊎ (RefusesMove layout i group c after ended ⊎ HasNotMoved layout i group c after ended)
 
-module _ {D : Type 0} {d : disk.Ghosts D} where
+module _ {D : Type 0} (d : disk.Ghosts D) where
   -- the store in files that held this was moved
   pub record FindsMoved (layout : LayoutState) (i : ℕ) (group : List ℕ) (image : Image) (text : List ℕ) : Type 0 where
     pub c : Held (FileStore D d)

@@ -43,7 +43,7 @@ module _ {S : Type 0} (g : Device S) where
     pub cause : HasCleanDisk (state g after) → IsDenied to_make (state g c).now.schema error
     pub judged : error ≢ StoreFault → error ≢ Memory → CommitsNothing g c after
 
-module _ {D : Type 0} {d : disk.Ghosts D} where
+module _ {D : Type 0} (d : disk.Ghosts D) where
   -- The site was built again of the lines of the bytes, and its store made over files that held this; the text shows the site.
   pub record FindsRebuilt (layout : LayoutState) (i : ℕ) (lost name bytes : List ℕ) (image : Image) (text : List ℕ) : Type 0 where
     pub core : Core

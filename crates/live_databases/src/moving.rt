@@ -128,7 +128,10 @@ fn move_told<S: Alter>(
         (λ text. Moves layout site name.now keeper.old keeper.new (string_bytes text))
         (λ ended. MovesNot layout site name.now keeper.old keeper.new ended) }
 {
-    let text = whole_text(alloc, keeper, layout, site, name)?;
+    let text = match whole_text(alloc, keeper, layout, site, name) {
+        Ok(text) => text,
+        Err(ended) => return Err(ended),
+    };
     match keeper.move_to_group(name) {
         Ok(()) => Ok(text),
         Err(error) => Err(unloaded(error)),

@@ -10,6 +10,8 @@ use crate::rebuilding::{RebuildEnd, make_rebuilt_over};
 use crate::service_end::ServiceEnd;
 use merge_core::Layout;
 use rebuild_engine::rebuilt_site;
+use sqlite::FileFrom;
+use sqlite_disk::Disk;
 
 /// Moves the store of a site at a path to the next generation of its group, and gives the text to print, as
 /// [`regroup_over`](crate::regroup_over) does. `S` stands for what the files at the path hold. A database that another process
@@ -23,8 +25,8 @@ pub fn regroup_found<S: Beginning>(
 ) -> Result<String, ServiceEnd>
     requires { site < layout.sites }
     ensures { MatchResult result
-        (λ text. FindsMoved layout site group.now (image_at S.Start) (string_bytes text))
-        (λ ended. EndsUnmoved layout site group.now (image_at S.Start) ended) }
+        (λ text. FindsMoved ⟦<FileFrom<S> as Disk>⟧ layout site group.now (image_at S.Start) (string_bytes text))
+        (λ ended. EndsUnmoved ⟦<FileFrom<S> as Disk>⟧ layout site group.now (image_at S.Start) ended) }
 {
     let (connection, _place) = match open_once::<S>(rt, path, false) {
         Ok(opened) => opened,
@@ -50,8 +52,8 @@ pub fn rebuild_found<S: Beginning>(
     bytes: &[u8],
 ) -> Result<String, RebuildEnd>
     ensures { MatchResult result
-        (λ text. FindsRebuilt layout site lost.now name.now bytes.now (image_at S.Start) (string_bytes text))
-        (λ ended. EndsNotRebuilt layout site lost.now name.now bytes.now (image_at S.Start) ended) }
+        (λ text. FindsRebuilt ⟦<FileFrom<S> as Disk>⟧ layout site lost.now name.now bytes.now (image_at S.Start) (string_bytes text))
+        (λ ended. EndsNotRebuilt ⟦<FileFrom<S> as Disk>⟧ layout site lost.now name.now bytes.now (image_at S.Start) ended) }
 {
     let rebuilt = match rebuilt_site(rt.alloc(), layout, site, lost, name, bytes) {
         Ok(rebuilt) => rebuilt,

@@ -1,4 +1,4 @@
-use Rattle.std.proofs.Common.{inl, inr, refl}
+use Rattle.std.proofs.Common.{inr}
 use Rattle.live_databases.proofs.LiveLemmas.{ends_over, unserved_end}
 use Rattle.live_databases.specs.Services.{served_by}
 use Rattle.live_databases.proofs.databases.serve_found.Goals as goal

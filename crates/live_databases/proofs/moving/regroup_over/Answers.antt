@@ -1,4 +1,4 @@
-use Rattle.std.proofs.Common.{rules, ◌≡◌, ◌∙◌, List, ℕ, Option, Some, None, inl, inr, refl, sym, ap}
+use Rattle.std.proofs.Common.{rules, Ok, ◌≡◌, ◌∙◌, List, ℕ, Option, Some, None, inl, inr, refl, sym, ap}
 use Rattle.std.specs.Prelude.{option_map, string_bytes}
 use Rattle.group_names.specs.Names.{next_name}
 use Rattle.live_databases.specs.declared.service_end.ServiceEnd.{ServiceEnd}
@@ -41,32 +41,32 @@ returns-in-Err-open_served g c = inr (inl (record {
   ends = c.end_refused-ended.ensures;
 }))
 
-pub move_told-told-requires-its_site : goal.move_told-told-requires-its_site
-move_told-told-requires-its_site g c = c.in-Ok-open_served.ensures.keeper.its_site
+pub move_told-told-requires-clause-its_site : goal.move_told-told-requires-clause-its_site
+move_told-told-requires-clause-its_site g c = c.in-Ok.ensures.keeper.its_site
 
 pub returns : goal.returns
 returns g c =
     let name = c.as_str.result.now in
     let is_next : next_name c.args.group.now ≡ Some name =
     sym c.in-Ok-Some.ensures ∙ ap (option_map string_bytes) c.in-Ok-Some.field-0-is ∙ ap (λ (n : List ℕ). Some n) (sym c.as_str.ensures.value) in
-    let keeper = c.in-Ok-open_served.opened.0 in
+    let keeper = c.in-Ok.opened.0 in
     let left = c.move_told-told.new.keeper in
-    let opened = record {
-      stored = c.in-Ok-open_served.ensures.store;
-      blank = c.in-Ok-open_served.ensures.blank;
-      by_schema = c.in-Ok-open_served.ensures.schema;
-      created = c.in-Ok-open_served.ensures.created;
-      judged = c.in-Ok-open_served.ensures.judged;
-      marked = c.in-Ok-open_served.ensures.marked;
-      unmarked = c.in-Ok-open_served.ensures.unmarked;
-      settles = c.in-Ok-open_served.ensures.settles;
-      own = c.in-Ok-open_served.ensures.own;
-      settles_or = c.in-Ok-open_served.ensures.settles_or;
-      left = c.in-Ok-open_served.ensures.left;
-      left_or = c.in-Ok-open_served.ensures.left_or;
-      fault = c.in-Ok-open_served.ensures.fault;
-      current = c.in-Ok-open_served.ensures.current;
-      beside = c.in-Ok-open_served.ensures.beside;
+    let opened : OpensServed g.S.Store c.args.layout (moving c.args.site c.args.group.now) c.args.connection (Ok (keeper, c.in-Ok.opened.1)) = record {
+      stored = c.in-Ok.ensures.store;
+      blank = c.in-Ok.ensures.blank;
+      by_schema = c.in-Ok.ensures.schema;
+      created = c.in-Ok.ensures.created;
+      judged = c.in-Ok.ensures.judged;
+      marked = c.in-Ok.ensures.marked;
+      unmarked = c.in-Ok.ensures.unmarked;
+      settles = c.in-Ok.ensures.settles;
+      own = c.in-Ok.ensures.own;
+      settles_or = c.in-Ok.ensures.settles_or;
+      left = c.in-Ok.ensures.left;
+      left_or = c.in-Ok.ensures.left_or;
+      fault = c.in-Ok.ensures.fault;
+      current = c.in-Ok.ensures.current;
+      beside = c.in-Ok.ensures.beside;
     } in
     matched _ _ _ _ c.move_told-told.result
     (λ text moves. record {
@@ -74,20 +74,20 @@ returns g c =
       name = name;
       is_next = is_next;
       keeper = keeper;
-      made = c.in-Ok-open_served.opened.1;
+      made = c.in-Ok.opened.1;
       opened = opened;
       moved = left;
       moves = moves;
       handed = c.into_connection.ensures;
       told = λ it keeps honest.
-          moves.tells.is_text ∙ ap (λ (d : DurableState). whole_text c.args.layout c.args.site name d) (moves.tells.given (durable_in it) (c.in-Ok-open_served.ensures.store it keeps).1 honest);
-      kept = λ it keeps. moves.part (durable_in it) (c.in-Ok-open_served.ensures.store it keeps).1;
+          moves.tells.is_text ∙ ap (λ (d : DurableState). whole_text c.args.layout c.args.site name d) (moves.tells.given (durable_in it) (c.in-Ok.ensures.store it keeps).1 honest);
+      kept = λ it keeps. moves.part (durable_in it) (c.in-Ok.ensures.store it keeps).1;
     })
     (λ ended not_moved. inr (inr (record {
       name = name;
       is_next = is_next;
       keeper = keeper;
-      made = c.in-Ok-open_served.opened.1;
+      made = c.in-Ok.opened.1;
       opened = opened;
       left = left;
       moves_not = not_moved;

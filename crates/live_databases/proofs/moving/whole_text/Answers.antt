@@ -1,4 +1,4 @@
-use Rattle.std.proofs.Common.{Result, Err, inl, inr, ap, refl, absurd}
+use Rattle.std.proofs.Common.{Result, Err, inl, inr, ap, refl}
 use Rattle.admission_core.specs.Kept.{DurableState}
 use Rattle.durable_keeper.specs.declared.error.KeeperError.{KeeperError}
 use Rattle.durable_keeper.specs.declared.error.KeeperError.TheVariants.{Memory}
@@ -22,8 +22,8 @@ returns-in-Err-restore-clause-told g c = inr (record {
   is_ended = c.unfit.ensures;
 })
 
-pub returns-in-Err-core_text-clause-told : goal.returns-in-Err-core_text-clause-told
-returns-in-Err-core_text-clause-told g c = inl (record { error = Memory; is_ended = refl; fault = memory_is_none })
+pub returns-clause-told : goal.returns-clause-told
+returns-clause-told g c = inl (record { error = Memory; is_ended = refl; fault = memory_is_none })
 
 pub returns-in-Ok-core_text-clause-told : goal.returns-in-Ok-core_text-clause-told
 returns-in-Ok-core_text-clause-told g c =
