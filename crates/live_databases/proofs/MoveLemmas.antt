@@ -95,3 +95,10 @@ memory_is_none is = cc
 -- an answer that went well is no refusal
 pub ok_is_none : {A E P : Type 0} (x : A) (e : E) → Ok x ≡ Err e → P
 ok_is_none x e is = cc
+
+-- what is known of an answer of each kind
+pub when_ok : {A E : Type 0} (P : A → Type 0) (Q : E → Type 0) (r : Result A E) (x : A) → r ≡ Ok x → MatchResult r P Q → P x
+when_ok {A} {E} P Q r x is known = subst (λ (s : Result A E). MatchResult s P Q) is known
+
+pub when_err : {A E : Type 0} (P : A → Type 0) (Q : E → Type 0) (r : Result A E) (e : E) → r ≡ Err e → MatchResult r P Q → Q e
+when_err {A} {E} P Q r e is known = subst (λ (s : Result A E). MatchResult s P Q) is known

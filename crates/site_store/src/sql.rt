@@ -274,6 +274,7 @@ impl<S: Alter> SqlKeeper<S> {
         ensures beside { (a b : Stored) → (others : Database) → KeepsEither S.Store connection a b → KeepsBeside S.Store connection others
             → KeepsBeside S.Store (left_served result) others }
         ensures honest { IfOk result (λ x. is_honest x.0 → HasCleanDisk (state S.Store connection)) }
+        ensures idle { IfErr result (λ x. x.1.in_transaction ≡ false) }
     {
         let mut connection = connection;
         match check_permission(&mut connection, permission) {
