@@ -1,1 +1,2 @@
 mod RefusalLemmas
+mod ShellLemmas

@@ -1,4 +1,4 @@
-ghost use Rattle.std.specs.Prelude.{◌≡◌, ◌⊎◌, None, Some, map, MatchOption, MatchResult, option_copied, option_map, string_bytes};
+ghost use Rattle.std.specs.Prelude.{◌≡◌, ◌⊎◌, [], None, Some, unwrap_or, map, MatchOption, MatchResult, option_copied, option_map, string_bytes};
 ghost use Rattle.clap.specs.Words.{kind_of};
 ghost use Rattle.command_arguments.specs.Arguments.{words_of};
 ghost use Rattle.program_shell.specs.Services.{marking_of};
@@ -156,12 +156,12 @@ fn carry_out<
             (code, source, sink)
         }
         Command::Regroup { site } => {
-            let group = asked.group.unwrap_or(""); // clap has refused `regroup` without one
+            let group = group_of(asked);
             let code = regroup_site(rt, path, layout, site, group, &mut sink, errors);
             (code, source, sink)
         }
         Command::Rebuild { site } => {
-            let group = asked.group.unwrap_or("");
+            let group = group_of(asked);
             let lost = asked.lost.as_slice();
             let code = rebuild_site(
                 rt,
@@ -193,6 +193,16 @@ fn carry_out<
             );
             (ended.end(errors), source, sink)
         }
+    }
+}
+
+// The name of the group. Clap has refused `regroup` and `rebuild` without one.
+fn group_of<'a>(asked: &Request<'a>) -> &'a str
+    ensures { result.now ≡ unwrap_or (option_copied asked.now.group) [] }
+{
+    match asked.group {
+        Some(name) => name,
+        None => "",
     }
 }
 

@@ -1,4 +1,5 @@
 use Rattle.std.proofs.Common.{rules, inl, sym, Ok, Err}
+use Rattle.program_shell.proofs.ShellLemmas.{carried_by}
 use Rattle.program_shell.proofs.shell.run_with.Goals as goal
 
 pub returns-in-Err-layout_at : goal.returns-in-Err-layout_at
@@ -22,5 +23,6 @@ returns g c =
       group_fits = search rules;
       layout = Ok c.in-Ok-layout_at.layout;
       found = search rules;
-      carried_out = rw (sym c.in-Ok.ensures.command, sym c.in-Ok.ensures.out, sym c.in-Ok.ensures.group, sym c.in-Ok.ensures.lost, sym c.in-Ok.ensures.words) c.carry_out.ensures;
+      carried_out = carried_by _ _ _ _ _ _ _ _ _ _ _ _ _ _ _ _ _ _ _ _ _ c.in-Ok.ensures.command c.in-Ok.ensures.out c.in-Ok.ensures.group c.in-Ok.ensures.lost
+          c.in-Ok.ensures.words c.carry_out.ensures;
     })
