@@ -32,8 +32,8 @@ pub enum TestGate {
     },
 }
 
-// Whether the number is reached within so many turns.
-fn is_reached_soon(met: &AtomicU64, all: u64) -> bool {
+/// Whether the number is reached within so many turns.
+pub fn is_reached_soon(met: &AtomicU64, all: u64) -> bool {
     for _ in 0..1_000_000_000u64 {
         if met.load(Ordering::SeqCst) >= all {
             return true;

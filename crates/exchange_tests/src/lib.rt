@@ -19,6 +19,8 @@ mod listed;
 #[cfg(test)]
 mod nets;
 #[cfg(test)]
+mod ordered;
+#[cfg(test)]
 mod pairs;
 #[cfg(test)]
 mod sites;
@@ -28,3 +30,5 @@ mod stops;
 mod texts;
 #[cfg(test)]
 mod verdicts;
+#[cfg(test)]
+mod waits;

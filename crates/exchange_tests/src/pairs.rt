@@ -399,10 +399,10 @@ fn merges_in(report: &PairReport) -> usize {
 }
 
 #[test]
-fn a_thousand_turns_with_64_records(rt: HostRuntime) {
-    let found = runs_long(&rt, rt.alloc(), 1000);
+fn more_than_a_thousand_turns_with_64_records(rt: HostRuntime) {
+    let found = runs_long(&rt, rt.alloc(), 1001);
     assert!(rt;
-        found == Some((true, [1000, 1000], Verdict::Consistent)),
+        found == Some((true, [1001, 1001], Verdict::Consistent)),
         "{found:?}"
     );
 }

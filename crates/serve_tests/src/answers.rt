@@ -388,8 +388,12 @@ fn a_site_with_an_older_store_serves_no_more(rt: HostRuntime) {
     assert!(rt; other == None, "{other:?}");
 }
 
+// Two seats of the first record, three of the second.
+const TWO_RECORDS: &str = "sites = 2\n[[record]]\nname = \"a\"\nseats = 2\nhome = 0\nproblem = 1\n\
+    [[record]]\nname = \"b\"\nseats = 3\nhome = 0\nproblem = 1\n";
+
 // A delta that gives more rights than there are seats is refused whole, and one that gives all seats is not.
-static TOO_MANY: [Story; 2] = [
+static TOO_MANY: [Story; 3] = [
     (
         TWO_SITES,
         1,
@@ -418,6 +422,21 @@ static TOO_MANY: [Story; 2] = [
               take {\"from\":0,\"rows\":[{\"ann\":0,\"fin\":0,\"out\":[4,3],\"r\":0,\"s\":0,\"taken\":2}],\"v\":1}\nshow a\n",
             Status::Done,
             "refused TooManySeats 0\nmerged 3\nrights 2 inside 1 unfinished 0\n",
+        ),
+    ),
+    // of two records the second one
+    (
+        TWO_RECORDS,
+        1,
+        (
+            b"take {\"from\":0,\"rows\":[{\"ann\":0,\"fin\":0,\"out\":[2,1],\"r\":0,\"s\":0,\"taken\":0},{\"ann\":0,\"fin\":0,\"out\":[6,4],\"r\":1,\"s\":0,\"taken\":3}],\"v\":1}\nshow a\nshow b\n",
+            Status::Done,
+            "refused TooManySeats 1\nrights 0 inside 0 unfinished 0\nrights 0 inside 0 unfinished 0\n",
+        ),
+        (
+            b"take {\"from\":0,\"rows\":[{\"ann\":0,\"fin\":0,\"out\":[2,1],\"r\":0,\"s\":0,\"taken\":0},{\"ann\":0,\"fin\":0,\"out\":[3,3],\"r\":1,\"s\":0,\"taken\":0}],\"v\":1}\nshow a\nshow b\n",
+            Status::Done,
+            "merged 2\nrights 1 inside 0 unfinished 0\nrights 3 inside 0 unfinished 0\n",
         ),
     ),
 ];

@@ -1,5 +1,6 @@
 //! How the service ends where the reader, the writer, the store or the log fails.
 use crate::fakes::{Counting, Failing, Refusal};
+use admission_core::{Durable, DurableCell, Phase, Session};
 use durable_keeper::{Keeper, MemoryKeeper};
 use exit_status::{Status, StoreRefusal};
 use layout_file::built_in;
@@ -168,11 +169,48 @@ fn a_store_that_keeps_no_change_is_told(rt: HostRuntime) {
     }
 }
 
-// How the service ends over a store that can't be read, and how many bytes it is told.
-fn unread(alloc: Global) -> Option<(Status, usize)> {
+// What is wrong with a store: it can't be read; or it gives back a counter at a record's slot, or a reader that has a
+// seat where that counter tells so.
+#[derive(Clone, Copy)]
+enum Wrong {
+    Failed,
+    Cell(u16, u16, u64),
+    Reader,
+}
+
+static WRONG_STORES: [(Wrong, StoreRefusal); 4] = [
+    (Wrong::Failed, StoreRefusal::StoreFault),
+    // of a record that is not there, and as it was at the start
+    (Wrong::Cell(1, 200, 1), StoreRefusal::WrongCounters),
+    (Wrong::Cell(0, 200, 0), StoreRefusal::WrongCounters),
+    // without a seat
+    (Wrong::Reader, StoreRefusal::WrongSessions),
+];
+
+// What such a store gives back.
+fn part(alloc: Global, wrong: Wrong) -> Option<Durable> {
+    let mut cells = Vec::new(alloc);
+    let mut sessions = Vec::new(alloc);
+    match wrong {
+        Wrong::Failed => {}
+        Wrong::Cell(r, slot, value) => cells.push(DurableCell { r, slot, value }).ok()?,
+        Wrong::Reader => sessions
+            .push(Session {
+                r: 0,
+                h: 7,
+                phase: Phase::Reader,
+            })
+            .ok()?,
+    }
+    Some(Durable::new(cells, sessions))
+}
+
+// How the service ends over such a store, and how many bytes it is told.
+fn unread(alloc: Global, wrong: Wrong) -> Option<(Status, usize)> {
     let layout = built_in(alloc).ok()?;
     let mut keeper = Failing::new(alloc, &layout, 0, 9, Refusal::Fault).ok()?;
-    keeper.failed = true;
+    keeper.failed = matches!(wrong, Wrong::Failed);
+    keeper.first = Some(part(alloc, wrong)?);
     let mut reader = Giving::new(FIVE_LINES, NEVER);
     let mut writer = Keeping::new(alloc, NEVER);
     let mut talk = StreamConversation::new(
@@ -198,9 +236,11 @@ fn unread(alloc: Global) -> Option<(Status, usize)> {
 }
 
 #[test]
-fn a_store_that_can_not_be_read_is_refused(rt: HostRuntime) {
-    let wanted = (Status::NoStore(StoreRefusal::StoreFault), 0);
-    assert!(rt; unread(rt.alloc()) == Some(wanted));
+fn a_store_that_is_not_read_or_wrong_is_refused(rt: HostRuntime) {
+    for (row, (wrong, refusal)) in WRONG_STORES.iter().enumerate() {
+        let wanted = (Status::NoStore(*refusal), 0);
+        assert!(rt; unread(rt.alloc(), *wrong) == Some(wanted), "row {row}");
+    }
 }
 
 // How many entries the log takes before it refuses one, why, how many changes the keeper keeps before it finds no memory

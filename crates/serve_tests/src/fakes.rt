@@ -19,13 +19,15 @@ pub enum Refusal {
 }
 
 /// A keeper in memory that keeps so many changes, and not the next one: it finds no memory for it, once, or its device
-/// fails for good.
+/// fails for good. It gives back what it kept, or another part.
 #[derive(Drop)]
 pub struct Failing {
     pub keeper: MemoryKeeper,
     pub left: u64,
     pub refusal: Refusal,
     pub failed: bool,
+    /// What it gives back in place of what it kept.
+    pub first: Option<Durable>,
     /// How often it was told a change, be it an empty one, or a mark.
     pub told: Cell<u64>,
 }
@@ -48,6 +50,7 @@ impl Failing {
             left,
             refusal,
             failed: false,
+            first: None,
             told: Cell::new(0),
         })
     }
@@ -95,6 +98,10 @@ impl Keeper for Failing {
     fn load(&mut self, alloc: Global) -> Result<Durable, KeeperError> {
         if self.failed {
             return Err(KeeperError::StoreFault);
+        }
+        if let Some(first) = &self.first {
+            let copy = first.try_copy(alloc)?;
+            return Ok(copy);
         }
         self.keeper.load(alloc)
     }

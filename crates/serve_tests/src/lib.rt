@@ -26,6 +26,8 @@ mod log_mending;
 #[cfg(test)]
 mod long_lines;
 #[cfg(test)]
+mod many_sessions;
+#[cfg(test)]
 mod order;
 #[cfg(test)]
 mod outdated;

@@ -252,6 +252,44 @@ fn the_front_of_a_first_line_is_dropped(rt: HostRuntime) {
     }
 }
 
+// The number of rows of 61 records at 16 sites.
+const ROWS: u64 = 976;
+
+// A line that asks to merge a delta with the rows of all sites for records 1 to 60, which are not there.
+fn long_take(alloc: Global) -> Option<String> {
+    let mut text = String::from_str(alloc, "take {\"from\":1,\"rows\":[").ok()?;
+    for row in 16..ROWS {
+        if row > 16 {
+            text.push_str(",").ok()?;
+        }
+        push_row(alloc, &mut text, row / 16, row % 16)?;
+    }
+    text.push_str("],\"v\":1}\n").ok()?;
+    Some(text)
+}
+
+// Writes a row of 16 sites in which nothing is told.
+fn push_row(alloc: Global, text: &mut String, r: u64, s: u64) -> Option<()> {
+    text.push_str("{\"ann\":0,\"fin\":0,\"out\":[0,0,0,0,0,0,0,0,0,0,0,0,0,0,0,0],\"r\":")
+        .ok()?;
+    let numbers = format!(in alloc; "{r},\"s\":{s},\"taken\":0}}").ok()?;
+    text.push_str(numbers.as_str()).ok()
+}
+
+// Whether such a call and its reply stand in the log, in a line of more than 65,536 bytes.
+fn is_logged(alloc: Global) -> Option<bool> {
+    let layout = built_in(alloc).ok()?;
+    let lines = long_take(alloc)?;
+    let (bytes, _first) = kept(alloc, &layout, 0, lines.as_bytes())?;
+    let consistent = is_consistent(alloc, &layout, bytes.as_slice())?;
+    Some(consistent && bytes.len() > 65_536)
+}
+
+#[test]
+fn a_long_line_is_logged(rt: HostRuntime) {
+    assert!(rt; is_logged(rt.alloc()) == Some(true));
+}
+
 // Five lines of a site of two, of which the log takes so many texts, that of the run before them; the file that is left is
 // opened again. How the service ends, and whether the log is consistent then.
 fn fails_at(alloc: Global, layout: &Layout, texts: u64) -> Option<(Status, bool)> {

@@ -379,10 +379,11 @@ fn filled(ended: &Outcome) -> Option<(usize, Numbers, usize, (u64, u64))> {
 fn longest<R: Threads + Wait + Sync>(
     rt: &R,
     alloc: Global,
+    passes: u16,
     all: &[Asked],
 ) -> Option<(usize, Numbers, usize, (u64, u64))> {
     let mut plan = ONE_PASS;
-    plan.passes = 64;
+    plan.passes = passes;
     plan.limit = 65_536;
     let store = store_with(0, Fault::Never);
     filled(&run_opening(rt, alloc, plan, store, all).ok()?)
@@ -391,7 +392,14 @@ fn longest<R: Threads + Wait + Sync>(
 #[test]
 fn the_longest_log_is_closed_by_all_passes(rt: HostRuntime) {
     let all = fillers(rt.alloc(), 65_536).expect(&rt, "memory");
-    let longest = longest(&rt, rt.alloc(), all.as_slice());
+    let longest = longest(&rt, rt.alloc(), 64, all.as_slice());
+    assert!(rt; longest == Some((65_536, (22, 0, 0), 65_536, (1, 0))));
+}
+
+#[test]
+fn the_longest_log_is_closed_by_one_pass(rt: HostRuntime) {
+    let all = fillers(rt.alloc(), 65_536).expect(&rt, "memory");
+    let longest = longest(&rt, rt.alloc(), 1, all.as_slice());
     assert!(rt; longest == Some((65_536, (22, 0, 0), 65_536, (1, 0))));
 }
 
