@@ -359,7 +359,12 @@ impl LiveDatabases for Fake {
         site: u16,
         group: &str,
     ) -> Result<String, ServiceEnd> {
-        let connection = self.moved_database(path, &layout, site)?;
+        let Some(connection) = self.moved_database(path, &layout, site) else {
+            return Err(ServiceEnd::Absent(Absence::NoStore));
+        };
+        if !connection.is_autocommit() {
+            return Err(ServiceEnd::Ended(Status::Memory));
+        }
         let (told, _connection) = regroup_over(self.alloc, connection, layout, site, group);
         told
     }
@@ -402,30 +407,24 @@ impl Fake {
         path: &str,
         layout: &Layout,
         site: u16,
-    ) -> Result<Connection<MemStore>, ServiceEnd> {
-        if kept(&self.opened, path).is_err() || kept(&self.opened, "\n").is_err() {
-            return Err(ServiceEnd::Ended(Status::Memory));
-        }
+    ) -> Option<Connection<MemStore>> {
+        kept(&self.opened, path).ok()?;
+        kept(&self.opened, "\n").ok()?;
         if path != "old.db" {
-            return Err(ServiceEnd::Absent(Absence::NoStore));
+            return None;
         }
-        let Ok(connection) = Connection::open_in_memory(self.alloc) else {
-            return Err(ServiceEnd::Ended(Status::Memory));
-        };
+        let connection = Connection::open_in_memory(self.alloc).ok()?;
+        if !connection.is_autocommit() {
+            return None;
+        }
         let permission = Permission {
             create: true,
             grow: false,
         };
-        match SqlKeeper::open_served(
-            self.alloc,
-            connection,
-            layout,
-            site,
-            Some("east"),
-            permission,
-        ) {
-            Ok((keeper, _)) => Ok(keeper.into_connection()),
-            Err(_) => Err(ServiceEnd::Ended(Status::Memory)),
+        let group = Some("east");
+        match SqlKeeper::open_served(self.alloc, connection, layout, site, group, permission) {
+            Ok((keeper, _)) => Some(keeper.into_connection()),
+            Err(_) => None,
         }
     }
 }
