@@ -265,7 +265,7 @@ static WRONG: [Wrong; 18] = [
     ),
     (
         &[b"seat_cli", b"--"],
-        "error: 'seat_cli' requires a subcommand but one was not provided\n  [subcommands: join, play, site, serve, ask, judge, run]\n\n\
+        "error: 'seat_cli' requires a subcommand but one was not provided\n  [subcommands: join, play, site, serve, ask, regroup, rebuild, judge, run]\n\n\
          Usage: seat_cli [COMMAND]\n\nFor more information, try '--help'.\n",
     ),
     (
