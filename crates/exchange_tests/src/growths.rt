@@ -1,9 +1,11 @@
 //! Three sites with all their links, of which any one allocation may be refused. A turn that meets the refusal is counted.
 //! For each link, the turns that are counted and the texts that are merged are as many as the turns of a runner.
+use crate::gates::TestGate;
 use crate::nets::{THREE, jobs_of, port_to};
-use crate::sites::{Job, Outcome, run_site};
+use crate::sites::{Job, Outcome, job_of, run_site};
 use admission_core::{Ask, Call};
-use exchange_threads::Report;
+use crossbeam_channel::unbounded;
+use exchange_threads::{End, Report};
 use std::alloc::Global;
 use std::sync::Wait;
 use std::thread;
@@ -120,6 +122,31 @@ where
             _ => None,
         },
     }
+}
+
+// The turns of an outbox whose channel takes memory for its texts, those of them that met want of memory, the texts that it
+// sent, and those that are there.
+fn unbounded_counts<R: Threads + Wait + Sync>(rt: &R, alloc: Global) -> Option<[u64; 4]> {
+    let (sender, receiver) = unbounded(alloc).ok()?;
+    let mut ends = Vec::new(alloc);
+    ends.push(End::Outlet(sender, TestGate::Always)).ok()?;
+    let ended = run_site(rt, alloc, job_of(THREE, 0, ends, 40))?;
+    let Report::Sent(told) = ended.reports.as_slice().first()? else {
+        return None;
+    };
+    Some([told.turns, told.memory, told.sent, receiver.len() as u64])
+}
+
+// At most one allocation is refused. Where a site could not be opened or closed, another run meets no refusal.
+#[test]
+fn refused_growths_of_an_unbounded_channel_are_counted(rt: HostRuntime) {
+    let counts = match unbounded_counts(&rt, rt.alloc()) {
+        Some(counts) => counts,
+        None => unbounded_counts(&rt, rt.alloc()).unwrap_or([0; 4]),
+    };
+    let whole = counts == [40, 0, 40, 40];
+    let lacking = counts == [40, 1, 39, 39];
+    assert!(rt; whole || lacking, "{counts:?}");
 }
 
 // At most one allocation is refused, so at most one turn is counted.
