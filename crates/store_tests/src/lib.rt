@@ -24,8 +24,6 @@ mod logs_judged;
 #[cfg(test)]
 mod moves;
 #[cfg(test)]
-mod moves_stopped;
-#[cfg(test)]
 mod shells;
 #[cfg(test)]
 mod sites;
