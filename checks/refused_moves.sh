@@ -4,8 +4,12 @@
 # then the store is as it was, or there is none; or, where a write found no memory, with status 7, behind which the store
 # is moved, or is there or not. Whatever came of it, the same command or the next one goes well over what is there then.
 #
-#     checks/refused_moves.sh    needs gcc, and builds the program where it is not built; takes some minutes
+#     checks/refused_moves.sh [PART PARTS]
+#
+# With two numbers it refuses only each PARTS-th allocation, from that of number PART on, so that several runs share the work.
+# Needs gcc, and builds the program where it is not built; takes some minutes.
 set -eu
+part=${1:-1} parts=${2:-1}
 . "$(dirname "$0")/refusing.sh"
 ./seat_cli --version >/dev/null
 program=$PWD/crates/seat_cli/out/seat_cli
@@ -39,9 +43,9 @@ can_be_made() {
 
 # refused_in_turn COMMAND WORD..
 refused_in_turn() {
-    none=0 io=0 whole=0 n=0
+    none=0 io=0 whole=0 n=$((part - parts))
     while :; do
-        n=$((n + 1))
+        n=$((n + parts))
         rm -f mark store store-wal store-shm
         if [ "$1" = regroup ]; then cp first store; fi
         status=0
@@ -57,7 +61,7 @@ refused_in_turn() {
             *) fails "$@" ;;
         esac
     done
-    echo "$1: each of $((n - 1)) allocations was refused in turn: $none runs ended with status 6, $io with status 7, $whole gave the whole answer"
+    echo "$1: $((none + io + whole)) allocations were refused in turn: $none runs ended with status 6, $io with status 7, $whole gave the whole answer"
 }
 
 fails() {
