@@ -7,13 +7,17 @@ pub use admission_model::{
 };
 pub use change::{Change, SessionChange};
 pub use durable::Durable;
+pub use kept::{Counters, kept_cells};
 pub use prepared::Prepared;
+pub use replies::is_memory;
 pub use restoring::RestoreError;
 pub use site_core::SiteCore;
 
 mod change;
 mod durable;
+mod kept;
 mod prepared;
+mod replies;
 mod restoring;
 mod site_core;
 mod starts;

@@ -16,6 +16,8 @@ mod table;
 
 ghost use Rattle.std.specs.Prelude.{◌≡◌};
 ghost use Rattle.admission_core.specs.declared.restoring.RestoreError.TheVariants.{Memory};
+ghost use Rattle.merge_core.specs.Layout.{IsLayout};
+ghost use Rattle.admission_core.specs.Restored.{IsRestored};
 
 /// Why a store's counters and sessions are not what a stop leaves of a site.
 #[derive(Clone, Copy, Debug, PartialEq, Eq, Error)]
@@ -66,9 +68,6 @@ impl SiteCore {
         restored(alloc, layout, site, durable)
     }
 }
-
-ghost use Rattle.merge_core.specs.Layout.{IsLayout};
-ghost use Rattle.admission_core.specs.Restored.{IsRestored};
 
 // The core that a durable part makes, or what is wrong with it.
 fn restored(

@@ -203,8 +203,8 @@ impl SiteCore {
         Reply::Merged(self.join(delta))
     }
 
-    // Serves what a caller asks. Nothing is made for a store.
-    fn ask(&mut self, ask: Ask) -> Reply
+    /// Serves what a caller asks, as the calls above do. Nothing is made for a store. Linear in the sites.
+    pub fn ask(&mut self, ask: Ask) -> Reply
         ensures { IsServed self.old self.new (AskCall ask) result }
     {
         if let Some(refusal) = self.ask_reason(ask) {

@@ -5,3 +5,15 @@ pub struct DurableCell {
     pub slot: u16,
     pub value: u64,
 }
+
+impl DurableCell {
+    ghost use Rattle.std.specs.Prelude.{◌≡◌};
+    ghost use Rattle.admission_model.specs.Durable.{is_before};
+
+    /// Whether it stands before another one: by record, then by slot.
+    pub fn is_before(self, other: DurableCell) -> bool
+        ensures { result ≡ is_before self other }
+    {
+        self.r < other.r || (self.r == other.r && self.slot < other.slot)
+    }
+}

@@ -1,3 +1,7 @@
+ghost use Rattle.std.specs.Prelude.{◌≡◌, ◌<◌};
+ghost use Rattle.merge_core.specs.Layout.{LayoutState};
+ghost use Rattle.desk_log.specs.Desk.{IsMadeFor, IsBegun};
+
 use crate::entry::{Entries, Entry};
 use crate::error::OpenError;
 use crate::log::Log;
@@ -219,10 +223,6 @@ impl<K: Keeper> Desk<K> {
         (first, entries, keeper)
     }
 }
-
-ghost use Rattle.std.specs.Prelude.{◌≡◌, ◌<◌};
-ghost use Rattle.merge_core.specs.Layout.{LayoutState};
-ghost use Rattle.desk_log.specs.Desk.{IsMadeFor, IsBegun};
 
 // The core and the log of a site that begins from what its keeper gives back.
 fn begun<K: Keeper>(

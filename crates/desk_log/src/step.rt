@@ -13,7 +13,7 @@ ghost use Rattle.durable_keeper.specs.Keeping.{IsChange};
 ghost use Rattle.durable_keeper.specs.declared.error.KeeperError.TheVariants.{Memory, StoreFault};
 ghost use Rattle.desk_log.specs.Desk.{IsMadeFor, IsStep, IsCopied, KeepsChange};
 
-use admission_core::{Ask, Call, Change, Refusal, Reply, SiteCore};
+use admission_core::{Ask, Call, Change, Refusal, Reply, SiteCore, is_memory};
 use durable_keeper::{Keeper, KeeperError};
 use std::alloc::{AllocError, Global};
 
@@ -57,13 +57,6 @@ fn copied_if(alloc: Global, wanted: bool, reply: &Reply) -> Result<Option<Reply>
     }
     let copy = copied_reply(alloc, reply)?;
     Ok(Some(copy))
-}
-
-// The reply is want of memory.
-fn is_memory(reply: &Reply) -> bool
-    ensures { result ≡ is_memory reply.now }
-{
-    matches!(reply, Reply::Refused(Refusal::Memory))
 }
 
 // Has a change kept; where nothing changes, no store is called.

@@ -1,17 +1,10 @@
 //! Counters in their order, and some put among others.
 ghost use Rattle.std.specs.Prelude.{◌≡◌, ◌+◌, ◌<◌, ◌≤◌, length, vec_len, vec_capacity, IfOk, MatchOption};
-ghost use Rattle.admission_model.specs.Durable.{AreRising, is_before, is_same_place, put_cell, put_cells};
+ghost use Rattle.admission_model.specs.Durable.{AreRising, is_same_place, put_cell, put_cells};
 ghost use Rattle.durable_keeper.specs.Placing.{IsPlaceOf};
 
 use admission_core::DurableCell;
 use std::alloc::{AllocError, Global};
-
-/// Whether a cell stands before another: by record, then by slot.
-pub fn is_before(c: DurableCell, d: DurableCell) -> bool
-    ensures { result ≡ is_before c d }
-{
-    c.r < d.r || (c.r == d.r && c.slot < d.slot)
-}
 
 /// Counters that rise by record and slot, put at their places among others that rise; of two at one place the one that is put
 /// stays. Linear.
@@ -28,10 +21,10 @@ pub fn put_cells(
     'cells: while i < put.len() && j < kept.len() {
         let first = put[i];
         let other = kept[j];
-        if is_before(other, first) {
+        if other.is_before(first) {
             all.push(other)?;
             j += 1;
-        } else if is_before(first, other) {
+        } else if first.is_before(other) {
             all.push(first)?;
             i += 1;
         } else {
@@ -64,7 +57,7 @@ fn count_before(kept: &[DurableCell], cell: DurableCell) -> usize
     let mut high = kept.len();
     'cells: while low < high {
         let middle = low + (high - low) / 2;
-        if is_before(kept[middle], cell) {
+        if kept[middle].is_before(cell) {
             low = middle + 1;
         } else {
             high = middle;

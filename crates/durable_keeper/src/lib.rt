@@ -2,7 +2,7 @@
 //! memory.
 #![tactic(auto)]
 
-pub use cells::{is_before, put_cells};
+pub use cells::put_cells;
 pub use error::KeeperError;
 pub use keeper::Keeper;
 pub use memory::MemoryKeeper;

@@ -3,6 +3,8 @@
 
 pub use status::Status;
 pub use store_refusal::StoreRefusal;
+pub use unread::write_too_long;
 
 mod status;
 mod store_refusal;
+mod unread;

@@ -1,9 +1,8 @@
 //! What a group's name tells.
 ghost use Rattle.std.specs.Prelude.{◌≡◌, ◌≤◌, ◌++◌, ◌∷◌, decimal, option_copied, option_map, string_bytes, IfOk, Option};
-ghost use Rattle.std.specs.List.{list_all};
-ghost use Rattle.merge_core.specs.Layout.{is_name_byte};
 ghost use Rattle.group_names.specs.Names.{base_of, behind_dot, generation_of, has_base_form, is_answer_word, is_base_name, is_group_name, is_look_word, is_moved, is_reply_word, most_generations, moved_name, next_name, number_behind, told_generation, whole_number};
 
+use merge_core::are_name_bytes;
 use std::alloc::{AllocError, Global};
 use text_parts::{number_at, push_field};
 
@@ -136,11 +135,4 @@ fn has_base_form(name: &[u8]) -> bool
         }
         [] => false,
     }
-}
-
-// Whether all bytes are such as names have behind their first letter.
-fn are_name_bytes(bytes: &[u8]) -> bool
-    ensures { result ≡ list_all is_name_byte bytes.now }
-{
-    bytes.iter().all(|b| (*b >= b'a' && *b <= b'z') || (*b >= b'0' && *b <= b'9') || *b == b'-')
 }

@@ -7,7 +7,7 @@ use crate::fault::refusal_line;
 use crate::joining::Joining;
 use crate::lines::JoinStop;
 use delta_codec::encode;
-use exit_status::Status;
+use exit_status::{Status, write_too_long};
 use merge_core::{Book, Layout};
 use std::alloc::{AllocError, Global};
 use std::io::{Read, Write};
@@ -29,7 +29,7 @@ pub fn join_engine<R: Read, W: Write>(
     match read_into(source, INPUT_LIMIT, &mut joining) {
         Ok(()) => answer_input(alloc, layout, joining, sink),
         Err(InputError::TooLong) => {
-            if !sink.write_and_flush("input refused TooLong\n") {
+            if !write_too_long(sink) {
                 return Status::Io;
             }
             Status::Refused

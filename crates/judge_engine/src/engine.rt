@@ -6,7 +6,7 @@ ghost use Rattle.judge_engine.specs.Engine.{AnswersLogs, EndsJudge, IsJudgement,
 use crate::cut::Cut;
 use crate::verdict::verdict_line;
 use desk_log::Transcript;
-use exit_status::Status;
+use exit_status::{Status, write_too_long};
 use log_judge::{Verdict, cut_table, judge};
 use merge_core::Layout;
 use std::alloc::{AllocError, Global};
@@ -28,7 +28,7 @@ pub fn judge_engine<R: Read, W: Write>(
     match read_input(alloc, source) {
         Ok(input) => answer_logs(alloc, layout, cut, input.as_slice(), sink),
         Err(InputError::TooLong) => {
-            if !sink.write_and_flush("input refused TooLong\n") {
+            if !write_too_long(sink) {
                 return Status::Io;
             }
             Status::Refused

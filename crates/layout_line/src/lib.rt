@@ -8,7 +8,7 @@ ghost use Rattle.layout_line.specs.Line.{record_text, records_text, line_of, IsL
 
 use merge_core::{Layout, RecordSpec};
 use std::alloc::{AllocError, Global};
-use text_parts::{number_at, push_field};
+use text_parts::{is_same, number_at, push_field};
 
 /// How a line compares with a layout, at one of its sites.
 #[derive(Clone, Copy, Debug, PartialEq, Eq)]
@@ -58,13 +58,6 @@ fn are_homes_below(records: &[RecordSpec], sites: u64) -> bool
     ensures { IsTrue result ↔ All (λ r. r.home < sites) records.now }
 {
     records.iter().all(|spec| u64::from(spec.home) < sites)
-}
-
-/// Whether two texts are the same.
-fn is_same(a: &[u8], b: &[u8]) -> bool
-    ensures { IsTrue result ↔ (a.now ≡ b.now) }
-{
-    a == b
 }
 
 /// The number of sites in front of the records, which begin with no digit, where a line ends with these.

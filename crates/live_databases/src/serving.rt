@@ -1,7 +1,7 @@
 //! A service over a database, whatever this lies on.
 ghost use Rattle.std.specs.Prelude.{◌≡◌, false};
 ghost use Rattle.live_databases.specs.Services.{served_by};
-ghost use Rattle.live_databases.specs.LiveStores.{ServesOver};
+ghost use Rattle.live_databases.specs.LiveStores.{ServesOver, LogsOver, unloaded_end, unlogged_end};
 ghost use Rattle.live_databases.specs.Endings.{refused_store};
 
 use crate::service_end::{Absence, ServiceEnd};
@@ -90,8 +90,6 @@ pub(crate) fn refused_store(error: ServedError) -> ServiceEnd
         ServedError::Memory => ServiceEnd::Ended(Status::Memory),
     }
 }
-
-ghost use Rattle.live_databases.specs.LiveStores.{LogsOver, unloaded_end, unlogged_end};
 
 /// The same with a log in the file at a path, which is opened for what the store kept: each call is in it before its change
 /// is committed. Whether this call made the store, too.

@@ -1,3 +1,6 @@
+ghost use Rattle.std.specs.Prelude.{◌<◌};
+ghost use Rattle.live_site.specs.Live.{IsBegunCore};
+
 use crate::call_log::CallLog;
 use crate::step::step;
 use admission_core::{Call, SiteCore};
@@ -150,9 +153,6 @@ impl<K: LiveKeeper> LiveSite<K> {
         keeper
     }
 }
-
-ghost use Rattle.std.specs.Prelude.{◌<◌};
-ghost use Rattle.live_site.specs.Live.{IsBegunCore};
 
 // The core of a site that begins from what its keeper gives back.
 fn begun<K: Keeper>(

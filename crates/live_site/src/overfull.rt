@@ -9,6 +9,8 @@ ghost use Rattle.admission_model.specs.View.{rights_of};
 ghost use Rattle.admission_core.specs.Core.{IsCore, core_view};
 ghost use Rattle.live_site.specs.Overfull.{first_overfull, lacking, overfull_in};
 ghost use Rattle.live_site.specs.Walk.{given_with, rise};
+ghost use Rattle.merge_core.specs.declared.cell.Cell.TheVariants.{Out};
+ghost use Rattle.merge_core.specs.Rows.{counter_in, counters_of};
 
 use admission_core::{Call, SiteCore};
 use merge_core::{Cell, Delta, Row};
@@ -67,9 +69,6 @@ fn rise(core: &SiteCore, row: &Row) -> u64
     let i = core.site();
     moved_to(row, i).saturating_sub(core.book().counter(row.r, row.s, Cell::Out(i)))
 }
-
-ghost use Rattle.merge_core.specs.declared.cell.Cell.TheVariants.{Out};
-ghost use Rattle.merge_core.specs.Rows.{counter_in, counters_of};
 
 // How many rights a row shows as moved to site i.
 fn moved_to(row: &Row, i: u16) -> u64

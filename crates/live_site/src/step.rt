@@ -16,18 +16,11 @@ ghost use Rattle.live_site.specs.Steps.{IsNotKept, KeepsCall, KeepsMark, is_refu
 use crate::call_log::{CallLog, LogFault};
 use crate::live_site::Outcome;
 use crate::overfull::overfull_in;
-use admission_core::{Call, Change, Refusal, Reply, SiteCore};
+use admission_core::{Call, Change, Refusal, Reply, SiteCore, is_memory};
 use durable_keeper::{Keeper, KeeperError};
 use live_keeper::LiveKeeper;
 use script_text::push_reply;
 use std::alloc::AllocError;
-
-// The reply is want of memory.
-fn is_memory(reply: &Reply) -> bool
-    ensures { result ≡ is_memory reply.now }
-{
-    matches!(reply, Reply::Refused(Refusal::Memory))
-}
 
 // The reply is a refusal.
 fn is_refused(reply: &Reply) -> bool

@@ -1,5 +1,7 @@
 //! The log of a live site, in a file.
-ghost use Rattle.std.specs.Prelude.{◌≡◌, false, Some};
+ghost use Rattle.std.specs.Prelude.{◌≡◌, false, Some, IfOk, string_bytes};
+ghost use Rattle.live_site.specs.Entries.{entry_of};
+ghost use Rattle.log_file.specs.Mending.{entry_line};
 
 use crate::doubt::push_line;
 use crate::file::LogFile;
@@ -76,10 +78,6 @@ impl<F: LogFile> FileLog<F> {
         file
     }
 }
-
-ghost use Rattle.std.specs.Prelude.{IfOk, string_bytes};
-ghost use Rattle.live_site.specs.Entries.{entry_of};
-ghost use Rattle.log_file.specs.Mending.{entry_line};
 
 // Has a text be the line of a call and its reply. Copies both for the time of the call.
 fn write_line(

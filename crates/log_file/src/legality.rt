@@ -5,6 +5,8 @@ ghost use Rattle.transcript_reader.specs.Reading.{transcripts_below};
 ghost use Rattle.transcript_text.specs.Texts.{MayBegin};
 ghost use Rattle.log_judge.specs.Cut.{runs_at};
 ghost use Rattle.log_file.specs.Runs.{Fits, IsOnlyOf, new_run, with_new};
+ghost use Rattle.log_judge.specs.Verdict.{IsLegalSite};
+ghost use Rattle.log_judge.specs.declared.verdict.Verdict.TheVariants.{Consistent};
 
 use admission_core::Durable;
 use desk_log::{Entries, Run, Runs, Transcript};
@@ -96,8 +98,6 @@ fn with_run(
     }
 }
 
-ghost use Rattle.log_judge.specs.Verdict.{IsLegalSite};
-
 // Whether the runs of a site, which alone has some, are legal.
 fn are_legal(
     alloc: Global,
@@ -114,8 +114,6 @@ fn are_legal(
     let verdict = judge(alloc, layout, transcripts, nothing.as_slice())?;
     Ok(is_consistent(verdict))
 }
-
-ghost use Rattle.log_judge.specs.declared.verdict.Verdict.TheVariants.{Consistent};
 
 // Whether this is the verdict.
 fn is_consistent(verdict: Verdict) -> bool

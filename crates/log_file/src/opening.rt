@@ -3,7 +3,7 @@ ghost use Rattle.std.specs.Prelude.{◌≡◌, ◌++◌, ◌≤◌, IfOk, MatchB
 ghost use Rattle.std.specs.Io.KnownBytes.{Consumes, IsAtEnd};
 ghost use Rattle.transcript_text.specs.Texts.{MayBegin};
 ghost use Rattle.log_file.specs.Opening.{IsBegunLog, IsOpenedLog, Puts, run_line};
-ghost use Rattle.log_file.specs.Errors.{IsHoldError, IsReadError, open_error};
+ghost use Rattle.log_file.specs.Errors.{IsHoldError, IsReadError, open_error, Cuts};
 
 use crate::file::{LogFile, SystemFile};
 use crate::file_log::FileLog;
@@ -170,8 +170,6 @@ fn put<F: LogFile>(file: &mut F, size: u64, kept: u64, text: &str) -> bool
 {
     cut_to(file, size, kept) && file.append(text)
 }
-
-ghost use Rattle.log_file.specs.Errors.{Cuts};
 
 // Has a file of so many bytes keep the first ones alone. Whether that succeeded.
 fn cut_to<F: LogFile>(file: &mut F, size: u64, kept: u64) -> bool

@@ -10,7 +10,7 @@ ghost use Rattle.desk_log.specs.Log.{is_fault, account_after};
 ghost use Rattle.log_replay.specs.Replay.{IsFollowed, IsEnd, TellsOwn};
 
 use crate::own::{OwnRows, own_rows};
-use admission_core::{Call, Refusal, Reply, SiteCore};
+use admission_core::{Call, Refusal, Reply, SiteCore, is_memory};
 use desk_log::Entry;
 use desk_log::same::same_reply;
 use std::alloc::{AllocError, Global};
@@ -20,13 +20,6 @@ use std::alloc::{AllocError, Global};
 pub(crate) struct Mark {
     pub left: u64,
     pub own: Option<OwnRows>,
-}
-
-// The reply is want of memory.
-pub(crate) fn is_memory(reply: &Reply) -> bool
-    ensures { result ≡ is_memory reply.now }
-{
-    matches!(reply, Reply::Refused(Refusal::Memory))
 }
 
 // The reply is the store's fault.

@@ -8,8 +8,7 @@ ghost use Rattle.admission_core.specs.Kept.{durable_of};
 ghost use Rattle.log_replay.specs.Legal.{begins_with, start_account};
 ghost use Rattle.log_replay.specs.Replay.{FitsNext, FitsSites, IsFirstCore, IsJoint, IsKept, tried_at};
 
-use crate::entries::is_memory;
-use admission_core::{Call, Durable, SiteCore};
+use admission_core::{Call, Durable, SiteCore, is_memory};
 use desk_log::same::same_durable;
 use desk_log::{Entry, Run};
 use merge_core::Layout;

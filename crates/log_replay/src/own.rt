@@ -1,8 +1,12 @@
 //! What a site itself has done: its own row of each record.
-ghost use Rattle.std.specs.Prelude.{◌≡◌, ◌<◌, IfOk, length};
+ghost use Rattle.std.specs.Prelude.{◌≡◌, ◌<◌, IfOk, length, ℕ, slice_index};
 ghost use Rattle.admission_model.specs.Account.{Account};
 ghost use Rattle.admission_core.specs.Core.{Stands};
 ghost use Rattle.log_replay.specs.Replay.{TellsOwn};
+ghost use Rattle.merge_core.specs.declared.cell.Cell.{Cell};
+ghost use Rattle.merge_core.specs.Book.{counter_of};
+ghost use Rattle.merge_core.specs.Rows.{counter_in, counters_of};
+ghost use Rattle.merge_core.specs.declared.cell.Cell.TheVariants.{Out};
 
 use admission_core::SiteCore;
 use grow_counters::Counts;
@@ -52,12 +56,6 @@ pub(crate) fn own_rows(alloc: Global, core: &SiteCore) -> Result<OwnRows, AllocE
     }
     Ok(OwnRows { rows })
 }
-
-ghost use Rattle.std.specs.Prelude.{ℕ, slice_index};
-ghost use Rattle.merge_core.specs.declared.cell.Cell.{Cell};
-ghost use Rattle.merge_core.specs.Book.{counter_of};
-ghost use Rattle.merge_core.specs.Rows.{counter_in, counters_of};
-ghost use Rattle.merge_core.specs.declared.cell.Cell.TheVariants.{Out};
 
 // The own row of a record.
 fn own_row(alloc: Global, book: &Book, site: u16, r: u16) -> Result<Row, AllocError>

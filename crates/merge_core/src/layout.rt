@@ -1,5 +1,6 @@
 ghost use Rattle.std.specs.Prelude.{◌≡◌, IfOk};
 
+pub use faults::{are_name_bytes, is_named, is_record_name};
 use faults::{all_homes_good, fault_of};
 use std::alloc::{AllocError, Global};
 use std::marker::Model;

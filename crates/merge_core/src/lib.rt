@@ -7,7 +7,7 @@ pub use check::CheckError;
 pub use delta::{Delta, DeltaError, Row};
 pub use layout::{
     Layout, LayoutError, MOST_NAME_BYTES, MOST_RECORDS, MOST_SEATS, MOST_SITES, RecordName,
-    RecordSpec,
+    RecordSpec, are_name_bytes, is_named, is_record_name,
 };
 
 mod book;

@@ -1,11 +1,16 @@
 //! The world that runs: the cores of all sites, and the messages that they sent.
+ghost use Rattle.std.specs.Prelude.{◌≡◌, IfOk, MatchResult};
+ghost use Rattle.multi_site_world.specs.World.{World as ModelWorld, start_world};
+ghost use Rattle.multi_site_world.specs.Worlds.{MayBeFirst, IsNoFirst, StandsForWorld, IsRun};
+ghost use Rattle.multi_site_world.specs.Safe.{IsSafeWorld, HasEqualBooks, AreSoundSteps, IsSoundRun};
+
 use crate::growth::GrowthError;
 use crate::{Event, WorldReply};
 use admission_core::SiteCore;
 use admission_model::Ask;
 use begin::{first_cores, first_layout};
 use merge_core::{Delta, Layout};
-use sites::{asked, grown_core, merged, place_of, told};
+use sites::{grown_core, merged, place_of, told};
 use std::alloc::{AllocError, Global};
 use std::marker::Model;
 
@@ -161,7 +166,7 @@ impl World {
         ensures { IsStepHere self.old self.new (Call i ask) result }
     {
         let core = &mut self.sites[usize::from(i)];
-        told(asked(core, ask))
+        told(core.ask(ask))
     }
 
     // A site tells what it knows: its snapshot is the next message.
@@ -237,11 +242,6 @@ impl World {
         WorldReply::Grown
     }
 }
-
-ghost use Rattle.std.specs.Prelude.{◌≡◌, IfOk, MatchResult};
-ghost use Rattle.multi_site_world.specs.World.{World as ModelWorld, start_world};
-ghost use Rattle.multi_site_world.specs.Worlds.{MayBeFirst, IsNoFirst, StandsForWorld, IsRun};
-ghost use Rattle.multi_site_world.specs.Safe.{IsSafeWorld, HasEqualBooks, AreSoundSteps, IsSoundRun};
 
 /// What all events lead to, from sites that all know one another: the world, and a reply for each event.
 pub fn run_world(

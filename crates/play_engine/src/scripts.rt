@@ -6,7 +6,7 @@ ghost use Rattle.multi_site_world.specs.Worlds.{StandsForWorld};
 ghost use Rattle.play_engine.specs.Plays.{AnswersScript, EndsPlay, first_sites, tables_text};
 
 use audit_report::{seat_table, session_table};
-use exit_status::Status;
+use exit_status::{Status, write_too_long};
 use layout_file::LayoutFault;
 use merge_core::Layout;
 use multi_site_world::{GrowthError, World};
@@ -37,7 +37,7 @@ pub fn play_engine<R: Read, W: Write>(
     match read_input(alloc, source) {
         Ok(input) => answer_script(alloc, &mut world, tables, input.as_slice(), sink),
         Err(InputError::TooLong) => {
-            if !sink.write_and_flush("input refused TooLong\n") {
+            if !write_too_long(sink) {
                 return Status::Io;
             }
             Status::Refused

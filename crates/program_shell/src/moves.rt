@@ -2,7 +2,7 @@
 ghost use Rattle.std.specs.Prelude.{◌≡◌, [], ◌∷◌, IfOk};
 ghost use Rattle.program_shell.specs.Moves.{AnswersInput, EndsRebuild, EndsRegroup, EndsWriting, EndsWritingLine, RebuildsTo};
 
-use exit_status::Status;
+use exit_status::{Status, write_too_long};
 use live_databases::{LiveDatabases, RebuildEnd, ServiceEnd, move_live};
 use merge_core::Layout;
 use rebuild_engine::write_stop;
@@ -84,7 +84,7 @@ fn rebuild_to<R: LiveDatabases + AllocGlobal, I: Read, O: Write>(
     match read_input(rt.alloc(), source) {
         Ok(input) => answer_input(rt, path, layout, site, others, name, input.as_slice(), sink),
         Err(InputError::TooLong) => {
-            if !sink.write_and_flush("input refused TooLong\n") {
+            if !write_too_long(sink) {
                 return ServiceEnd::Ended(Status::Io);
             }
             ServiceEnd::Ended(Status::Refused)

@@ -6,7 +6,7 @@ use crate::logs::write_logs;
 use crate::replies::output_text;
 use crate::script::{Asked, LineError, ScriptError, read_script};
 use crate::sites::run_sites;
-use exit_status::Status;
+use exit_status::{Status, write_too_long};
 use merge_core::Layout;
 use std::alloc::{AllocError, Global};
 use std::io::{Read, Write};
@@ -35,7 +35,7 @@ pub fn run_engine<Rt: Threads + Wait + Sync, R: Read, W: Write, F: Write>(
     match read_input(alloc, source) {
         Ok(input) => answer_script(rt, alloc, layout, turns, input.as_slice(), sink, logs),
         Err(InputError::TooLong) => {
-            if !sink.write_and_flush("input refused TooLong\n") {
+            if !write_too_long(sink) {
                 return Status::Io;
             }
             Status::Refused

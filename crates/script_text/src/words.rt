@@ -1,11 +1,11 @@
 //! The words of a line, and what single words stand for.
 ghost use Rattle.std.specs.Prelude.{◌≡◌, ◌++◌, ◌∷◌, [], if◌then◌else◌, Some, None, MatchOption};
-ghost use Rattle.std.specs.List.{list_all, position};
-ghost use Rattle.merge_core.specs.Layout.{is_name_byte, is_record_name};
+ghost use Rattle.std.specs.List.{position};
+ghost use Rattle.merge_core.specs.Layout.{is_record_name};
 ghost use Rattle.script_text.specs.Words.{words_of, number_word, short_word, has_this_name, no_record, record_word};
 
 use memchr::memchr;
-use merge_core::{Layout, MOST_NAME_BYTES, RecordSpec};
+use merge_core::{Layout, RecordSpec, is_record_name};
 use text_parts::{Unread, number_at, short_at};
 
 // Stands for every name that no record has: no layout has so many records.
@@ -83,25 +83,8 @@ fn place_of(records: &[RecordSpec], word: &[u8]) -> Option<usize>
 fn unknown_record(word: &[u8]) -> Option<u16>
     ensures { result ≡ (if is_record_name word.now then Some no_record else None) }
 {
-    if could_be_name(word) {
+    if is_record_name(word) {
         return Some(NO_RECORD);
     }
     None
-}
-
-fn could_be_name(word: &[u8]) -> bool
-    ensures { result ≡ is_record_name word.now }
-{
-    match word {
-        [] => false,
-        [first, rest @ ..] => first.is_ascii_lowercase()
-            && rest.len() < MOST_NAME_BYTES
-            && all_name_bytes(rest),
-    }
-}
-
-fn all_name_bytes(bytes: &[u8]) -> bool
-    ensures { result ≡ list_all is_name_byte bytes.now }
-{
-    bytes.iter().all(|b| (*b >= b'a' && *b <= b'z') || (*b >= b'0' && *b <= b'9') || *b == b'-')
 }

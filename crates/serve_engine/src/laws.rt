@@ -1,5 +1,5 @@
 //! What marks tell apart, and which word of a line is not right: functions that do nothing, whose contracts are the laws.
-ghost use Rattle.std.specs.Prelude.{◌≡◌, ◌≢◌, ◌↔◌, ℕ, List, ◌++◌, Option, codes, Some};
+ghost use Rattle.std.specs.Prelude.{◌≡◌, ◌≢◌, ◌↔◌, ℕ, List, ◌++◌, Option, codes, Some, []};
 ghost use Rattle.merge_core.specs.Layout.{LayoutState};
 ghost use Rattle.merge_core.specs.Delta.{DeltaState, IsDelta};
 ghost use Rattle.admission_model.specs.declared.ask.Call.TheVariants.{Merge};
@@ -8,8 +8,10 @@ ghost use Rattle.serve_engine.specs.declared.marks.Marking.TheVariants.{Marked};
 ghost use Rattle.serve_engine.specs.declared.marks.MarkFault.TheVariants.{NoMark, WrongGroup, OtherRecords, Damaged};
 ghost use Rattle.serve_engine.specs.declared.request.Request.{Request};
 ghost use Rattle.serve_engine.specs.declared.request.Request.TheVariants.{Asked, Unmarked};
-ghost use Rattle.serve_engine.specs.Marks.{IsMark, IsMarked, IsWord, Mark, group_word, mark_of, records_digest, text_digest, with_mark};
+ghost use Rattle.serve_engine.specs.Marks.{IsMark, IsMarked, IsWord, Mark, group_word, mark_of, records_digest, text_digest, with_mark, IsFault, first_digits};
 ghost use Rattle.serve_engine.specs.Requests.{Asks, terms_of};
+ghost use Rattle.script_text.specs.Examples.{two_records};
+ghost use Rattle.serve_engine.specs.BadWords.{wrong_word};
 
 /// What a site sends, each site of its group takes whose records have the same digest. Any other text is refused by the
 /// name of the first fault of its mark, and asks for nothing else: it has no mark, or its mark is of another group, of
@@ -33,9 +35,6 @@ pub fn group_law()
         → (Asks (terms_of layout group Marked) (codes "take " ++ with_mark mark text) request ↔ (request ≡ Some (Unmarked Damaged))) }
 {}
 
-ghost use Rattle.std.specs.Prelude.{[]};
-ghost use Rattle.serve_engine.specs.Marks.{IsFault, first_digits};
-
 /// Bytes behind `take `, and their first fault at a site of the group `payroll` whose records' digest has these digits. The
 /// digest is that of FIPS 180-4's own example.
 pub fn mark_examples()
@@ -53,9 +52,6 @@ pub fn mark_examples()
     ensures own { IsMarked (codes "payroll 0123456789abcdef ba7816bf abc") (mark_of (Some (codes "payroll")) (codes "0123456789abcdef") (codes "abc")) (codes "abc") }
     ensures digest { first_digits 8 (codes "abc") ≡ codes "ba7816bf8f01cfea" }
 {}
-
-ghost use Rattle.script_text.specs.Examples.{two_records};
-ghost use Rattle.serve_engine.specs.BadWords.{wrong_word};
 
 /// Lines that ask for nothing, and the first word of each that is not right, where there are two records, `a` and
 /// `stock-2`. Words are counted from 1. The first clauses have a verb that there is not; the next ones a word that can't

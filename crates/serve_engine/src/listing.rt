@@ -1,8 +1,10 @@
 //! What a site shows of a record: its sessions.
-ghost use Rattle.std.specs.Prelude.{◌≡◌, ◌++◌, ◌<◌, ◌≤◌, ℕ, Bool, length, string_bytes, IfOk};
+ghost use Rattle.std.specs.Prelude.{◌≡◌, ◌++◌, ◌<◌, ◌≤◌, ℕ, Bool, length, string_bytes, IfOk, decimal, true};
 ghost use Rattle.admission_model.specs.Account.{Account};
 ghost use Rattle.admission_core.specs.Core.{IsCore, Stands};
 ghost use Rattle.serve_engine.specs.Answers.{number_at, separator, sessions_line, sessions_text};
+ghost use Rattle.session_list.specs.declared.session.Session.{Session};
+ghost use Rattle.serve_engine.specs.Looks.{session_part, still_first};
 
 use crate::showing::push_no_record;
 use admission_core::{Session, SiteCore};
@@ -23,9 +25,6 @@ pub(crate) fn push_sessions(text: &mut String, core: &SiteCore, r: u16) -> Resul
     push_list(text, r, durable.sessions())?;
     text.push_str("\n")
 }
-
-ghost use Rattle.std.specs.Prelude.{decimal, true};
-ghost use Rattle.session_list.specs.declared.session.Session.{Session};
 
 // Writes how many sessions are at a record, and which.
 fn push_list(text: &mut String, r: u16, sessions: &[Session]) -> Result<(), AllocError>
@@ -58,8 +57,6 @@ fn push_each(text: &mut String, r: u16, sessions: &[Session]) -> Result<(), Allo
     }
     Ok(())
 }
-
-ghost use Rattle.serve_engine.specs.Looks.{session_part, still_first};
 
 // Writes a session where it is at the record. Whether none was written yet.
 fn push_at(text: &mut String, r: u16, first: bool, session: Session) -> Result<bool, AllocError>

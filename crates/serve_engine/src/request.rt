@@ -3,8 +3,9 @@ ghost use Rattle.std.specs.Prelude.{◌≡◌, ◌++◌, codes, Some, None, List
 ghost use Rattle.merge_core.specs.declared.layout.RecordSpec.{RecordSpec};
 ghost use Rattle.script_text.specs.Words.{words_of};
 ghost use Rattle.script_text.specs.Asks.{holder_in, record_in};
-ghost use Rattle.serve_engine.specs.Requests.{Asks, AsksUnmarked, Terms, holder_behind, record_behind, rest_behind};
+ghost use Rattle.serve_engine.specs.Requests.{Asks, AsksUnmarked, Terms, holder_behind, record_behind, rest_behind, AsksBehind};
 ghost use Rattle.serve_engine.specs.Steps.{AreTerms};
+ghost use Rattle.site_script.specs.Lines.{SaysNothing};
 
 use crate::marks::{MarkFault, Marker, Marking};
 use crate::taking::text_taken;
@@ -45,8 +46,6 @@ pub(crate) fn request_in(
         Marking::Marked => marked_in(alloc, layout, marker, line),
     }
 }
-
-ghost use Rattle.serve_engine.specs.Requests.{AsksBehind};
 
 // What a line asks where deltas are marked.
 fn marked_in(
@@ -95,8 +94,6 @@ fn unmarked_in(alloc: Global, layout: &Layout, line: &[u8]) -> Result<Option<Req
         None => Ok(look_in(layout, line)),
     }
 }
-
-ghost use Rattle.site_script.specs.Lines.{SaysNothing};
 
 // What a line asks that says nothing in a script.
 fn look_in(layout: &Layout, line: &[u8]) -> Option<Request>

@@ -9,6 +9,7 @@ ghost use Rattle.serve_engine.specs.Steps.{AreTerms, mark_in};
 use crate::digests::text_digits;
 use crate::marks::{MarkFault, Marker};
 use script_text::cut_word;
+use text_parts::is_same;
 
 /// The words of a mark, and the text behind it.
 #[derive(Clone, Copy)]
@@ -39,13 +40,6 @@ pub(crate) fn text_taken<'a>(marker: &Marker, bytes: &'a [u8]) -> Result<&'a [u8
         return Err(MarkFault::Damaged);
     }
     Ok(parts.text)
-}
-
-// Whether two words are the same.
-fn is_same(a: &[u8], b: &[u8]) -> bool
-    ensures { IsTrue result ↔ (a.now ≡ b.now) }
-{
-    a == b
 }
 
 // The words of the mark that the bytes begin with, and the text behind it.

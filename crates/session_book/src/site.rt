@@ -1,3 +1,6 @@
+ghost use Rattle.std.specs.Prelude.{◌≡◌, ◌+◌, ◌≤◌, IfOk, OnOk};
+ghost use Rattle.session_book.specs.Sites.{new_passes};
+
 use crate::closing::{are_all, checked, transcript_of};
 use crate::error::CloseError;
 use crate::locked::Locked;
@@ -210,9 +213,6 @@ impl<K: Keeper, L: Opening> Site<K, L> {
         Ok((transcript_of(site, runs, run), keeper))
     }
 }
-
-ghost use Rattle.std.specs.Prelude.{◌≡◌, ◌+◌, ◌≤◌, IfOk, OnOk};
-ghost use Rattle.session_book.specs.Sites.{new_passes};
 
 // Copies of what a desk was opened with.
 fn copies<K: Keeper>(alloc: Global, desk: &Desk<K>) -> Result<(Layout, Durable), AllocError>

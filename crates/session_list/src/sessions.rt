@@ -1,3 +1,6 @@
+ghost use Rattle.std.specs.Prelude.{◌≡◌, IfOk, map};
+ghost use Rattle.session_list.specs.Kept.{session_of};
+
 use crate::session::{Phase, Session};
 use indexmap::IndexMap;
 use std::alloc::{AllocError, Global};
@@ -163,9 +166,6 @@ impl Sessions {
         sessions_of(alloc, &entries)
     }
 }
-
-ghost use Rattle.std.specs.Prelude.{◌≡◌, IfOk, map};
-ghost use Rattle.session_list.specs.Kept.{session_of};
 
 /// The entries of a map, in its own order.
 fn entries_of(alloc: Global, map: &IndexMap<Key, Place>) -> Result<Vec<(Key, Place)>, AllocError>

@@ -71,7 +71,7 @@ module _ {K : Type 0} where
       LosesSome source source_after (input_limit + 1) × LacksMemory source.fault source_after.fault × (sink_after ≡ sink)
       × ServesLost old new source source_after
   ServesInput old new source source_after sink sink_after Io =
-      LosesSome source source_after (input_limit + 1) × (IsFailure source_after.fault ⊎ HasFault sink_after.fault)
+      LosesSome source source_after (input_limit + 1) × ((IsFailure source_after.fault × (sink_after ≡ sink)) ⊎ HasFault sink_after.fault)
       × ServesLost old new source source_after
   ServesInput old new source source_after sink sink_after Usage = ⊥
   ServesInput old new source source_after sink sink_after (NoLayout fault) = ⊥

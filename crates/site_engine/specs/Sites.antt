@@ -93,8 +93,8 @@ module _ {K : Type 0} where
   -- The whole engine: the bytes read are all that the source had, within the limit, and their lines were served; or
   -- there are more, that refusal alone was written, and what was kept is kept; or what is kept begins no site, or there
   -- is no such site, and nothing was read or written; or there is such a site, memory, a read or a write failed, and what
-  -- is kept is what some of the first lines leave; without memory nothing was written. In each case the source lost at most one byte past the
-  -- limit. An engine has no word for wrong arguments.
+  -- is kept is what some of the first lines leave; without memory, and behind a failed read, nothing was written. In each case the source lost
+  -- at most one byte past the limit. An engine has no word for wrong arguments.
   abbrev pub EndsSite : Ghosts K → LayoutState → ℕ → K → K → SourceState → SourceState → SinkState → SinkState → Status → Type 0
   EndsSite g layout i keeper keeper_after source source_after sink sink_after Done =
       (bytes : List ℕ) × ReadsInput source source_after (Ok bytes)
@@ -114,6 +114,6 @@ module _ {K : Type 0} where
       (i < layout.sites) × LosesSome source source_after (input_limit + 1) × LacksMemory source.fault source_after.fault × (sink_after ≡ sink)
       × KeepsSome g layout i keeper keeper_after source source_after
   EndsSite g layout i keeper keeper_after source source_after sink sink_after Io =
-      (i < layout.sites) × LosesSome source source_after (input_limit + 1) × (IsFailure source_after.fault ⊎ HasFault sink_after.fault)
+      (i < layout.sites) × LosesSome source source_after (input_limit + 1) × ((IsFailure source_after.fault × (sink_after ≡ sink)) ⊎ HasFault sink_after.fault)
       × KeepsSome g layout i keeper keeper_after source source_after
   EndsSite g layout i keeper keeper_after source source_after sink sink_after Usage = ⊥

@@ -7,7 +7,7 @@ ghost use Rattle.site_engine.specs.SiteSteps.{AnswersLines, ServesInput, opening
 
 use desk_log::{Desk, OpenError};
 use durable_keeper::Keeper;
-use exit_status::{Status, StoreRefusal};
+use exit_status::{Status, StoreRefusal, write_too_long};
 use layout_file::LayoutFault;
 use merge_core::Layout;
 use site_script::serve_script;
@@ -72,7 +72,7 @@ fn serve_input<R: Read, W: Write, K: Keeper>(
     match read_input(alloc, source) {
         Ok(input) => answer_lines(alloc, desk, input.as_slice(), sink),
         Err(InputError::TooLong) => {
-            if !sink.write_and_flush("input refused TooLong\n") {
+            if !write_too_long(sink) {
                 return Status::Io;
             }
             Status::Refused

@@ -10,7 +10,7 @@ ghost use Rattle.site_script.specs.Served.{SameOpening, Grows, Serves, ServesFro
 ghost use Rattle.site_script.specs.Steps.{AnsweredFrom, AnswersOne, LosesCall, LosesLine};
 
 use crate::lines::{Said, said_in};
-use admission_core::{Call, Refusal, Reply};
+use admission_core::{Call, Reply, is_memory};
 use delta_codec::DecodeError;
 use desk_log::Desk;
 use durable_keeper::Keeper;
@@ -117,13 +117,6 @@ fn answer_call<K: Keeper>(
     push_reply(text, &reply)?;
     text.push_str("\n")?;
     Ok(())
-}
-
-// The reply is want of memory.
-fn is_memory(reply: &Reply) -> bool
-    ensures { result ≡ is_memory reply.now }
-{
-    matches!(reply, Reply::Refused(Refusal::Memory))
 }
 
 /// Writes the answer to a text that is no delta's, as a line.

@@ -9,11 +9,11 @@ use Rattle.merge_core.specs.Layout.{LayoutState}
 use Rattle.store_rows.specs.Rows.{Stored}
 use Rattle.store_rows.specs.Holding.{Holds, HoldsNothing}
 use Rattle.store_content.specs.declared.index.Index.{Index}
-use Rattle.site_store.specs.declared.error.OpenError.{OpenError}
+use Rattle.site_store.specs.declared.error.StoreOpenError.{StoreOpenError}
 use Rattle.site_store.specs.Opened.{IsLeft, IsLeftBlank, IsLeftEither, IsLeftOr, Readies, ReadiesBlank}
 use Rattle.site_store.proofs.OpenLemmas.{if_honest}
 
-module _ {S : Type 0} (g : Ghosts S) (c : Held S) (layout : LayoutState) (i : ℕ) (group : Option (List ℕ)) (r : Result Index OpenError) (e : OpenError) (is : r ≡ Err e) where
+module _ {S : Type 0} (g : Ghosts S) (c : Held S) (layout : LayoutState) (i : ℕ) (group : Option (List ℕ)) (r : Result Index StoreOpenError) (e : StoreOpenError) (is : r ≡ Err e) where
   -- an answer that is a refusal tells what is left
   left_of : (it : Stored) → Readies g layout i group it c r → IsLeft g layout it c e
   left_of it ready = (subst (Readies g layout i group it c) is ready).left

@@ -23,8 +23,8 @@ use Rattle.store_content.specs.Known.{Knows}
 use Rattle.store_tables.specs.declared.error.TableError.{TableError}
 use Rattle.store_tables.specs.declared.error.TableError.TheVariants as tables
 use Rattle.store_tables.proofs.KeepLemmas.{leaves_first}
-use Rattle.site_store.specs.declared.error.OpenError.{OpenError}
-use Rattle.site_store.specs.declared.error.OpenError.TheVariants as opening
+use Rattle.site_store.specs.declared.error.StoreOpenError.{StoreOpenError}
+use Rattle.site_store.specs.declared.error.StoreOpenError.TheVariants as opening
 use Rattle.site_store.specs.Errors.{open_error}
 use Rattle.site_store.specs.SiteText.{site_text}
 use Rattle.site_store.specs.Sql.{Stores}
@@ -112,7 +112,7 @@ module _ {S : Type 0} (g : Ghosts S) (c : Held S) where
     leaves_any : (P : Trees → Type 0) → Leaves g c P
     leaves_any P = record { left = λ clean db left. absurd (never clean) }
 
-    left_any : (layout : LayoutState) (it : Stored) (e : OpenError) → IsLeft g layout it c e
+    left_any : (layout : LayoutState) (it : Stored) (e : StoreOpenError) → IsLeft g layout it c e
     left_any layout it opening.BadStore = leaves_any (Holds it)
     left_any layout it opening.WrongSite = leaves_any (Holds it)
     left_any layout it opening.WrongGroup = leaves_any (Holds it)
@@ -120,7 +120,7 @@ module _ {S : Type 0} (g : Ghosts S) (c : Held S) where
     left_any layout it opening.StoreFault = leaves_any (λ db. Holds it db ⊎ Holds (renewed (line_of layout) it) db)
     left_any layout it opening.Memory = leaves_any (Holds it)
 
-    left_blank_any : (layout : LayoutState) (i : ℕ) (group : Option (List ℕ)) (e : OpenError) → IsLeftBlank g layout i group c e
+    left_blank_any : (layout : LayoutState) (i : ℕ) (group : Option (List ℕ)) (e : StoreOpenError) → IsLeftBlank g layout i group c e
     left_blank_any layout i group opening.BadStore = leaves_any HoldsNothing
     left_blank_any layout i group opening.WrongSite = leaves_any HoldsNothing
     left_blank_any layout i group opening.WrongGroup = leaves_any HoldsNothing
@@ -128,17 +128,17 @@ module _ {S : Type 0} (g : Ghosts S) (c : Held S) where
     left_blank_any layout i group opening.StoreFault = leaves_any (λ db. HoldsNothing db ⊎ Holds (made (site_text i group) (line_of layout)) db)
     left_blank_any layout i group opening.Memory = leaves_any HoldsNothing
 
-    pub readies_any : (layout : LayoutState) (i : ℕ) (group : Option (List ℕ)) (it : Stored) (r : Result Index OpenError) → Readies g layout i group it c r
+    pub readies_any : (layout : LayoutState) (i : ℕ) (group : Option (List ℕ)) (it : Stored) (r : Result Index StoreOpenError) → Readies g layout i group it c r
     readies_any layout i group it (Ok index) = record { fits = λ clean. absurd (never clean); stores = λ clean. absurd (never clean) }
     readies_any layout i group it (Err e) = record { cause = λ clean. absurd (never clean); left = left_any layout it e }
 
-    pub readies_blank_any : (layout : LayoutState) (i : ℕ) (group : Option (List ℕ)) (r : Result Index OpenError) → ReadiesBlank g layout i group c r
+    pub readies_blank_any : (layout : LayoutState) (i : ℕ) (group : Option (List ℕ)) (r : Result Index StoreOpenError) → ReadiesBlank g layout i group c r
     readies_blank_any layout i group (Ok index) = λ clean. absurd (never clean)
     readies_blank_any layout i group (Err e) = record { cause = λ clean. absurd (never clean); left = left_blank_any layout i group e }
 
   -- one of two contents was kept, and a look found it or none
   module _ (layout : LayoutState) (i : ℕ) (group : Option (List ℕ)) (a b : Stored) (P Q C : Type 0) (early : HasCleanDisk (state g c) → C) where
-    pub settled_none : (t : Option Stored) → t ≡ None → (r : Result Index OpenError) → ∥ (P × (C → t ≡ Some a)) ⊎ (Q × (C → t ≡ Some b)) ∥₁
+    pub settled_none : (t : Option Stored) → t ≡ None → (r : Result Index StoreOpenError) → ∥ (P × (C → t ≡ Some a)) ⊎ (Q × (C → t ≡ Some b)) ∥₁
         → IfOk r (λ index. ∥ IsReady g layout i group a c index ⊎ IsReady g layout i group b c index ∥₁)
     settled_none t none (Err e) found = _
     settled_none t none (Ok index) found = ∥∥₁_map found (λ f. elim f [
@@ -146,7 +146,7 @@ module _ {S : Type 0} (g : Ghosts S) (c : Held S) where
       | inr y ↦ inr (readies_any (λ clean. none-some b (sym none ∙ y.1 (early clean))) layout i group b (Ok index))
     ])
 
-    pub settled : (t : Option Stored) (content : Stored) → t ≡ Some content → (r : Result Index OpenError) → (P → (C → content ≡ a) → Readies g layout i group a c r)
+    pub settled : (t : Option Stored) (content : Stored) → t ≡ Some content → (r : Result Index StoreOpenError) → (P → (C → content ≡ a) → Readies g layout i group a c r)
         → (Q → (C → content ≡ b) → Readies g layout i group b c r)
         → ∥ (P × (C → t ≡ Some a)) ⊎ (Q × (C → t ≡ Some b)) ∥₁ → IfOk r (λ index. ∥ IsReady g layout i group a c index ⊎ IsReady g layout i group b c index ∥₁)
     settled t content is (Err e) first second found = _

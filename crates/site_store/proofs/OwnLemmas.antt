@@ -21,8 +21,8 @@ use Rattle.store_tables.specs.Reads.{KeepsAny}
 use Rattle.store_tables.specs.declared.error.TableError.{TableError}
 use Rattle.store_tables.specs.declared.error.TableError.TheVariants as tables
 use Rattle.store_tables.proofs.LookLemmas.{found_once}
-use Rattle.site_store.specs.declared.error.OpenError.{OpenError}
-use Rattle.site_store.specs.declared.error.OpenError.TheVariants as opening
+use Rattle.site_store.specs.declared.error.StoreOpenError.{StoreOpenError}
+use Rattle.site_store.specs.declared.error.StoreOpenError.TheVariants as opening
 use Rattle.site_store.specs.Errors.{open_error}
 use Rattle.site_store.specs.SiteText.{site_text}
 use Rattle.site_store.specs.Sql.{IsOf}
@@ -44,7 +44,7 @@ other_line layout i it (inl same) is = is.0 same
 other_line layout i it (inr earlier) is = is.1 earlier.0 earlier.1
 
 -- the site's own content is refused for no cause of its own
-pub own_cause : (layout : LayoutState) (i : ℕ) (group : Option (List ℕ)) (it : Stored) (e : OpenError) → IsOwn layout i group it → IsCause layout i group it e → IsDeviceCause e
+pub own_cause : (layout : LayoutState) (i : ℕ) (group : Option (List ℕ)) (it : Stored) (e : StoreOpenError) → IsOwn layout i group it → IsCause layout i group it e → IsDeviceCause e
 own_cause layout i group it opening.BadStore own cause = absurd (cause own.content)
 own_cause layout i group it opening.WrongSite own cause = absurd (cause.1 group own.its_site)
 own_cause layout i group it opening.WrongGroup own cause = absurd (cause.1.0 own.its_site)
@@ -58,7 +58,7 @@ table_cause tables.BadStore good = absurd (good refl)
 table_cause tables.Memory good = _
 table_cause tables.StoreFault good = _
 
-pub device_two : (e : OpenError) → IsDeviceCause e → e ≢ opening.StoreFault → e ≢ opening.Memory → ⊥
+pub device_two : (e : StoreOpenError) → IsDeviceCause e → e ≢ opening.StoreFault → e ≢ opening.Memory → ⊥
 device_two opening.BadStore cause fault memory = cause
 device_two opening.WrongSite cause fault memory = cause
 device_two opening.WrongGroup cause fault memory = cause
@@ -66,10 +66,10 @@ device_two opening.WrongLayout cause fault memory = cause
 device_two opening.StoreFault cause fault memory = fault refl
 device_two opening.Memory cause fault memory = memory refl
 
-pub memory_cause : (e : OpenError) → e ≡ opening.Memory → IsDeviceCause e
+pub memory_cause : (e : StoreOpenError) → e ≡ opening.Memory → IsDeviceCause e
 memory_cause e is = subst IsDeviceCause (sym is) _
 
-device_prop : (e : OpenError) → IsProp (IsDeviceCause e)
+device_prop : (e : StoreOpenError) → IsProp (IsDeviceCause e)
 device_prop opening.BadStore = λ a b. absurd a
 device_prop opening.WrongSite = λ a b. absurd a
 device_prop opening.WrongGroup = λ a b. absurd a
@@ -155,7 +155,7 @@ module _ {S : Type 0} (g : Ghosts S) (c : Held S) (it : Stored) (H : Type 0) (cl
 -- one of two contents was kept, each of them the site's own, and a look found it
 pub either_own : (layout : LayoutState) (i : ℕ) (group : Option (List ℕ)) (a b content : Stored) (P Q H : Type 0) → H → (t : Option Stored) → t ≡ Some content
     → IsOwn layout i group a → IsOwn layout i group b
-    → ∥ (P × (H → t ≡ Some a)) ⊎ (Q × (H → t ≡ Some b)) ∥₁ → (e : OpenError) → (IsOwn layout i group content → IsDeviceCause e) → IsDeviceCause e
+    → ∥ (P × (H → t ≡ Some a)) ⊎ (Q × (H → t ≡ Some b)) ∥₁ → (e : StoreOpenError) → (IsOwn layout i group content → IsDeviceCause e) → IsDeviceCause e
 either_own layout i group a b content P Q H clean t is first second found e refused =
     ∥∥₁_elim found (device_prop e) (λ f. elim f [
       | inl x ↦ refused (subst (IsOwn layout i group) (sym (same_Some content a (sym is ∙ x.1 clean))) first)

@@ -31,8 +31,8 @@ use Rattle.sqlite.specs.declared.error.Error.TheVariants.{SqliteFailure}
 use Rattle.sqlite.specs.declared.error.ErrorCode.TheVariants.{OutOfMemory}
 use Rattle.store_tables.specs.declared.error.TableError.{TableError}
 use Rattle.store_tables.specs.declared.error.TableError.TheVariants as tables
-use Rattle.site_store.specs.declared.error.OpenError.{OpenError}
-use Rattle.site_store.specs.declared.error.OpenError.TheVariants as opening
+use Rattle.site_store.specs.declared.error.StoreOpenError.{StoreOpenError}
+use Rattle.site_store.specs.declared.error.StoreOpenError.TheVariants as opening
 use Rattle.site_store.specs.declared.error.ServedError.{ServedError}
 use Rattle.site_store.specs.declared.error.ServedError.TheVariants as served
 use Rattle.site_store.specs.declared.served.Permission.{Permission}
@@ -101,7 +101,7 @@ device_schema p schema e (inl is) = subst (IsSchemaCause p schema) (sym is) tt
 device_schema p schema e (inr is) = subst (IsSchemaCause p schema) (sym is) tt
 
 -- what an opening refuses for the device alone, one for a service does too
-pub device_of : (o : OpenError) → IsDeviceCause o → IsDevice (served_error o)
+pub device_of : (o : StoreOpenError) → IsDeviceCause o → IsDevice (served_error o)
 device_of opening.BadStore cause = absurd cause
 device_of opening.WrongSite cause = absurd cause
 device_of opening.WrongGroup cause = absurd cause
@@ -117,7 +117,7 @@ pub memory_is_none : served.Memory ≡ served.StoreFault → ⊥
 memory_is_none is = absurd (cc)
 
 -- a fault or a want of memory is that of the opening below
-pub fault_below : (o : OpenError) → served_error o ≡ served.StoreFault → o ≡ opening.StoreFault
+pub fault_below : (o : StoreOpenError) → served_error o ≡ served.StoreFault → o ≡ opening.StoreFault
 fault_below opening.BadStore is = absurd (cc)
 fault_below opening.WrongSite is = absurd (cc)
 fault_below opening.WrongGroup is = absurd (cc)
@@ -167,7 +167,7 @@ module _ (p : Permission) (schema : Schema) where
   denied_none served.Memory denied none = inr (inr refl)
 
   -- what is judged of a content is told of a schema that is a store's
-  opened_schema : (o : OpenError) → (p.create ≡ false) × IsMade schema → IsSchemaCause p schema (served_error o)
+  opened_schema : (o : StoreOpenError) → (p.create ≡ false) × IsMade schema → IsSchemaCause p schema (served_error o)
   opened_schema opening.BadStore there = there
   opened_schema opening.WrongSite there = there
   opened_schema opening.WrongGroup there = there
@@ -191,7 +191,7 @@ denied_device p e off (inr device) = device
 -- ---- refusals by the content
 
 -- a cause of an opening is one of an opening for a service
-pub content_cause : (grow : Bool) (layout : LayoutState) (i : ℕ) (group : Option (List ℕ)) (it : Stored) (o : OpenError) → IsCause layout i group it o → IsContentCause grow layout i group it (served_error o)
+pub content_cause : (grow : Bool) (layout : LayoutState) (i : ℕ) (group : Option (List ℕ)) (it : Stored) (o : StoreOpenError) → IsCause layout i group it o → IsContentCause grow layout i group it (served_error o)
 content_cause grow layout i group it opening.BadStore cause = cause
 content_cause grow layout i group it opening.WrongSite cause = cause
 content_cause grow layout i group it opening.WrongGroup cause = cause
@@ -252,7 +252,7 @@ mark_stable served.Memory h = inl (inr refl)
 
 -- ---- the mark of an outdated store
 
-pub not_marked : (o : OpenError) → served_error o ≡ served.Outdated → ⊥
+pub not_marked : (o : StoreOpenError) → served_error o ≡ served.Outdated → ⊥
 not_marked opening.BadStore is = absurd (cc)
 not_marked opening.WrongSite is = absurd (cc)
 not_marked opening.WrongGroup is = absurd (cc)
@@ -269,7 +269,7 @@ bad_unmarked is = absurd (cc)
 pub mark_is_none : served.Outdated ≡ served.StoreFault → ⊥
 mark_is_none is = absurd (cc)
 
-pub marked_held : (o : OpenError) → IsHeldRefusal (marked_error o)
+pub marked_held : (o : StoreOpenError) → IsHeldRefusal (marked_error o)
 marked_held opening.BadStore = inl (opening.BadStore, refl)
 marked_held opening.WrongSite = inl (opening.WrongSite, refl)
 marked_held opening.WrongGroup = inl (opening.WrongGroup, refl)
@@ -277,7 +277,7 @@ marked_held opening.WrongLayout = inr refl
 marked_held opening.StoreFault = inl (opening.StoreFault, refl)
 marked_held opening.Memory = inl (opening.Memory, refl)
 
-pub marked_fault : (o : OpenError) → marked_error o ≡ served.StoreFault → o ≡ opening.StoreFault
+pub marked_fault : (o : StoreOpenError) → marked_error o ≡ served.StoreFault → o ≡ opening.StoreFault
 marked_fault opening.BadStore is = absurd (cc)
 marked_fault opening.WrongSite is = absurd (cc)
 marked_fault opening.WrongGroup is = absurd (cc)
@@ -285,7 +285,7 @@ marked_fault opening.WrongLayout is = absurd (cc)
 marked_fault opening.StoreFault is = refl
 marked_fault opening.Memory is = absurd (cc)
 
-pub marked_cause : (grow : Bool) (layout : LayoutState) (i : ℕ) (group : Option (List ℕ)) (it : Stored) (o : OpenError) → IsCause layout i group it o → IsContentCause grow layout i group it (marked_error o)
+pub marked_cause : (grow : Bool) (layout : LayoutState) (i : ℕ) (group : Option (List ℕ)) (it : Stored) (o : StoreOpenError) → IsCause layout i group it o → IsContentCause grow layout i group it (marked_error o)
 marked_cause grow layout i group it opening.BadStore cause = cause
 marked_cause grow layout i group it opening.WrongSite cause = cause
 marked_cause grow layout i group it opening.WrongGroup cause = cause
@@ -308,7 +308,7 @@ module _ {S : Type 0} (g : Ghosts S) (c : Held S) where
   kept_nothing layout i group e keeps = record { either = leaves_first g c HoldsNothing (Holds (made (site_text i group) (line_of layout))) keeps; still = λ _. keeps }
 
   -- what an opening leaves, one for a service leaves
-  pub left_store : (layout : LayoutState) (it : Stored) (o : OpenError) → IsLeft g layout it c o → IsLeftOfStore g layout it c (served_error o)
+  pub left_store : (layout : LayoutState) (it : Stored) (o : StoreOpenError) → IsLeft g layout it c o → IsLeftOfStore g layout it c (served_error o)
   left_store layout it opening.BadStore left = kept_store layout it served.BadStore left
   left_store layout it opening.WrongSite left = kept_store layout it served.WrongSite left
   left_store layout it opening.WrongGroup left = kept_store layout it served.WrongGroup left
@@ -316,7 +316,7 @@ module _ {S : Type 0} (g : Ghosts S) (c : Held S) where
   left_store layout it opening.StoreFault left = record { either = left; still = λ other. absurd (other refl) }
   left_store layout it opening.Memory left = kept_store layout it served.Memory left
 
-  pub left_nothing : (layout : LayoutState) (i : ℕ) (group : Option (List ℕ)) (o : OpenError) → IsLeftBlank g layout i group c o → IsLeftOfNothing g layout i group c (served_error o)
+  pub left_nothing : (layout : LayoutState) (i : ℕ) (group : Option (List ℕ)) (o : StoreOpenError) → IsLeftBlank g layout i group c o → IsLeftOfNothing g layout i group c (served_error o)
   left_nothing layout i group opening.BadStore left = kept_nothing layout i group served.BadStore left
   left_nothing layout i group opening.WrongSite left = kept_nothing layout i group served.WrongSite left
   left_nothing layout i group opening.WrongGroup left = kept_nothing layout i group served.WrongGroup left

@@ -8,8 +8,8 @@ use Rattle.text_parts.proofs.NumberLaws.{number_takes, number_again}
 use Rattle.merge_core.specs.Layout.{LayoutState}
 use Rattle.store_rows.specs.Rows.{Stored}
 use Rattle.store_content.specs.Content.{IsContent}
-use Rattle.site_store.specs.declared.error.OpenError.{OpenError}
-use Rattle.site_store.specs.declared.error.OpenError.TheVariants as opening
+use Rattle.site_store.specs.declared.error.StoreOpenError.{StoreOpenError}
+use Rattle.site_store.specs.declared.error.StoreOpenError.TheVariants as opening
 use Rattle.site_store.specs.SiteText.{IsApart, IsForeign, NamesSite, site_text}
 use Rattle.site_store.specs.Opened.{IsCause}
 
@@ -47,7 +47,7 @@ parts i m text behind small read is =
     (p.0, subst IsApart (sym p.1) r.1.0)
 
 -- a content whose text is another's is refused for that
-pub foreign_cause : (layout : LayoutState) (i : ℕ) (group : Option (List ℕ)) (it : Stored) (e : OpenError) → IsContent it → it.site ≢ site_text i group → IsForeign i it.site e
+pub foreign_cause : (layout : LayoutState) (i : ℕ) (group : Option (List ℕ)) (it : Stored) (e : StoreOpenError) → IsContent it → it.site ≢ site_text i group → IsForeign i it.site e
     → IsCause layout i group it e × (e ≢ opening.StoreFault)
 foreign_cause layout i group it opening.WrongSite whole other foreign = ((whole, foreign), λ is. absurd (cc))
 foreign_cause layout i group it opening.WrongGroup whole other foreign = ((whole, (other, foreign)), λ is. absurd (cc))

@@ -17,8 +17,8 @@ use Rattle.store_content.specs.declared.index.Index.{Index}
 use Rattle.store_content.specs.Content.{IsContent, durable_in}
 use Rattle.store_content.specs.Known.{Knows}
 use Rattle.durable_keeper.specs.Keeping.{nothing_kept}
-use Rattle.site_store.specs.declared.error.OpenError.{OpenError}
-use Rattle.site_store.specs.declared.error.OpenError.TheVariants.{BadStore, WrongSite, WrongGroup, WrongLayout, StoreFault, Memory}
+use Rattle.site_store.specs.declared.error.StoreOpenError.{StoreOpenError}
+use Rattle.site_store.specs.declared.error.StoreOpenError.TheVariants.{BadStore, WrongSite, WrongGroup, WrongLayout, StoreFault, Memory}
 use Rattle.site_store.specs.declared.sql.SqlKeeper.{SqlKeeper}
 use Rattle.site_store.specs.SiteText.{NamesOther, NamesSite, site_text}
 use Rattle.site_store.specs.Sql.{Stores, KeepsPart, below, group_of, layout_of, site_of, faults_of, is_honest}
@@ -44,7 +44,7 @@ abbrev pub IsDue : LayoutState → ℕ → Option (List ℕ) → Stored → Type
 IsDue layout i group it = IsOwn layout i group it × (¬ IsCurrent layout it)
 
 -- why a store is refused: the first of these that is so. When a fault comes, IsFault says.
-abbrev pub IsCause : LayoutState → ℕ → Option (List ℕ) → Stored → OpenError → Type 0
+abbrev pub IsCause : LayoutState → ℕ → Option (List ℕ) → Stored → StoreOpenError → Type 0
 IsCause layout i group it BadStore = ¬ IsContent it
 IsCause layout i group it WrongSite = IsContent it × NamesOther i it.site
 IsCause layout i group it WrongGroup = IsContent it × ((it.site ≢ site_text i group) × NamesSite i it.site)
@@ -53,7 +53,7 @@ IsCause layout i group it StoreFault = ⊤
 IsCause layout i group it Memory = ⊤
 
 -- an empty database is refused by the device alone
-abbrev pub IsDeviceCause : OpenError → Type 0
+abbrev pub IsDeviceCause : StoreOpenError → Type 0
 IsDeviceCause BadStore = ⊥
 IsDeviceCause WrongSite = ⊥
 IsDeviceCause WrongGroup = ⊥
@@ -62,13 +62,13 @@ IsDeviceCause StoreFault = ⊤
 IsDeviceCause Memory = ⊤
 
 -- a content was judged: it is one of this site, with its index and how its line compares; or why not
-abbrev pub IsJudged : LayoutState → ℕ → Option (List ℕ) → Stored → Result (Index × Line) OpenError → Type 0
+abbrev pub IsJudged : LayoutState → ℕ → Option (List ℕ) → Stored → Result (Index × Line) StoreOpenError → Type 0
 IsJudged layout i group it (Ok x) = IsOwn layout i group it × (Knows x.0 it × IsLine layout i it.layout x.1)
 IsJudged layout i group it (Err e) = IsCause layout i group it e × (e ≢ StoreFault)
 
 module _ {S : Type 0} (g : Ghosts S) where
   -- what a connection keeps after a refusal: what it kept, or after a fault perhaps the content that was to come
-  abbrev pub IsLeft : LayoutState → Stored → Held S → OpenError → Type 0
+  abbrev pub IsLeft : LayoutState → Stored → Held S → StoreOpenError → Type 0
   IsLeft layout it c StoreFault = KeepsEither g c it (renewed (line_of layout) it)
   IsLeft layout it c BadStore = Keeps g c it
   IsLeft layout it c WrongSite = Keeps g c it
@@ -77,7 +77,7 @@ module _ {S : Type 0} (g : Ghosts S) where
   IsLeft layout it c Memory = Keeps g c it
 
   -- the same of a database without tables
-  abbrev pub IsLeftBlank : LayoutState → ℕ → Option (List ℕ) → Held S → OpenError → Type 0
+  abbrev pub IsLeftBlank : LayoutState → ℕ → Option (List ℕ) → Held S → StoreOpenError → Type 0
   IsLeftBlank layout i group c StoreFault = KeepsNothingOr g c (made (site_text i group) (line_of layout))
   IsLeftBlank layout i group c BadStore = KeepsNothing g c
   IsLeftBlank layout i group c WrongSite = KeepsNothing g c
@@ -87,20 +87,20 @@ module _ {S : Type 0} (g : Ghosts S) where
 
   -- What it keeps after a refusal, where it was not known which of two contents it kept: still one of the two, or what is
   -- left of a store that is known to have the first, or the second.
-  abbrev pub IsLeftEither : LayoutState → Stored → Stored → Held S → OpenError → Type 0
+  abbrev pub IsLeftEither : LayoutState → Stored → Stored → Held S → StoreOpenError → Type 0
   IsLeftEither layout a b c e = ∥ KeepsEither g c a b ⊎ (IsLeft layout a c e ⊎ IsLeft layout b c e) ∥₁
 
   -- the same where it was not known whether it kept a content or none
-  abbrev pub IsLeftOr : LayoutState → ℕ → Option (List ℕ) → Stored → Held S → OpenError → Type 0
+  abbrev pub IsLeftOr : LayoutState → ℕ → Option (List ℕ) → Stored → Held S → StoreOpenError → Type 0
   IsLeftOr layout i group it c e = ∥ KeepsNothingOr g c it ⊎ (IsLeftBlank layout i group c e ⊎ IsLeft layout it c e) ∥₁
 
   -- a store with a content was refused
-  pub record IsRefused (layout : LayoutState) (i : ℕ) (group : Option (List ℕ)) (it : Stored) (c : Held S) (e : OpenError) : Type 0 where
+  pub record IsRefused (layout : LayoutState) (i : ℕ) (group : Option (List ℕ)) (it : Stored) (c : Held S) (e : StoreOpenError) : Type 0 where
     pub cause : HasCleanDisk (state g c) → IsCause layout i group it e
     pub left : IsLeft layout it c e
 
   -- a database without tables was refused
-  pub record IsRefusedBlank (layout : LayoutState) (i : ℕ) (group : Option (List ℕ)) (c : Held S) (e : OpenError) : Type 0 where
+  pub record IsRefusedBlank (layout : LayoutState) (i : ℕ) (group : Option (List ℕ)) (c : Held S) (e : StoreOpenError) : Type 0 where
     pub cause : HasCleanDisk (state g c) → IsDeviceCause e
     pub left : IsLeftBlank layout i group c e
 
@@ -118,23 +118,23 @@ module _ {S : Type 0} (g : Ghosts S) where
   IsRefusal old new = HasRefused (state g old) (state g new)
 
   -- A fault told by an honest device: a call was refused so; or a content was to be written, and that was refused.
-  abbrev pub IsFault : LayoutState → ℕ → Option (List ℕ) → Stored → Held S → (OpenError × Held S) → Type 0
+  abbrev pub IsFault : LayoutState → ℕ → Option (List ℕ) → Stored → Held S → (StoreOpenError × Held S) → Type 0
   IsFault layout i group it old x = x.0 ≡ StoreFault → HasCleanDisk (state g x.1) → IsRefusal old x.1 ⊎ IsDue layout i group it
 
   -- a refusal by an honest device alone, and not for what the store holds
-  abbrev pub IsByDevice : (OpenError × Held S) → Type 0
+  abbrev pub IsByDevice : (StoreOpenError × Held S) → Type 0
   IsByDevice x = HasCleanDisk (state g x.1) → IsDeviceCause x.0
 
   -- whatever was judged, nothing was committed before
-  abbrev pub IsJudgedFirst : Held S → (OpenError × Held S) → Type 0
+  abbrev pub IsJudgedFirst : Held S → (StoreOpenError × Held S) → Type 0
   IsJudgedFirst old x = x.0 ≢ StoreFault → x.0 ≢ Memory → CommitsNothing old x.1
 
   -- the answer to the opening of a connection that keeps a content, and of one without tables
-  abbrev pub Readies : LayoutState → ℕ → Option (List ℕ) → Stored → Held S → Result Index OpenError → Type 0
+  abbrev pub Readies : LayoutState → ℕ → Option (List ℕ) → Stored → Held S → Result Index StoreOpenError → Type 0
   Readies layout i group it c (Ok index) = IsReady layout i group it c index
   Readies layout i group it c (Err e) = IsRefused layout i group it c e
 
-  abbrev pub ReadiesBlank : LayoutState → ℕ → Option (List ℕ) → Held S → Result Index OpenError → Type 0
+  abbrev pub ReadiesBlank : LayoutState → ℕ → Option (List ℕ) → Held S → Result Index StoreOpenError → Type 0
   ReadiesBlank layout i group c (Ok index) = HasCleanDisk (state g c) → Stores g layout (site_text i group) c index (made (site_text i group) (line_of layout))
   ReadiesBlank layout i group c (Err e) = IsRefusedBlank layout i group c e
 
@@ -147,18 +147,18 @@ module _ {S : Type 0} {g : Ghosts S} where
     pub sound : faults_of k ≡ 0
 
   -- the connection after an opening
-  abbrev pub left_by : Result (SqlKeeper S g) (OpenError × Held S) → Held S
+  abbrev pub left_by : Result (SqlKeeper S g) (StoreOpenError × Held S) → Held S
   left_by (Ok k) = below k
   left_by (Err x) = x.1
 
   -- The answer to an opening. Where the connection kept a content: a keeper of its durable part, the content being one
   -- of this site; or the connection again, with what it kept.
-  abbrev pub Opens : LayoutState → ℕ → Option (List ℕ) → Stored → Result (SqlKeeper S g) (OpenError × Held S) → Type 0
+  abbrev pub Opens : LayoutState → ℕ → Option (List ℕ) → Stored → Result (SqlKeeper S g) (StoreOpenError × Held S) → Type 0
   Opens layout i group it (Ok k) = (is_honest k → IsOwn layout i group it) × KeepsPart k (durable_in it)
   Opens layout i group it (Err x) = IsRefused g layout i group it x.1 x.0
 
   -- where it kept a database without tables: a keeper of nothing, or the connection again
-  abbrev pub OpensBlank : LayoutState → ℕ → Option (List ℕ) → Result (SqlKeeper S g) (OpenError × Held S) → Type 0
+  abbrev pub OpensBlank : LayoutState → ℕ → Option (List ℕ) → Result (SqlKeeper S g) (StoreOpenError × Held S) → Type 0
   OpensBlank layout i group (Ok k) = KeepsPart k nothing_kept
   OpensBlank layout i group (Err x) = IsRefusedBlank g layout i group x.1 x.0
 

@@ -23,7 +23,7 @@ use Rattle.store_tables.specs.Transacts.{made}
 use Rattle.store_content.specs.declared.index.Index.{Index}
 use Rattle.store_content.specs.Content.{IsContent, durable_in}
 use Rattle.durable_keeper.specs.Keeping.{nothing_kept}
-use Rattle.site_store.specs.declared.error.OpenError.{OpenError}
+use Rattle.site_store.specs.declared.error.StoreOpenError.{StoreOpenError}
 use Rattle.site_store.specs.declared.error.ServedError.{ServedError}
 use Rattle.site_store.specs.declared.error.ServedError.TheVariants.{NotAStore, NoStore, Exists, BadStore, WrongSite, WrongGroup, Outdated, WrongLayout, StoreFault, Memory}
 use Rattle.site_store.specs.Errors.{served_error}
@@ -102,7 +102,7 @@ IsDevice e = (e ≡ StoreFault) ⊎ (e ≡ Memory)
 
 -- a refusal that any opening has
 abbrev pub IsOpenRefusal : ServedError → Type 0
-IsOpenRefusal e = (o : OpenError) × (e ≡ served_error o)
+IsOpenRefusal e = (o : StoreOpenError) × (e ≡ served_error o)
 
 -- a refusal for what a store holds, or by the device
 abbrev pub IsHeldRefusal : ServedError → Type 0

@@ -2,8 +2,8 @@
 use Rattle.std.specs.Prelude.{◌≡◌, ◌≢◌, ℕ, List, [], ◌∷◌, ◌++◌, Option, Some, None, decimal, ⊤}
 use Rattle.std.specs.Option.{option_map}
 use Rattle.std.specs.Borrow.{Bor}
-use Rattle.site_store.specs.declared.error.OpenError.{OpenError}
-use Rattle.site_store.specs.declared.error.OpenError.TheVariants.{BadStore, WrongSite, WrongGroup, WrongLayout, StoreFault, Memory}
+use Rattle.site_store.specs.declared.error.StoreOpenError.{StoreOpenError}
+use Rattle.site_store.specs.declared.error.StoreOpenError.TheVariants.{BadStore, WrongSite, WrongGroup, WrongLayout, StoreFault, Memory}
 
 -- the site's number in decimals; in a group of sites also a blank and the group's name behind it
 abbrev pub site_text : ℕ → Option (List ℕ) → List ℕ
@@ -28,7 +28,7 @@ abbrev pub NamesOther : ℕ → List ℕ → Type 0
 NamesOther i text = (group : Option (List ℕ)) → text ≢ site_text i group
 
 -- why a text is not this site's: it names another site, or this one with another group
-abbrev pub IsForeign : ℕ → List ℕ → OpenError → Type 0
+abbrev pub IsForeign : ℕ → List ℕ → StoreOpenError → Type 0
 IsForeign i text WrongSite = NamesOther i text
 IsForeign i text WrongGroup = NamesSite i text
 IsForeign i text BadStore = ⊥

@@ -1,6 +1,6 @@
 ghost use Rattle.std.specs.Prelude.{◌≡◌};
 ghost use Rattle.site_store.specs.Errors.{keeper_error, open_error, served_error};
-ghost use Rattle.site_store.specs.declared.error.OpenError.TheVariants as opening;
+ghost use Rattle.site_store.specs.declared.error.StoreOpenError.TheVariants as opening;
 ghost use Rattle.site_store.specs.declared.error.ServedError.TheVariants as served;
 
 use durable_keeper::KeeperError;
@@ -20,7 +20,7 @@ pub(crate) fn keeper_error(e: TableError) -> KeeperError
 
 /// Why a store was not opened: the first of these that applies.
 #[derive(Clone, Copy, Debug, PartialEq, Eq, Error)]
-pub enum OpenError {
+pub enum StoreOpenError {
     /// Some of its tables, columns or rows of `meta` are missing, its version is not known, or it holds what no store
     /// of a site holds.
     #[error("BadStore")]
@@ -43,22 +43,22 @@ pub enum OpenError {
     Memory,
 }
 
-impl From<AllocError> for OpenError {
+impl From<AllocError> for StoreOpenError {
     ghost from_gives = { λ _ e. e ≡ opening.Memory };
 
-    fn from(_e: AllocError) -> OpenError {
-        OpenError::Memory
+    fn from(_e: AllocError) -> StoreOpenError {
+        StoreOpenError::Memory
     }
 }
 
-impl From<TableError> for OpenError {
+impl From<TableError> for StoreOpenError {
     ghost from_gives = { λ t e. e ≡ open_error t };
 
-    fn from(e: TableError) -> OpenError {
+    fn from(e: TableError) -> StoreOpenError {
         match e {
-            TableError::BadStore => OpenError::BadStore,
-            TableError::Memory => OpenError::Memory,
-            TableError::StoreFault => OpenError::StoreFault,
+            TableError::BadStore => StoreOpenError::BadStore,
+            TableError::Memory => StoreOpenError::Memory,
+            TableError::StoreFault => StoreOpenError::StoreFault,
         }
     }
 }
@@ -108,17 +108,17 @@ impl From<AllocError> for ServedError {
     }
 }
 
-impl From<OpenError> for ServedError {
+impl From<StoreOpenError> for ServedError {
     ghost from_gives = { λ o e. e ≡ served_error o };
 
-    fn from(e: OpenError) -> ServedError {
+    fn from(e: StoreOpenError) -> ServedError {
         match e {
-            OpenError::BadStore => ServedError::BadStore,
-            OpenError::WrongSite => ServedError::WrongSite,
-            OpenError::WrongGroup => ServedError::WrongGroup,
-            OpenError::WrongLayout => ServedError::WrongLayout,
-            OpenError::StoreFault => ServedError::StoreFault,
-            OpenError::Memory => ServedError::Memory,
+            StoreOpenError::BadStore => ServedError::BadStore,
+            StoreOpenError::WrongSite => ServedError::WrongSite,
+            StoreOpenError::WrongGroup => ServedError::WrongGroup,
+            StoreOpenError::WrongLayout => ServedError::WrongLayout,
+            StoreOpenError::StoreFault => ServedError::StoreFault,
+            StoreOpenError::Memory => ServedError::Memory,
         }
     }
 }
@@ -127,6 +127,6 @@ impl From<TableError> for ServedError {
     ghost from_gives = { λ t e. e ≡ served_error (open_error t) };
 
     fn from(e: TableError) -> ServedError {
-        ServedError::from(OpenError::from(e))
+        ServedError::from(StoreOpenError::from(e))
     }
 }

@@ -8,10 +8,11 @@ ghost use Rattle.store_tables.specs.Kept.{CommitsNothing, connection_of};
 ghost use Rattle.site_store.specs.Opened.{CommitsNothing as CommitsNone};
 ghost use Rattle.site_store.specs.SiteText.{site_text};
 
-use crate::opening::{is_same, site_text};
+use crate::opening::site_text;
 use sqlite::{Alter, Connection};
 use std::alloc::Global;
 use store_tables::{TableError, Tables};
+use text_parts::is_same;
 
 /// Whether a database, in which no transaction is open, as the caller shows, is the store of this site in no group, by its
 /// row for the site alone. Hands the database back; nothing is committed. Linear in what is stored.

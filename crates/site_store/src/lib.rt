@@ -2,7 +2,7 @@
 #![tactic(auto)]
 
 pub use durable_keeper::{Keeper, KeeperError, MemoryKeeper};
-pub use error::{OpenError, ServedError};
+pub use error::{ServedError, StoreOpenError};
 pub use groups::is_ungrouped;
 pub use laws::{grown_law, own_law};
 pub use new_store::make_store;

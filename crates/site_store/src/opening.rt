@@ -5,11 +5,11 @@ ghost use Rattle.sqlite.specs.Held.{state};
 ghost use Rattle.layout_line.specs.Line.{line_of};
 ghost use Rattle.store_rows.specs.Holding.{Keeps, KeepsBeside, KeepsEither, KeepsNothing, KeepsNothingOr};
 ghost use Rattle.store_tables.specs.Kept.{has_failed, connection_of, CommitsNothing, IsRefusal};
-ghost use Rattle.site_store.specs.declared.error.OpenError.TheVariants.{StoreFault, Memory};
+ghost use Rattle.site_store.specs.declared.error.StoreOpenError.TheVariants.{StoreFault, Memory};
 ghost use Rattle.site_store.specs.SiteText.{IsApart, IsForeign, NamesSite, named, site_text};
 ghost use Rattle.site_store.specs.Opened.{IsCurrent, IsDeviceCause, IsDue, IsJudged, IsLeftEither, IsLeftOr, IsOwn, IsReady, Readies, ReadiesBlank};
 
-use crate::error::OpenError;
+use crate::error::StoreOpenError;
 use layout_line::{Line, compare, layout_line};
 use merge_core::Layout;
 use sqlite::Alter;
@@ -17,7 +17,7 @@ use std::alloc::{AllocError, Global};
 use store_content::Index;
 use store_rows::{Content, Version};
 use store_tables::Tables;
-use text_parts::{number_at, push_field};
+use text_parts::{is_same, number_at, push_field};
 
 /// The site's number and the name of its group, if it has one, as the row `site` of the table `meta` has them.
 pub(crate) fn site_text(alloc: Global, site: u16, group: Option<&str>) -> Result<String, AllocError>
@@ -50,20 +50,13 @@ fn names_site(text: &[u8], site: u16) -> bool
 }
 
 /// Why a store is refused whose row for the site is not this site's own.
-fn foreign_site(text: &[u8], site: u16) -> OpenError
+fn foreign_site(text: &[u8], site: u16) -> StoreOpenError
     ensures { IsForeign site text.now result }
 {
     if names_site(text, site) {
-        return OpenError::WrongGroup;
+        return StoreOpenError::WrongGroup;
     }
-    OpenError::WrongSite
-}
-
-/// Whether two texts are the same.
-pub(crate) fn is_same(a: &[u8], b: &[u8]) -> bool
-    ensures { IsTrue result ↔ (a.now ≡ b.now) }
-{
-    a == b
+    StoreOpenError::WrongSite
 }
 
 /// The index of a content that is one of this site, and how its line compares with the layout: it is the layout's or
@@ -74,18 +67,18 @@ pub(crate) fn judge(
     layout: &Layout,
     site: u16,
     group: Option<&str>,
-) -> Result<(Index, Line), OpenError>
+) -> Result<(Index, Line), StoreOpenError>
     ensures { IsJudged layout.now site (named group.entry) content.now result }
 {
     let own = site_text(alloc, site, group)?;
     let Some(index) = Index::of(alloc, content)? else {
-        return Err(OpenError::BadStore);
+        return Err(StoreOpenError::BadStore);
     };
     if !is_same(content.site.as_slice(), own.as_bytes()) {
         return Err(foreign_site(content.site.as_slice(), site));
     }
     match compare(alloc, content.layout.as_slice(), layout, site)? {
-        Line::Other => Err(OpenError::WrongLayout),
+        Line::Other => Err(StoreOpenError::WrongLayout),
         line => Ok((index, line)),
     }
 }
@@ -109,7 +102,7 @@ pub(crate) fn open_found<S: Alter>(
     layout: &Layout,
     site: u16,
     group: Option<&str>,
-) -> Result<Index, OpenError>
+) -> Result<Index, StoreOpenError>
     requires { line.now ≡ line_of layout.now }
     ensures ready { (it : _) → Keeps S.Store (connection_of tables.old) it → (HasCleanDisk (state S.Store (connection_of tables.old)) → content.now ≡ it)
         → Readies S.Store layout.now site (named group.entry) it (connection_of tables.new) result }
@@ -139,7 +132,7 @@ pub(crate) fn make_new<S: Alter>(
     site: u16,
     group: Option<&str>,
     line: &str,
-) -> Result<Index, OpenError>
+) -> Result<Index, StoreOpenError>
     requires { line.now ≡ line_of layout.now }
     ensures made { KeepsNothing S.Store (connection_of tables.old) → ReadiesBlank S.Store layout.now site (named group.entry) (connection_of tables.new) result }
     ensures honest { HasCleanDisk (state S.Store (connection_of tables.new)) → HasCleanDisk (state S.Store (connection_of tables.old)) }
@@ -158,7 +151,7 @@ pub(crate) fn prepare<S: Alter>(
     layout: &Layout,
     site: u16,
     group: Option<&str>,
-) -> Result<Index, OpenError>
+) -> Result<Index, StoreOpenError>
     ensures ready { (it : _) → Keeps S.Store (connection_of tables.old) it → Readies S.Store layout.now site (named group.entry) it (connection_of tables.new) result }
     ensures made { KeepsNothing S.Store (connection_of tables.old) → ReadiesBlank S.Store layout.now site (named group.entry) (connection_of tables.new) result }
     ensures settles { (a b : _) → KeepsEither S.Store (connection_of tables.old) a b
@@ -196,6 +189,6 @@ pub(crate) fn prepare<S: Alter>(
             group,
         ),
         Ok(None) => make_new(alloc, tables, layout, site, group, line.as_str()),
-        Err(error) => Err(OpenError::from(error)),
+        Err(error) => Err(StoreOpenError::from(error)),
     }
 }

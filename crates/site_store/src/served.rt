@@ -15,7 +15,7 @@ ghost use Rattle.store_tables.specs.Transacts.{made};
 ghost use Rattle.site_store.specs.Opened.{IsCurrent, IsDue, IsReady};
 ghost use Rattle.site_store.specs.Served.{Finds, FindsStore, IsContentCause, IsDenied, IsDevice, IsDeviceOrMark, IsHeldRefusal, KeepsMark, KeepsNoMark, IsLeftOfDoubt, IsLeftOfEither, IsLeftOfNothing, IsNotEarlier, IsOpenRefusal, IsOriginOf, IsPermitted, IsSettled, IsTaken, MakesStore};
 
-use crate::error::{OpenError, ServedError};
+use crate::error::{ServedError, StoreOpenError};
 use crate::opening::{judge, make_new, open_found};
 use layout_line::{Line, compare, layout_line};
 use merge_core::Layout;
@@ -155,16 +155,16 @@ fn take_content<S: Alter>(
 }
 
 /// What a refusal of a marked store by what it holds is told as.
-fn marked_error(error: OpenError) -> ServedError
+fn marked_error(error: StoreOpenError) -> ServedError
     ensures { result ≡ marked_error error }
 {
     match error {
-        OpenError::BadStore => ServedError::BadStore,
-        OpenError::WrongSite => ServedError::WrongSite,
-        OpenError::WrongGroup => ServedError::WrongGroup,
-        OpenError::WrongLayout => ServedError::Outdated,
-        OpenError::StoreFault => ServedError::StoreFault,
-        OpenError::Memory => ServedError::Memory,
+        StoreOpenError::BadStore => ServedError::BadStore,
+        StoreOpenError::WrongSite => ServedError::WrongSite,
+        StoreOpenError::WrongGroup => ServedError::WrongGroup,
+        StoreOpenError::WrongLayout => ServedError::Outdated,
+        StoreOpenError::StoreFault => ServedError::StoreFault,
+        StoreOpenError::Memory => ServedError::Memory,
     }
 }
 

@@ -16,7 +16,7 @@ ghost use Rattle.site_store.specs.SiteText.{named};
 ghost use Rattle.site_store.specs.Sql.{Stores, Changes, ChangesEither};
 ghost use Rattle.durable_keeper.specs.declared.error.KeeperError.TheVariants.{Memory, StoreFault};
 
-use crate::error::{OpenError, ServedError, keeper_error};
+use crate::error::{ServedError, StoreOpenError, keeper_error};
 use crate::opening::{prepare, site_text};
 use crate::served::{Permission, check_permission, prepare_permitted};
 use admission_core::{Change, Durable};
@@ -197,7 +197,7 @@ impl<S: Alter> SqlKeeper<S> {
         layout: &Layout,
         site: u16,
         group: Option<&str>,
-    ) -> Result<SqlKeeper<S>, (OpenError, Connection<S>)>
+    ) -> Result<SqlKeeper<S>, (StoreOpenError, Connection<S>)>
         requires { connection.in_transaction ≡ false }
         ensures keeper { IfOk result (IsKeeperOf layout.now site (named group.entry)) }
         ensures store { (it : Stored) → Keeps S.Store connection it → Opens layout.now site (named group.entry) it result }
@@ -218,10 +218,10 @@ impl<S: Alter> SqlKeeper<S> {
         ensures honest { IfOk result (λ k. is_honest k → HasCleanDisk (state S.Store connection)) }
     {
         let Ok(copy) = layout.try_copy(alloc) else {
-            return Err((OpenError::Memory, connection));
+            return Err((StoreOpenError::Memory, connection));
         };
         let Ok(name) = copied_group(alloc, group) else {
-            return Err((OpenError::Memory, connection));
+            return Err((StoreOpenError::Memory, connection));
         };
         let mut tables = Tables::over(connection);
         match prepare(alloc, &mut tables, layout, site, group) {

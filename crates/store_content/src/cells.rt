@@ -1,11 +1,10 @@
 //! The counters of a change: which of them begin a row of notices, and the value of each.
 ghost use Rattle.std.specs.Prelude.{◌≡◌, ◌≤◌, IsTrue, IfOk};
-ghost use Rattle.admission_model.specs.Durable.{AreRising, is_before};
+ghost use Rattle.admission_model.specs.Durable.{AreRising};
 ghost use Rattle.admission_model.specs.Restoring.{stored_at};
 ghost use Rattle.store_content.specs.Plan.{begins_row, cells_of, site_at};
 
 use admission_core::DurableCell;
-use durable_keeper::is_before;
 use std::alloc::{AllocError, Global};
 use store_rows::StoredCell;
 
@@ -31,10 +30,10 @@ fn search(cells: &[DurableCell], wanted: DurableCell) -> Option<u64>
     }
     let middle = cells.len() / 2;
     let cell = cells[middle];
-    if is_before(cell, wanted) {
+    if cell.is_before(wanted) {
         return search(&cells[middle + 1..], wanted);
     }
-    if is_before(wanted, cell) {
+    if wanted.is_before(cell) {
         return search(&cells[..middle], wanted);
     }
     Some(cell.value)

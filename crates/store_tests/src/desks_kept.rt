@@ -7,7 +7,7 @@ use crate::desks::{
 use crate::stores::{At, Opened, Step, are_told};
 use admission_core::Ask;
 use desk_log::{Desk, Run, Runs, Transcript};
-use site_store::{Keeper, OpenError};
+use site_store::{Keeper, StoreOpenError};
 use sqlite::{Alter, Connection};
 use std::alloc::Global;
 
@@ -30,19 +30,19 @@ fn keepers_of_both_kinds_keep_the_same(rt: HostRuntime) {
 static JUDGED: [(&str, u16, u16, Opened); 7] = [
     ("", 2, 0, Opened::Holds(1, 1, true)),
     ("", 3, 0, Opened::Holds(1, 1, true)),
-    ("", 2, 1, Opened::Refused(OpenError::WrongSite)),
-    ("", 1, 0, Opened::Refused(OpenError::WrongLayout)),
+    ("", 2, 1, Opened::Refused(StoreOpenError::WrongSite)),
+    ("", 1, 0, Opened::Refused(StoreOpenError::WrongLayout)),
     (
         "UPDATE meta SET value = '9' WHERE name = 'version'",
         2,
         0,
-        Opened::Refused(OpenError::BadStore),
+        Opened::Refused(StoreOpenError::BadStore),
     ),
     (
         "DROP TABLE cells; CREATE TABLE cells (x INTEGER)",
         2,
         0,
-        Opened::Refused(OpenError::BadStore),
+        Opened::Refused(StoreOpenError::BadStore),
     ),
     (
         "CREATE TABLE other (x INTEGER)",

@@ -7,7 +7,7 @@ use crate::desks::{
 use crate::stores::{At, HERE, Opened, opened_at, serves_over};
 use admission_core::Durable;
 use desk_log::Desk;
-use site_store::{Keeper, KeeperError, OpenError};
+use site_store::{Keeper, KeeperError, StoreOpenError};
 use sqlite::{Alter, Connection};
 use std::alloc::Global;
 
@@ -60,7 +60,7 @@ fn opens_now_or_then<S: Alter + Drop>(
     let mut held = connection;
     for _ in 0..TRIES {
         let (found, back) = opened_at(alloc, held, at);
-        if found != Opened::Refused(OpenError::Memory) {
+        if found != Opened::Refused(StoreOpenError::Memory) {
             return is_open(found);
         }
         held = back;

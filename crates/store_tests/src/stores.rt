@@ -2,7 +2,7 @@
 use crate::databases::{after_texts, in_memory, layout};
 use crate::desks::{Shift, over};
 use admission_core::{Durable, Phase};
-use site_store::{Keeper, KeeperError, OpenError, SqlKeeper};
+use site_store::{Keeper, KeeperError, SqlKeeper, StoreOpenError};
 use sqlite::{Alter, Connection};
 use std::alloc::Global;
 
@@ -26,7 +26,7 @@ pub const HERE: At = At {
 /// What an opening comes to.
 #[derive(Clone, Copy, PartialEq, Eq)]
 pub enum Opened {
-    Refused(OpenError),
+    Refused(StoreOpenError),
     /// How many counters and sessions the store holds, and whether the first session reads.
     Holds(usize, usize, bool),
     /// The store is opened, and there is no memory for what it holds.

@@ -3,7 +3,7 @@ use crate::databases::{COUNTER, FIRST, after_texts, layout};
 use crate::files::{empty_files, opened};
 use crate::stores::{At, EMPTY, HERE, Opened, Step, are_told, held_by};
 use site_store::restart::restart;
-use site_store::{MemoryKeeper, OpenError, SqlKeeper};
+use site_store::{MemoryKeeper, SqlKeeper, StoreOpenError};
 use sqlite::{Alter, Connection, FileStore, Files, Options};
 use sqlite_disk::Crash;
 use std::alloc::Global;
@@ -72,13 +72,13 @@ const PAYROLL_SITES: At = At {
     group: Some("payroll"),
 };
 
-const WRONG_SITE: Opened = Opened::Refused(OpenError::WrongSite);
+const WRONG_SITE: Opened = Opened::Refused(StoreOpenError::WrongSite);
 
-const WRONG_GROUP: Opened = Opened::Refused(OpenError::WrongGroup);
+const WRONG_GROUP: Opened = Opened::Refused(StoreOpenError::WrongGroup);
 
-const WRONG_LAYOUT: Opened = Opened::Refused(OpenError::WrongLayout);
+const WRONG_LAYOUT: Opened = Opened::Refused(StoreOpenError::WrongLayout);
 
-const BAD_STORE: Opened = Opened::Refused(OpenError::BadStore);
+const BAD_STORE: Opened = Opened::Refused(StoreOpenError::BadStore);
 
 /// One store, new at site 0 of two sites: again, at site 1, with other seats, at three sites, and then at two again.
 static IN_TURN: [Step; 6] = [

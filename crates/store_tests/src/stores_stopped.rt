@@ -6,7 +6,7 @@ use crate::files::{Texts, Work, closed_after, empty_files, found_after_crash, fu
 use crate::tables::idle;
 use crate::tables_stopped::{Held, is_held};
 use admission_core::{DurableCell, Phase, Session};
-use site_store::{Keeper, KeeperError, OpenError, SqlKeeper};
+use site_store::{Keeper, KeeperError, SqlKeeper, StoreOpenError};
 use sqlite::{Alter, Connection};
 use std::alloc::Global;
 use std::sync::Wait;
@@ -169,7 +169,7 @@ fn opened_over<S: Alter + Drop>(
             let came = read_by(alloc, &mut keeper, story.part);
             (came, keeper.into_connection())
         }
-        Err((OpenError::StoreFault, back)) => (Came::Stopped, back),
+        Err((StoreOpenError::StoreFault, back)) => (Came::Stopped, back),
         Err((_, back)) => (Came::Other, back),
     }
 }

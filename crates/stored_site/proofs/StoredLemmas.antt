@@ -5,8 +5,8 @@ use Rattle.sqlite_trees.specs.declared.store.Store.{Ghosts as Device}
 use Rattle.sqlite.specs.Held.{Held}
 use Rattle.merge_core.specs.Layout.{LayoutState}
 use Rattle.durable_keeper.specs.declared.keeper.Keeper.{Ghosts}
-use Rattle.site_store.specs.declared.error.OpenError.{OpenError}
-use Rattle.site_store.specs.declared.error.OpenError.TheVariants as opening
+use Rattle.site_store.specs.declared.error.StoreOpenError.{StoreOpenError}
+use Rattle.site_store.specs.declared.error.StoreOpenError.TheVariants as opening
 use Rattle.site_store.specs.declared.sql.SqlKeeper.{SqlKeeper}
 use Rattle.text_input.specs.Input.{LosesSome, input_limit}
 use Rattle.text_input.specs.Source.{SourceState}
@@ -70,7 +70,7 @@ loses_none source = ([], record { lost = at source.remaining; bounded = omega ar
     at (Some bytes) = refl
 
 -- a refused store
-refused_end : (layout : LayoutState) (i : ℕ) (source : SourceState) (sink : SinkState) (error : OpenError) → i < layout.sites
+refused_end : (layout : LayoutState) (i : ℕ) (source : SourceState) (sink : SinkState) (error : StoreOpenError) → i < layout.sites
     → EndsStored layout i source source sink sink (refusal_status error)
 refused_end layout i source sink opening.BadStore there = (there, refl, refl)
 refused_end layout i source sink opening.WrongSite there = (there, refl, refl)

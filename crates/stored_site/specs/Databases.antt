@@ -41,7 +41,7 @@ pub record StopsSome (layout : LayoutState) (i : ℕ) (lines : List (List ℕ)) 
   pub written : Writes old new text
 
 -- The whole command, by the status: as the engine ends, over whatever store was found at the path; or there is no such
--- site, or the store is refused, and nothing was read or written. Without memory nothing is written.
+-- site, or the store is refused, and nothing was read or written. Without memory, and behind a failed read, nothing is written.
 abbrev pub EndsStored : LayoutState → ℕ → SourceState → SourceState → SinkState → SinkState → Status → Type 0
 EndsStored layout i source source_after sink sink_after Done =
     (i < layout.sites) × ((bytes : List ℕ) × ReadsInput source source_after (Ok bytes) × WritesSome layout i (lines_of bytes) true sink sink_after)
@@ -56,5 +56,5 @@ EndsStored layout i source source_after sink sink_after (NoLayout fault) =
 EndsStored layout i source source_after sink sink_after Memory =
     (i < layout.sites) × LosesSome source source_after (input_limit + 1) × LacksMemory source.fault source_after.fault × (sink_after ≡ sink)
 EndsStored layout i source source_after sink sink_after Io =
-    (i < layout.sites) × LosesSome source source_after (input_limit + 1) × (IsFailure source_after.fault ⊎ HasFault sink_after.fault)
+    (i < layout.sites) × LosesSome source source_after (input_limit + 1) × ((IsFailure source_after.fault × (sink_after ≡ sink)) ⊎ HasFault sink_after.fault)
 EndsStored layout i source source_after sink sink_after Usage = ⊥

@@ -8,8 +8,8 @@ use Rattle.merge_core.specs.Layout.{LayoutState}
 use Rattle.store_rows.specs.Rows.{Stored}
 use Rattle.store_rows.specs.Holding.{Keeps, KeepsBeside, KeepsEither, KeepsNothing, KeepsNothingOr}
 use Rattle.durable_keeper.specs.declared.keeper.Keeper.{Ghosts}
-use Rattle.site_store.specs.declared.error.OpenError.{OpenError}
-use Rattle.site_store.specs.declared.error.OpenError.TheVariants as opening
+use Rattle.site_store.specs.declared.error.StoreOpenError.{StoreOpenError}
+use Rattle.site_store.specs.declared.error.StoreOpenError.TheVariants as opening
 use Rattle.site_store.specs.declared.sql.SqlKeeper.{SqlKeeper}
 use Rattle.site_store.specs.Sql.{below}
 use Rattle.site_store.specs.Opened.{CommitsNothing, IsByDevice, IsCurrent, IsFault, IsJudgedFirst, IsLeftEither, IsLeftOr, IsOwn, Opens, OpensBlank, Settles, SettlesOr, left_by}
@@ -21,7 +21,7 @@ use Rattle.exit_status.specs.declared.status.Status.TheVariants.{NoStore, Memory
 use Rattle.site_engine.specs.Sites.{EndsSite}
 
 -- the end where the store in a database is refused
-abbrev pub refusal_status : OpenError → Status
+abbrev pub refusal_status : StoreOpenError → Status
 refusal_status opening.BadStore = NoStore BadStore
 refusal_status opening.WrongSite = NoStore WrongSite
 -- the names of these refusals are fixed and none of them is for a group: a store of another group counts as another site's
@@ -37,7 +37,7 @@ module _ {S : Type 0} (g : Device S) where
   -- them, or what the renewal of one makes of it. The same holds where a crash left a store or none, as an interrupted
   -- creation does, be it of an earlier layout. A fault of an honest device has its cause; nothing is committed before all
   -- is judged, nor where nothing is due; and other tables, which were made behind those of the store, keep their rows.
-  pub record OpensStore (layout : LayoutState) (i : ℕ) (group : Option (List ℕ)) (c : Held S) (opened : Result (SqlKeeper S g) (OpenError × Held S)) : Type 0 where
+  pub record OpensStore (layout : LayoutState) (i : ℕ) (group : Option (List ℕ)) (c : Held S) (opened : Result (SqlKeeper S g) (StoreOpenError × Held S)) : Type 0 where
     pub stored : (it : Stored) → Keeps g c it → Opens {g = g} layout i group it opened
     pub blank : KeepsNothing g c → OpensBlank {g = g} layout i group opened
     pub settles : (a b : Stored) → KeepsEither g c a b → IfOk opened (Settles a b)
@@ -62,7 +62,7 @@ module _ {S : Type 0} (g : Device S) where
 
   -- the store was refused: nothing was read or written
   pub record IsRefusedOver (layout : LayoutState) (i : ℕ) (c after : Held S) (source source_after : SourceState) (sink sink_after : SinkState) (ended : Status) : Type 0 where
-    pub error : OpenError
+    pub error : StoreOpenError
     pub opened : OpensStore layout i None c (Err (error, after))
     pub unread : source_after ≡ source
     pub silent : sink_after ≡ sink

@@ -5,7 +5,7 @@ ghost use Rattle.stored_site.specs.StoredSites.{EndsOver, refusal_status};
 use exit_status::{Status, StoreRefusal};
 use merge_core::Layout;
 use site_engine::site_engine;
-use site_store::{Keeper, OpenError, SqlKeeper};
+use site_store::{Keeper, SqlKeeper, StoreOpenError};
 use sqlite::{Alter, Connection};
 use std::alloc::Global;
 use std::io::{Read, Write};
@@ -32,16 +32,16 @@ pub fn serve_over<S: Alter + Drop, I: Read, O: Write>(
 }
 
 // How the program ends where the store is refused.
-fn refusal_status(error: OpenError) -> Status
+fn refusal_status(error: StoreOpenError) -> Status
     ensures { result ≡ refusal_status error }
 {
     match error {
-        OpenError::BadStore => Status::NoStore(StoreRefusal::BadStore),
-        OpenError::WrongSite => Status::NoStore(StoreRefusal::WrongSite),
+        StoreOpenError::BadStore => Status::NoStore(StoreRefusal::BadStore),
+        StoreOpenError::WrongSite => Status::NoStore(StoreRefusal::WrongSite),
         // These names are fixed and none of them is for a group: a store of another group counts as another site's.
-        OpenError::WrongGroup => Status::NoStore(StoreRefusal::WrongSite),
-        OpenError::WrongLayout => Status::NoStore(StoreRefusal::WrongLayout),
-        OpenError::StoreFault => Status::NoStore(StoreRefusal::StoreFault),
-        OpenError::Memory => Status::Memory,
+        StoreOpenError::WrongGroup => Status::NoStore(StoreRefusal::WrongSite),
+        StoreOpenError::WrongLayout => Status::NoStore(StoreRefusal::WrongLayout),
+        StoreOpenError::StoreFault => Status::NoStore(StoreRefusal::StoreFault),
+        StoreOpenError::Memory => Status::Memory,
     }
 }

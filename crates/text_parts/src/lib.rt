@@ -5,6 +5,7 @@
 pub use lists::{Element, joined_at};
 pub use literals::{after, behind_comma};
 pub use numbers::{Number, number_at, short_at};
+pub use same::is_same;
 pub use unread::Unread;
 pub use written::{Written, push_field, push_joined};
 
@@ -12,5 +13,6 @@ pub mod laws;
 mod lists;
 mod literals;
 mod numbers;
+mod same;
 mod unread;
 mod written;

@@ -6,7 +6,6 @@ pub use reading::{ReadError, read_transcripts};
 pub use runs::SiteRun;
 
 mod asks;
-mod cells;
 mod entries;
 pub mod laws;
 mod numbers;

@@ -3,8 +3,7 @@ ghost use Rattle.std.specs.Prelude.{◌≡◌, MatchResult};
 ghost use Rattle.admission_core.specs.Kept.{DurableState};
 ghost use Rattle.transcript_text.specs.Texts.{book_told, MayBegin};
 
-use crate::cells::cells_of;
-use admission_core::{Durable, Session};
+use admission_core::{Durable, Session, kept_cells};
 use merge_core::{Book, Delta, Layout};
 use std::alloc::Global;
 use text_parts::Unread;
@@ -30,6 +29,6 @@ pub(crate) fn part_told(
         return Err(Unread::Refused);
     }
     book.join(told);
-    let cells = cells_of(alloc, &under, site, &book)?;
+    let cells = kept_cells(alloc, &under, site, &book)?;
     Ok(Durable::new(cells, sessions))
 }

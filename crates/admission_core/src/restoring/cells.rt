@@ -2,7 +2,7 @@
 ghost use Rattle.std.specs.Prelude.{◌≡◌, ◌≢◌, ◌<◌, ◌≤◌, ◌↔◌, length, All, IsTrue, IsSome};
 ghost use Rattle.merge_core.specs.Rows.{start_counter};
 ghost use Rattle.merge_core.specs.Layout.{shape_of};
-ghost use Rattle.admission_model.specs.Durable.{AreRising, is_before, at_slot, named};
+ghost use Rattle.admission_model.specs.Durable.{AreRising, at_slot, named};
 ghost use Rattle.admission_core.specs.Restored.{IsListed};
 
 use crate::starts::grant;
@@ -22,18 +22,11 @@ fn are_rising(cells: &[DurableCell]) -> bool
     ensures { IsTrue result ↔ AreRising cells.now }
 {
     for i in 1..cells.len() {
-        if !is_before(&cells[i - 1], &cells[i]) {
+        if !cells[i - 1].is_before(cells[i]) {
             return false;
         }
     }
     true
-}
-
-// Whether a cell stands before another: by record, then by slot.
-fn is_before(c: &DurableCell, d: &DurableCell) -> bool
-    ensures { result ≡ is_before c.now d.now }
-{
-    c.r < d.r || (c.r == d.r && c.slot < d.slot)
 }
 
 // Whether each cell is one that a store may have.

@@ -4,6 +4,8 @@ ghost use Rattle.admission_core.specs.Prepared.{has_room};
 ghost use Rattle.admission_model.specs.Order.{sessions_next};
 ghost use Rattle.merge_core.specs.Book.{IsBook};
 ghost use Rattle.admission_core.specs.Carrying.{IsAllowed, RaisesOwn};
+ghost use Rattle.admission_model.specs.Account.{record_of};
+ghost use Rattle.admission_model.specs.declared.operation.Operation.TheVariants.{EnteredRead, AnnouncedWriter, EnteredWrite, LeftRecord};
 
 use admission_model::{Operation, Phase, Session};
 use merge_core::Book;
@@ -43,8 +45,6 @@ pub fn carry_out(
     }
 }
 
-ghost use Rattle.admission_model.specs.Account.{record_of};
-
 /// The record of an operation.
 pub fn record_of(operation: Operation) -> u16
     ensures { result ≡ record_of operation }
@@ -57,8 +57,6 @@ pub fn record_of(operation: Operation) -> u16
         | Operation::GaveSeats { r, .. } => r,
     }
 }
-
-ghost use Rattle.admission_model.specs.declared.operation.Operation.TheVariants.{EnteredRead, AnnouncedWriter, EnteredWrite, LeftRecord};
 
 // A reader takes one seat.
 fn enter_reader(book: &mut Book, sessions: &mut Sessions, site: u16, r: u16, h: u64)

@@ -5,7 +5,7 @@ ghost use Rattle.merge_core.specs.Rows.{counter_in, counters_of};
 ghost use Rattle.merge_core.specs.declared.delta.Row.{Row};
 
 use super::SiteCore;
-use super::cells::{ANNOUNCED_ELSEWHERE, FINISHED_ELSEWHERE, SENT};
+use crate::kept::{ANNOUNCED_ELSEWHERE, FINISHED_ELSEWHERE, SENT};
 use admission_model::{DurableCell, Refusal};
 use merge_core::{Cell, CheckError, Delta, Row};
 use std::alloc::AllocError;

@@ -1,4 +1,7 @@
 //! Where a site's seats would help.
+ghost use Rattle.std.specs.Prelude.{◌≡◌, ◌<◌, ◌≤◌};
+ghost use Rattle.admission_model.specs.View.{next_site};
+
 use super::SiteCore;
 use admission_model::Plan;
 
@@ -50,9 +53,6 @@ impl SiteCore {
         })
     }
 }
-
-ghost use Rattle.std.specs.Prelude.{◌≡◌, ◌<◌, ◌≤◌};
-ghost use Rattle.admission_model.specs.View.{next_site};
 
 // The site after this one, and site 0 after the last.
 fn next_site(sites: u16, site: u16) -> u16

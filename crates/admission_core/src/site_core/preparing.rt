@@ -1,4 +1,9 @@
 //! Answers, with the change and the room that carrying them out needs.
+ghost use Rattle.std.specs.Prelude.{◌≡◌, Some, ◌≤◌, ◌+◌, ◌++◌, OnOk};
+ghost use Rattle.admission_core.specs.declared.change.SessionChange.TheVariants.{Put};
+ghost use Rattle.admission_model.specs.Asked.{raised_cell};
+ghost use Rattle.admission_core.specs.Prepared.{arrives};
+
 use super::SiteCore;
 use crate::change::{Change, SessionChange};
 use crate::prepared::Prepared;
@@ -221,9 +226,6 @@ impl SiteCore {
     }
 }
 
-ghost use Rattle.std.specs.Prelude.{◌≡◌, Some};
-ghost use Rattle.admission_core.specs.declared.change.SessionChange.TheVariants.{Put};
-
 // A session that comes or changes its phase.
 fn put(r: u16, h: u64, phase: Phase) -> Option<SessionChange>
     ensures { result ≡ Some (Put (record { r = r; h = h; phase = phase })) }
@@ -237,10 +239,6 @@ const TAKEN: u16 = 200;
 const ANNOUNCED: u16 = 201;
 
 const FINISHED: u16 = 202;
-
-ghost use Rattle.std.specs.Prelude.{◌≤◌, ◌+◌, ◌++◌, OnOk};
-ghost use Rattle.admission_model.specs.Asked.{raised_cell};
-ghost use Rattle.admission_core.specs.Prepared.{arrives};
 
 // The new value of a counter that rises; one that does not gets no cell.
 fn push_raised(

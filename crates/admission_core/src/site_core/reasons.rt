@@ -1,4 +1,7 @@
 //! Why a site refuses: for each call its refusals, of which the first that applies is answered.
+ghost use Rattle.std.specs.Prelude.{◌≡◌, ◌+◌, nat_lt};
+ghost use Rattle.grow_counters.specs.Counts.{counter_limit};
+
 use super::SiteCore;
 use admission_model::{Ask, HOLDER_LIMIT, Phase, Refusal};
 use grow_counters::COUNTER_LIMIT;
@@ -172,9 +175,6 @@ impl SiteCore {
         self.first_unfinished(r)
     }
 }
-
-ghost use Rattle.std.specs.Prelude.{◌≡◌, ◌+◌, nat_lt};
-ghost use Rattle.grow_counters.specs.Counts.{counter_limit};
 
 // Whether a counter that rises by so much would pass its limit.
 fn passes_limit(counter: u64, by: u64) -> bool

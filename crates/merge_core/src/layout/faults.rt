@@ -41,21 +41,25 @@ pub fn fault_of(sites: u16, records: &[RecordSpec]) -> Option<LayoutError>
 fn all_names_good(records: &[RecordSpec]) -> bool
     ensures { result ≡ list_all has_good_name records.now }
 {
-    records.iter().all(|record| is_name(record.name.as_str()))
+    records
+        .iter()
+        .all(|record| is_record_name(record.name.as_str().as_bytes()))
 }
 
-fn is_name(name: &str) -> bool
+/// Whether bytes are a record's name: 1 to 16 letters from a to z, digits or `-`, the first a letter.
+pub fn is_record_name(name: &[u8]) -> bool
     ensures { result ≡ is_record_name name.now }
 {
-    match name.as_bytes() {
+    match name {
         [] => false,
         [first, rest @ ..] => first.is_ascii_lowercase()
             && rest.len() < MOST_NAME_BYTES
-            && all_name_bytes(rest),
+            && are_name_bytes(rest),
     }
 }
 
-fn all_name_bytes(bytes: &[u8]) -> bool
+/// Whether all bytes are such as names have behind their first letter.
+pub fn are_name_bytes(bytes: &[u8]) -> bool
     ensures { result ≡ list_all is_name_byte bytes.now }
 {
     bytes.iter().all(|b| (*b >= b'a' && *b <= b'z') || (*b >= b'0' && *b <= b'9') || *b == b'-')
@@ -72,7 +76,8 @@ fn all_names_differ(records: &[RecordSpec]) -> bool
     true
 }
 
-fn is_named(name: &str, records: &[RecordSpec]) -> bool
+/// Whether one of these records has this name. Compares it with each.
+pub fn is_named(name: &str, records: &[RecordSpec]) -> bool
     ensures { result ≡ has_name name.now records.now }
 {
     records.iter().any(|record| record.name.as_str() == name)

@@ -1,6 +1,6 @@
 //! What an event does at one site.
 ghost use Rattle.std.specs.Prelude.{◌≡◌, ◌≤◌, None};
-ghost use Rattle.admission_model.specs.declared.ask.Call.TheVariants.{Ask as AskCall, Merge};
+ghost use Rattle.admission_model.specs.declared.ask.Call.TheVariants.{Merge};
 ghost use Rattle.admission_model.specs.Account.{Account};
 ghost use Rattle.admission_model.specs.Knowledge.{grown};
 ghost use Rattle.admission_model.specs.Serving.{reason};
@@ -11,7 +11,7 @@ ghost use Rattle.multi_site_world.specs.Worlds.{reply_of_core};
 
 use crate::{Event, WorldReply};
 use admission_core::{RestoreError, SiteCore};
-use admission_model::{Ask, Refusal, Reply};
+use admission_model::{Refusal, Reply};
 use merge_core::{Delta, Layout};
 use std::alloc::Global;
 
@@ -36,20 +36,6 @@ pub fn told(reply: Reply) -> WorldReply
     match reply {
         Reply::Refused(Refusal::Memory) => WorldReply::Memory,
         reply => WorldReply::Core(reply),
-    }
-}
-
-/// The core answers what a caller asks.
-pub fn asked(core: &mut SiteCore, ask: Ask) -> Reply
-    ensures { IsServed core.old core.new (AskCall ask) result }
-{
-    match ask {
-        Ask::Read { r, h } => core.enter_read(r, h),
-        Ask::Announce { r, h } => core.announce(r, h),
-        Ask::Quill { r, h } => core.enter_write(r, h),
-        Ask::Leave { r, h } => core.leave(r, h),
-        Ask::Give { r, to, seats } => core.transfer(r, to, seats),
-        Ask::Help { r } => core.help(r),
     }
 }
 

@@ -2,8 +2,8 @@ use Rattle.std.proofs.Common.{rules, inr}
 use Rattle.exit_status.proofs.EngineLemmas.{too_long}
 use Rattle.judge_engine.proofs.engine.judge_engine.Goals as goal
 
-pub returns-else-not-write_and_flush : goal.returns-else-not-write_and_flush
-returns-else-not-write_and_flush g c = inr (
+pub returns-else-not-write_too_long : goal.returns-else-not-write_too_long
+returns-else-not-write_too_long g c = inr (
   too_long c.args.source.now c.read_input.new.source c.in-Err-TooLong.field-0 c.in-Err-TooLong.field-0-is c.in-Err-TooLong.ensures,
   search rules,
 )

@@ -9,11 +9,11 @@ use Rattle.store_tables.specs.Reads.{IsInRange}
 use Rattle.store_tables.specs.declared.tables.Tables.{Tables}
 use Rattle.store_tables.proofs.LookLemmas.{if_ok_from}
 use Rattle.store_content.specs.declared.index.Index.{Index}
-use Rattle.site_store.specs.declared.error.OpenError.TheVariants.{StoreFault, Memory}
+use Rattle.site_store.specs.declared.error.StoreOpenError.TheVariants.{StoreFault, Memory}
 use Rattle.store_rows.specs.Rows.{Stored}
 use Rattle.store_tables.specs.declared.error.TableError.{TableError}
 use Rattle.store_tables.specs.Kept.{connection_of}
-use Rattle.site_store.specs.declared.error.OpenError.{OpenError}
+use Rattle.site_store.specs.declared.error.StoreOpenError.{StoreOpenError}
 use Rattle.site_store.specs.SiteText.{named}
 use Rattle.site_store.specs.Opened.{IsCurrent, IsDeviceCause, IsDue, IsOwn, IsReady, IsRefused, IsRefusedBlank, Readies, ReadiesBlank}
 use Rattle.site_store.proofs.OpenLemmas.{beside_none, beside_some, refused, refused_blank, readies_any, settled_none, settled}
@@ -33,14 +33,14 @@ returns-in-Ok-None-clause-ready g c it keeps =
 pub returns-clause-ready : goal.returns-clause-ready
 returns-clause-ready g c it keeps =
     let conn = connection_of c.look.new.self in
-    subst (λ (e : OpenError). IsRefused g.S.Store c.args.layout.now c.args.site (named c.args.group) it conn e) (sym c.from.ensures)
+    subst (λ (e : StoreOpenError). IsRefused g.S.Store c.args.layout.now c.args.site (named c.args.group) it conn e) (sym c.from.ensures)
     (refused g.S.Store conn c.args.layout.now c.args.site (named c.args.group) it c.in-Err.error
     (λ is clean content. c.in-Err.ensures.own it (in_range it content) keeps clean (ap error is)) (c.in-Err.ensures.kept it keeps))
 
 pub returns-clause-made : goal.returns-clause-made
 returns-clause-made g c blank =
     let conn = connection_of c.look.new.self in
-    subst (λ (e : OpenError). IsRefusedBlank g.S.Store c.args.layout.now c.args.site (named c.args.group) conn e) (sym c.from.ensures)
+    subst (λ (e : StoreOpenError). IsRefusedBlank g.S.Store c.args.layout.now c.args.site (named c.args.group) conn e) (sym c.from.ensures)
     (refused_blank g.S.Store conn c.args.layout.now c.args.site (named c.args.group) c.in-Err.error (λ is clean. (c.in-Err.ensures.blank blank clean).1 (ap error is)) (c.in-Err.ensures.bare blank))
 
 pub returns-in-Ok-None-clause-settles : goal.returns-in-Ok-None-clause-settles
@@ -68,7 +68,7 @@ returns-in-Ok-Some-clause-settles_or g c it keeps =
     let early = c.open_found.ensures.honest clean in
     let kept = some_kept g.S.Store conn it _ early t found c.in-Ok-Some.content c.in-Ok-Some.field-0-is in
     let same = some_found g.S.Store conn it _ early t found c.in-Ok-Some.content c.in-Ok-Some.field-0-is in
-    subst (λ (r : Result Index OpenError). Readies g.S.Store layout c.args.site (named c.args.group) it next r) is (c.open_found.ensures.ready it kept (λ _. same)) in
+    subst (λ (r : Result Index StoreOpenError). Readies g.S.Store layout c.args.site (named c.args.group) it next r) is (c.open_found.ensures.ready it kept (λ _. same)) in
     inr (record { fits = λ clean. (ready clean).fits clean; stores = λ clean. (ready clean).stores clean }))
 
 pub returns-in-Ok-None-clause-settles_or : goal.returns-in-Ok-None-clause-settles_or
@@ -77,7 +77,7 @@ returns-in-Ok-None-clause-settles_or g c it keeps =
     let found = c.in-Ok-None.ensures.settles_or it keeps in
     if_ok_from c.make_new.result (λ index is. inl (λ clean.
     let blank = none_kept g.S.Store (connection_of c.look.new.self) it _ (c.make_new.ensures.honest clean) c.in-Ok-None.field-0 found c.in-Ok-None.field-0-is in
-    subst (λ (r : Result Index OpenError). ReadiesBlank g.S.Store layout c.args.site (named c.args.group) (connection_of c.make_new.new.tables) r) is (c.make_new.ensures.made blank) clean))
+    subst (λ (r : Result Index StoreOpenError). ReadiesBlank g.S.Store layout c.args.site (named c.args.group) (connection_of c.make_new.new.tables) r) is (c.make_new.ensures.made blank) clean))
 
 -- ---- a content of the site's own is refused by the device alone
 

@@ -2,7 +2,7 @@ use Rattle.std.proofs.Common.{◌≡◌, Bool, inl, inr, sym, subst, ◌∙◌, 
 use Rattle.std.proofs.lemmas.Result.{err_from_is_err_and}
 use Rattle.std.proofs.lemmas.Bool.{both_ways}
 use Rattle.layout_line.specs.Line.{IsLine}
-use Rattle.site_store.specs.declared.error.OpenError.TheVariants as opening
+use Rattle.site_store.specs.declared.error.StoreOpenError.TheVariants as opening
 use Rattle.site_store.specs.SiteText.{named}
 use Rattle.site_store.specs.Served.{IsContentCause}
 use Rattle.site_store.proofs.ServedLemmas.{memory_is_none}

@@ -1,5 +1,5 @@
 use Rattle.std.proofs.Common.{◌≢◌, sym, subst, ◌∙◌, false}
-use Rattle.site_store.specs.declared.error.OpenError.TheVariants as opening
+use Rattle.site_store.specs.declared.error.StoreOpenError.TheVariants as opening
 use Rattle.site_store.specs.declared.error.ServedError.{ServedError}
 use Rattle.site_store.specs.declared.error.ServedError.TheVariants as served
 use Rattle.site_store.specs.SiteText.{named}

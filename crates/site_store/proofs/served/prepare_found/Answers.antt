@@ -12,7 +12,7 @@ use Rattle.store_tables.specs.Marking.{HasOutdatedMark, TellsOutdated}
 use Rattle.store_tables.proofs.KeepLemmas.{leaves_still}
 use Rattle.store_tables.proofs.LookLemmas.{if_ok_from}
 use Rattle.store_content.specs.declared.index.Index.{Index}
-use Rattle.site_store.specs.declared.error.OpenError.TheVariants as opening
+use Rattle.site_store.specs.declared.error.StoreOpenError.TheVariants as opening
 use Rattle.site_store.specs.declared.error.ServedError.{ServedError}
 use Rattle.site_store.specs.declared.error.ServedError.TheVariants as served
 use Rattle.site_store.specs.Errors.{open_error}

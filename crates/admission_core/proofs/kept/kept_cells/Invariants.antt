@@ -1,11 +1,10 @@
 use Rattle.std.proofs.Common.{◌≡◌}
-use Rattle.merge_core.specs.Book.{counter_of}
 use Rattle.merge_core.specs.Layout.{shape_of}
 use Rattle.merge_core.specs.Rows.{start_counter}
 use Rattle.admission_model.specs.Durable.{places_from}
 use Rattle.admission_core.proofs.KeptLemmas.{kept_in}
-use Rattle.transcript_reader.proofs.cells.cells_of.Given as goal
+use Rattle.admission_core.proofs.kept.kept_cells.Given as goal
 
 abbrev pub invariant-loop-r : goal.invariant-loop-r
-invariant-loop-r l =
-    l.cells.items ≡ kept_in l.layout.sites l.site (start_counter (shape_of l.layout)) (counter_of l.book) (places_from 0 l.r)
+invariant-loop-r g l =
+    l.cells.items ≡ kept_in l.layout.sites l.site (start_counter (shape_of l.layout)) (g.C.Counters.counter l.counters l.layout) (places_from 0 l.r)

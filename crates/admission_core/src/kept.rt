@@ -1,168 +1,147 @@
-//! The counters that a store keeps of a site, read off a book.
-ghost use Rattle.std.specs.Prelude.{◌≡◌, ◌<◌, ◌≤◌, ◌++◌, length, option_map, IfSome, IfOk, OnOk};
+//! The counters that a store keeps of a site, by record and slot.
+ghost use Rattle.std.specs.Prelude.{◌≡◌, ◌<◌, ◌≤◌, ◌++◌, ℕ, length, option_map, IfSome, IfOk, OnOk};
+ghost use Rattle.merge_core.specs.declared.cell.Cell.{Cell};
 ghost use Rattle.merge_core.specs.Book.{HasCell, book_shape, counter_of};
-ghost use Rattle.merge_core.specs.Layout.{shape_of};
-ghost use Rattle.merge_core.specs.Rows.{grant, start_counter};
-ghost use Rattle.admission_model.specs.Durable.{at_slot, named, of_other, places, slots_from, slot_count, kept_cells};
+ghost use Rattle.merge_core.specs.Layout.{LayoutState, shape_of};
+ghost use Rattle.merge_core.specs.Rows.{start_counter};
+ghost use Rattle.admission_model.specs.Durable.{at_slot, kept_cells, named, of_other, places, slot_count, slots_from};
 
-use admission_core::DurableCell;
+use crate::starts::start_counter;
+use admission_model::DurableCell;
 use merge_core::{Book, Cell, Layout};
 use std::alloc::{AllocError, Global};
 
-// The first slot of the seats that each other site sent to the site.
-const SENT: u16 = 100;
-// The first slot of the writers that each other site announced.
-const ANNOUNCED_ELSEWHERE: u16 = 300;
-// The first slot of the writers that each other site finished.
-const FINISHED_ELSEWHERE: u16 = 400;
+/// The first slot of the seats that each other site sent to the site.
+pub(crate) const SENT: u16 = 100;
+/// The first slot of the writers that each other site announced.
+pub(crate) const ANNOUNCED_ELSEWHERE: u16 = 300;
+/// The first slot of the writers that each other site finished.
+pub(crate) const FINISHED_ELSEWHERE: u16 = 400;
 
-// So many slots, from the first one on.
-#[derive(Clone, Copy, Debug)]
-struct Slots {
-    first: u16,
-    count: u16,
+/// Counters of all sites that are read one by one: those of a book, or others that follow from one.
+pub trait Counters {
+    /// Each of them, at a layout: by record, site and cell.
+    ghost counter: { Self → LayoutState → ℕ → ℕ → Cell → ℕ };
+
+    /// They are counters of a layout's records and sites.
+    ghost fits: { Self → LayoutState → Type 0 };
+
+    /// The counter of site `s` for record `r`.
+    fn read(&self, layout: &Layout, r: u16, s: u16, cell: Cell) -> u64
+        requires fits { fits self.now layout.now }
+        requires record { r < length layout.now.records }
+        requires row { s < layout.now.sites }
+        requires cell { HasCell layout.now.sites cell }
+        ensures { result ≡ counter self.now layout.now r s cell };
 }
 
-/// The counters that have left their start. Linear in the book.
-pub(crate) fn cells_of(
+impl Counters for Book {
+    ghost counter = { λ book layout. counter_of book };
+
+    ghost fits = { λ book layout. book_shape book ≡ shape_of layout };
+
+    fn read(&self, layout: &Layout, r: u16, s: u16, cell: Cell) -> u64 {
+        let _ = layout;
+        self.counter(r, s, cell)
+    }
+}
+
+/// The counters of a site that have left their start, by record and slot. Linear in the slots that name a counter.
+pub fn kept_cells<C: Counters>(
     alloc: Global,
     layout: &Layout,
     site: u16,
-    book: &Book,
+    counters: &C,
 ) -> Result<Vec<DurableCell>, AllocError>
     requires site { site < layout.now.sites }
-    requires shape { book_shape book.now ≡ shape_of layout.now }
+    requires fits { C.fits counters.now layout.now }
     ensures { IfOk result (λ cells. cells.items ≡ kept_cells
         (at_slot layout.now.sites site (start_counter (shape_of layout.now)))
-        (at_slot layout.now.sites site (counter_of book.now))
+        (at_slot layout.now.sites site (C.counter counters.now layout.now))
         (places layout.now)) }
 {
     let mut cells = Vec::new(alloc);
     let few = layout.records().len() as u16;
     for r in 0..few {
-        push_kept(&mut cells, layout, site, book, r)?;
+        push_kept(&mut cells, layout, site, counters, r)?;
     }
     Ok(cells)
 }
 
 // Adds the counters of a record that have left their start, by slot. Only the slots below name a counter.
-fn push_kept(
+fn push_kept<C: Counters>(
     cells: &mut Vec<DurableCell>,
     layout: &Layout,
     site: u16,
-    book: &Book,
+    counters: &C,
     r: u16,
 ) -> Result<(), AllocError>
     requires site { site < layout.now.sites }
-    requires shape { book_shape book.now ≡ shape_of layout.now }
+    requires fits { C.fits counters.now layout.now }
     requires record { r < length layout.now.records }
     ensures { OnOk result (cells.new.items ≡ cells.old.items ++ kept_cells
         (at_slot layout.now.sites site (start_counter (shape_of layout.now)))
-        (at_slot layout.now.sites site (counter_of book.now))
+        (at_slot layout.now.sites site (C.counter counters.now layout.now))
         (slots_from r 0 slot_count)) }
 {
     let sites = layout.sites();
-    let given = Slots {
-        first: 0,
-        count: sites,
-    };
-    push_slots(cells, layout, site, book, r, given)?;
-    let sent = Slots {
-        first: SENT,
-        count: sites,
-    };
-    push_slots(cells, layout, site, book, r, sent)?;
-    let own = Slots {
-        first: 200,
-        count: 3,
-    };
-    push_slots(cells, layout, site, book, r, own)?;
-    let announced = Slots {
-        first: ANNOUNCED_ELSEWHERE,
-        count: sites,
-    };
-    push_slots(cells, layout, site, book, r, announced)?;
-    let finished = Slots {
-        first: FINISHED_ELSEWHERE,
-        count: sites,
-    };
-    push_slots(cells, layout, site, book, r, finished)
+    push_slots(cells, layout, site, counters, r, 0, sites)?;
+    push_slots(cells, layout, site, counters, r, SENT, sites)?;
+    push_slots(cells, layout, site, counters, r, 200, 3)?;
+    push_slots(cells, layout, site, counters, r, ANNOUNCED_ELSEWHERE, sites)?;
+    push_slots(cells, layout, site, counters, r, FINISHED_ELSEWHERE, sites)
 }
 
 // Adds those of so many slots from the first one on.
-fn push_slots(
+fn push_slots<C: Counters>(
     cells: &mut Vec<DurableCell>,
     layout: &Layout,
     site: u16,
-    book: &Book,
+    counters: &C,
     r: u16,
-    slots: Slots,
+    first: u16,
+    count: u16,
 ) -> Result<(), AllocError>
     requires site { site < layout.now.sites }
-    requires shape { book_shape book.now ≡ shape_of layout.now }
+    requires fits { C.fits counters.now layout.now }
     requires record { r < length layout.now.records }
-    requires first { slots.first ≤ 400 }
-    requires count { slots.count ≤ 16 }
+    requires first { first ≤ 400 }
+    requires count { count ≤ 16 }
     ensures { OnOk result (cells.new.items ≡ cells.old.items ++ kept_cells
         (at_slot layout.now.sites site (start_counter (shape_of layout.now)))
-        (at_slot layout.now.sites site (counter_of book.now))
-        (slots_from r slots.first slots.count)) }
+        (at_slot layout.now.sites site (C.counter counters.now layout.now))
+        (slots_from r first count)) }
 {
-    let Slots { first, count } = slots;
     for slot in first..first + count {
-        push_slot(cells, layout, site, book, r, slot)?;
+        push_slot(cells, layout, site, counters, r, slot)?;
     }
     Ok(())
 }
 
 // Adds the counter at a slot, if it has left its start.
-fn push_slot(
+fn push_slot<C: Counters>(
     cells: &mut Vec<DurableCell>,
     layout: &Layout,
     site: u16,
-    book: &Book,
+    counters: &C,
     r: u16,
     slot: u16,
 ) -> Result<(), AllocError>
     requires site { site < layout.now.sites }
-    requires shape { book_shape book.now ≡ shape_of layout.now }
+    requires fits { C.fits counters.now layout.now }
     requires record { r < length layout.now.records }
     ensures { OnOk result (cells.new.items ≡ cells.old.items ++ kept_cells
         (at_slot layout.now.sites site (start_counter (shape_of layout.now)))
-        (at_slot layout.now.sites site (counter_of book.now))
+        (at_slot layout.now.sites site (C.counter counters.now layout.now))
         (slots_from r slot 1)) }
 {
     if let Some((s, cell)) = named(layout.sites(), site, slot) {
-        let value = book.counter(r, s, cell);
+        let value = counters.read(layout, r, s, cell);
         if value != start_counter(layout, r, s, cell) {
             cells.push(DurableCell { r, slot, value })?;
         }
     }
     Ok(())
-}
-
-// The seats that a site is granted of a record.
-fn grant(layout: &Layout, r: u16, s: u16) -> u64
-    requires { r < length layout.now.records }
-    ensures { result ≡ grant (shape_of layout.now) r s }
-{
-    let record = &layout.records()[usize::from(r)];
-    if s == record.home {
-        u64::from(record.seats)
-    } else {
-        0
-    }
-}
-
-// The start of a counter.
-fn start_counter(layout: &Layout, r: u16, s: u16, cell: Cell) -> u64
-    requires { r < length layout.now.records }
-    ensures { result ≡ start_counter (shape_of layout.now) r s cell }
-{
-    match cell {
-        Cell::Out(j) if j == s => grant(layout, r, s),
-        _ => 0,
-    }
 }
 
 // The counter that a slot names at a site: whose row, and which counter of it.
