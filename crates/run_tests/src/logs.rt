@@ -14,18 +14,18 @@ use test_streams::{Giving, Keeping, NEVER};
 use text_input::{Sink, Source};
 use transcript_reader::read_transcripts;
 
-// The logs of a script, if it was carried out.
+// The logs of a script, if it was carried out under a layout with so many turns a link.
 fn logs_of<Rt: Threads + Wait + Sync>(
     rt: &Rt,
     alloc: Global,
-    toml: &str,
+    at: (&str, u64),
     script: &str,
 ) -> Option<Keeping> {
     let mut reader = Giving::new(script.as_bytes(), NEVER);
     let mut writer = Keeping::new(alloc, NEVER);
     let mut logs = Keeping::new(alloc, NEVER);
     let mut sink = Some(Sink::new(&mut logs));
-    match ending(rt, alloc, (toml, 30), &mut reader, &mut writer, &mut sink)? {
+    match ending(rt, alloc, at, &mut reader, &mut writer, &mut sink)? {
         Status::Done => Some(logs),
         _ => None,
     }
@@ -38,7 +38,7 @@ const ONE_LOG: &str = "\
 {\"call\":\"leave a 1\",\"pass\":0,\"reply\":\"left reader\"}\n";
 
 fn is_logged<Rt: Threads + Wait + Sync>(rt: &Rt, alloc: Global) -> Option<bool> {
-    let logs = logs_of(rt, alloc, ONE_SITE, "0 read a 1\n0 leave a 1\n")?;
+    let logs = logs_of(rt, alloc, (ONE_SITE, 30), "0 read a 1\n0 leave a 1\n")?;
     Some(logs.bytes() == ONE_LOG.as_bytes())
 }
 
@@ -107,7 +107,7 @@ fn are_judged_again<Rt: Threads + Wait + Sync>(
     row: &(&str, &str, usize),
 ) -> Option<bool> {
     let (toml, script, calls) = *row;
-    let logs = logs_of(rt, alloc, toml, script)?;
+    let logs = logs_of(rt, alloc, (toml, 30), script)?;
     Some(
         are_read_again(alloc, toml, logs.bytes(), calls)?
             && are_consistent(alloc, toml, logs.bytes())?,
@@ -172,11 +172,11 @@ fn calls_of(sites: u16, transcript: &Transcript) -> Option<Calls> {
 fn linked_calls<Rt: Threads + Wait + Sync>(
     rt: &Rt,
     alloc: Global,
-    toml: &str,
+    at: (&str, u64),
     script: &str,
 ) -> Option<Vec<Calls>> {
-    let logs = logs_of(rt, alloc, toml, script)?;
-    let layout = read_layout(alloc, toml.as_bytes()).ok()?;
+    let logs = logs_of(rt, alloc, at, script)?;
+    let layout = read_layout(alloc, at.0.as_bytes()).ok()?;
     let transcripts = read_transcripts(alloc, &layout, logs.bytes()).ok()?;
     let mut all = Vec::new(alloc);
     for transcript in transcripts.as_slice() {
@@ -189,11 +189,11 @@ fn linked_calls<Rt: Threads + Wait + Sync>(
 fn call_so<Rt: Threads + Wait + Sync>(
     rt: &Rt,
     alloc: Global,
-    toml: &str,
+    at: (&str, u64),
     sites: usize,
     each: Calls,
 ) -> Option<bool> {
-    let found = linked_calls(rt, alloc, toml, "1 announce a 5\n0 read a 1\n")?;
+    let found = linked_calls(rt, alloc, at, "1 announce a 5\n0 read a 1\n")?;
     let mut as_many = 0usize;
     for calls in found.as_slice() {
         as_many = as_many.saturating_add(usize::from(*calls == each));
@@ -201,20 +201,31 @@ fn call_so<Rt: Threads + Wait + Sync>(
     Some(as_many == sites && found.len() == sites)
 }
 
-// Each two sites are linked both ways: in each of the 30 turns of a link its sender asks itself to help and tells, and its
-// receiver hears.
+// A layout and the turns of each of its links; how many sites there are; and how often the runners of each site call.
+type Turns = ((&'static str, u64), usize, u32);
+
+// A few turns, and the most that there may be.
+static TURNS: [Turns; 4] = [
+    ((TWO_SITES, 30), 2, 30),
+    ((THREE_SITES, 30), 3, 60),
+    ((TWO_SITES, 1000), 2, 1000),
+    ((THREE_SITES, 1000), 3, 2000),
+];
+
+// Each two sites are linked both ways: in each turn of a link its sender asks itself to help and tells, and its receiver
+// hears.
 #[test]
 fn sites_tell_each_other_at_each_turn(rt: HostRuntime) {
-    for (toml, sites, links) in [(TWO_SITES, 2, 1), (THREE_SITES, 3, 2)] {
+    for (at, sites, times) in &TURNS {
         let each = Calls {
-            help: 30 * links,
-            snapshot: 30 * links,
-            merge: 30 * links,
+            help: *times,
+            snapshot: *times,
+            merge: *times,
             other: 0,
         };
         assert!(rt;
-            call_so(&rt, rt.alloc(), toml, sites, each) == Some(true),
-            "{sites} sites"
+            call_so(&rt, rt.alloc(), *at, *sites, each) == Some(true),
+            "{sites} sites, {times} calls"
         );
     }
 }
@@ -232,7 +243,7 @@ fn heard_news(transcript: &Transcript) -> Option<bool> {
 
 // Whether each site but the first heard something new.
 fn all_heard<Rt: Threads + Wait + Sync>(rt: &Rt, alloc: Global) -> Option<bool> {
-    let logs = logs_of(rt, alloc, THREE_SITES, "")?;
+    let logs = logs_of(rt, alloc, (THREE_SITES, 30), "")?;
     let layout = read_layout(alloc, THREE_SITES.as_bytes()).ok()?;
     let transcripts = read_transcripts(alloc, &layout, logs.bytes()).ok()?;
     let mut all = transcripts.len() == 3;
@@ -292,7 +303,7 @@ fn wanted(alloc: Global) -> Option<Vec<u16>> {
 // At how many sites of two the outbox asked for help with these records, in this order.
 fn count_helped<Rt: Threads + Wait + Sync>(rt: &Rt, alloc: Global) -> Option<usize> {
     let toml = twenty_records(alloc)?;
-    let logs = logs_of(rt, alloc, toml.as_str(), "")?;
+    let logs = logs_of(rt, alloc, (toml.as_str(), 30), "")?;
     let layout = read_layout(alloc, toml.as_bytes()).ok()?;
     let transcripts = read_transcripts(alloc, &layout, logs.bytes()).ok()?;
     let wanted = wanted(alloc)?;

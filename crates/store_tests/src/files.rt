@@ -57,6 +57,21 @@ pub fn crashed<D: Crash + Drop>(files: Files<D>) -> Files<D> {
     left
 }
 
+/// A file with all that was written to another one.
+fn written(alloc: Global, file: &Fuse<Memory>) -> Option<Memory> {
+    let mut copy = Memory::new(alloc);
+    copy.write_at(0, file.inner().bytes()).ok()?;
+    copy.sync().ok()?;
+    Some(copy)
+}
+
+/// The files as a process leaves them that dies: with all that it had written. They do not stop any more.
+pub fn left_by_process(alloc: Global, files: &Files<Fuse<Memory>>) -> Option<Files<Fuse<Memory>>> {
+    let log = written(alloc, &files.log)?;
+    let db = written(alloc, &files.db)?;
+    Some(fused(Files { log, db }, u64::MAX, u64::MAX))
+}
+
 /// The files of a database, which are not closed in order.
 fn files_of<D: Crash + Drop>(connection: Connection<FileStore<D>>) -> Files<D> {
     connection.into_store().close()

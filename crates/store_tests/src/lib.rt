@@ -24,6 +24,8 @@ mod logs_judged;
 #[cfg(test)]
 mod moves;
 #[cfg(test)]
+mod moves_stopped;
+#[cfg(test)]
 mod shells;
 #[cfg(test)]
 mod sites;

@@ -2,14 +2,17 @@
 //! turn. Site 1 was opened and closed.
 use crate::databases::layout;
 use crate::desks::{GIVE, READ_7, READ_8, Told};
-use crate::files::{Work, closed_after, empty_files, found_after_crash, fused, left_after};
+use crate::files::{
+    Work, closed_after, empty_files, found_after_crash, fused, left_after, left_by_process,
+};
 use crate::sites::{At, run_site};
 use admission_core::Ask;
 use desk_log::{Desk, Run, Runs, Transcript};
 use log_judge::{Verdict, are_of_sites, judge};
 use merge_core::Layout;
 use site_store::MemoryKeeper;
-use sqlite::{Alter, Connection};
+use sqlite::{Alter, Connection, Files};
+use sqlite_disk::{Fuse, Memory};
 use std::alloc::Global;
 use std::sync::Wait;
 
@@ -80,10 +83,10 @@ static TWO_ENTER: Opens = Opens {
     calls: &[(READ_7, Told::Admitted), (READ_8, Told::Admitted)],
 };
 
-static NO_CALL: Opens = Opens {
-    sites: 2,
-    calls: &[],
-};
+/// The second reader once more: it enters, or is there.
+const ENTERS_8: [(Ask, Told); 1] = [(READ_8, Told::Admitted)];
+
+const FINDS_8: [(Ask, Told); 1] = [(READ_8, Told::AlreadyHere)];
 
 // ---- a layout that grows
 
@@ -110,55 +113,184 @@ fn a_site_whose_layout_grows_leaves_a_consistent_log(rt: HostRuntime) {
 
 // ---- a store that stops
 
-/// The log of both openings, how many entries the first one left, and how many sessions the second began with.
-fn both(first: Transcript, later: Transcript) -> Option<(Transcript, u64, usize)> {
-    let mut all = first;
-    let entries = all.runs.as_slice().first()?.entries.len() as u64;
-    let began_with = later.runs.as_slice().first()?.first.sessions().len();
-    all.append(later).ok()?;
-    Some((all, entries, began_with))
+/// How many sessions the first run of a log begins with.
+fn sessions_before(log: &Transcript) -> Option<usize> {
+    Some(log.runs.as_slice().first()?.first.sessions().len())
 }
 
-/// How far a site came over files that stop after so many calls, how many sessions it then began with, and the verdict on both
+/// How many sessions a store has.
+fn sessions_in<S: Alter + Drop, R: Wait>(
+    rt: &R,
+    alloc: Global,
+    connection: Connection<S>,
+) -> Option<(usize, Connection<S>)> {
+    match run_site(rt, alloc, connection, 2, &[]) {
+        Some((_, Some(log), connection)) => Some((sessions_before(&log)?, connection)),
+        _ => None,
+    }
+}
+
+/// A site is opened again and answers the second reader by what its store has: its log, and how many sessions it began with.
+#[derive(Drop)]
+struct GoesOn;
+
+impl Work for GoesOn {
+    type Found = (Transcript, usize);
+
+    fn over<S: Alter + Drop, R: Wait>(
+        &self,
+        rt: &R,
+        alloc: Global,
+        connection: Connection<S>,
+    ) -> Option<((Transcript, usize), Connection<S>)> {
+        let (sessions, connection) = sessions_in(rt, alloc, connection)?;
+        let calls = if sessions == 2 { &FINDS_8 } else { &ENTERS_8 };
+        match run_site(rt, alloc, connection, 2, calls) {
+            Some((At::Served(1), Some(log), connection)) => Some(((log, sessions), connection)),
+            _ => None,
+        }
+    }
+}
+
+/// The verdict on the log of one opening and that of the next one behind it, at the end of both.
+fn verdict_on_both(alloc: Global, first: Transcript, later: Transcript) -> Option<Verdict> {
+    let entries = first.runs.as_slice().first()?.entries.len() as u64;
+    let mut all = first;
+    all.append(later).ok()?;
+    verdict_on(alloc, all, &[entries.saturating_add(1), 0])
+}
+
+/// What stops: the machine, and what was not synced is lost; or the process alone, and all that it wrote stays.
+#[derive(Clone, Copy, PartialEq, Eq)]
+enum Stops {
+    Machine,
+    Process,
+}
+
+/// A file that stops, and with what.
+#[derive(Clone, Copy)]
+struct Row {
+    of_log: bool,
+    stops: Stops,
+}
+
+/// Each file of a machine that stops.
+static MACHINE: [Row; 2] = [
+    Row {
+        of_log: true,
+        stops: Stops::Machine,
+    },
+    Row {
+        of_log: false,
+        stops: Stops::Machine,
+    },
+];
+
+/// The log of a process that dies.
+const PROCESS: Row = Row {
+    of_log: true,
+    stops: Stops::Process,
+};
+
+/// What the next opening of a site leaves after a stop.
+fn next_opening<R: Wait>(
+    rt: &R,
+    alloc: Global,
+    files: Files<Fuse<Memory>>,
+    stops: Stops,
+) -> Option<(Transcript, usize)> {
+    let left = if stops == Stops::Process {
+        left_by_process(alloc, &files)?
+    } else {
+        files
+    };
+    found_after_crash(rt, alloc, left, &GoesOn)
+}
+
+/// The files of a row, which stop after so many calls of one of them.
+fn files_of(alloc: Global, row: Row, calls: u64) -> Files<Fuse<Memory>> {
+    if row.of_log {
+        fused(empty_files(alloc), calls, 10000)
+    } else {
+        fused(empty_files(alloc), 10000, calls)
+    }
+}
+
+/// How far a site came that was stopped after so many calls, how many sessions it then began with, and the verdict on both
 /// openings; without a log of the first one there is nothing to judge.
-fn stopped<R: Wait>(rt: &R, alloc: Global, log: u64, db: u64) -> Option<(At, usize, Verdict)> {
-    let files = fused(empty_files(alloc), log, db);
-    let (first, files) = left_after(rt, alloc, files, &TWO_ENTER)?;
+fn stopped<R: Wait>(rt: &R, alloc: Global, row: Row, calls: u64) -> Option<(At, usize, Verdict)> {
+    let (first, files) = left_after(rt, alloc, files_of(alloc, row, calls), &TWO_ENTER)?;
     let Some((at, Some(first))) = first else {
         return Some((At::Unopened, 0, Verdict::Consistent));
     };
-    let (_, later) = found_after_crash(rt, alloc, files, &NO_CALL)?;
-    let (all, entries, began_with) = both(first, later?)?;
-    Some((at, began_with, verdict_on(alloc, all, &[entries, 0])?))
+    let (later, began_with) = next_opening(rt, alloc, files, row.stops)?;
+    Some((at, began_with, verdict_on_both(alloc, first, later)?))
 }
 
-/// At how many calls of one file a site was stopped until it ran to its end, and at how many of these the call in doubt was
-/// kept, if each log is consistent.
-fn stops<R: Wait>(rt: &R, alloc: Global, of_log: bool) -> Option<(u64, u64)> {
-    let mut kept = 0u64;
+/// At how many calls a site was stopped until it ran to its end; and at how many of these its store had kept the call in doubt,
+/// and at how many it had not.
+#[derive(Clone, Copy, Debug, PartialEq, Eq)]
+struct Count {
+    calls: u64,
+    kept: u64,
+    lost: u64,
+}
+
+const NONE: Count = Count {
+    calls: 0,
+    kept: 0,
+    lost: 0,
+};
+
+/// The count with one more stop, at which a site came so far and then began with so many sessions.
+fn with_stop(count: Count, at: At, began_with: usize) -> Count {
+    let mut more = count;
+    more.calls = count.calls.saturating_add(1);
+    match at {
+        At::Stopped(right) if began_with > right => more.kept = count.kept.saturating_add(1),
+        At::Stopped(_) => more.lost = count.lost.saturating_add(1),
+        _ => {}
+    }
+    more
+}
+
+/// The stops of a row at each call, one after another, if each log is consistent.
+fn counted<R: Wait>(rt: &R, alloc: Global, row: Row) -> Option<Count> {
+    let mut count = NONE;
     for calls in 0..600u64 {
-        let (log, db) = if of_log {
-            (calls, 10000)
-        } else {
-            (10000, calls)
-        };
-        let (at, began_with, verdict) = stopped(rt, alloc, log, db)?;
+        let (at, began_with, verdict) = stopped(rt, alloc, row, calls)?;
         if verdict != Verdict::Consistent {
             return None;
         }
-        match at {
-            At::Served(_) => return Some((calls, kept)),
-            At::Stopped(right) if began_with > right => kept = kept.saturating_add(1),
-            _ => {}
+        if let At::Served(_) = at {
+            return Some(count);
         }
+        count = with_stop(count, at, began_with);
     }
     None
 }
 
 #[test]
-fn a_site_whose_store_stops_leaves_a_consistent_log(rt: HostRuntime) {
-    for of_log in [true, false] {
-        let told = stops(&rt, rt.alloc(), of_log);
-        assert!(rt; matches!(told, Some((10.., _))), "{of_log}: {told:?}");
+fn a_site_whose_machine_stops_leaves_a_consistent_log(rt: HostRuntime) {
+    for (k, row) in MACHINE.iter().enumerate() {
+        let count = counted(&rt, rt.alloc(), *row);
+        assert!(rt;
+            matches!(count, Some(Count { calls: 10.., .. })),
+            "row {k}: {count:?}"
+        );
     }
+}
+
+#[test]
+fn a_process_that_dies_leaves_the_call_in_doubt_kept_or_not(rt: HostRuntime) {
+    let count = counted(&rt, rt.alloc(), PROCESS);
+    let both = matches!(
+        count,
+        Some(Count {
+            kept: 1..,
+            lost: 1..,
+            ..
+        })
+    );
+    assert!(rt; both, "{count:?}");
 }

@@ -1,7 +1,6 @@
-//! Stores that are moved to the next generation of their group, and stores of sites that are built again: step by step over
-//! databases in memory, and over files that stop at each call in turn.
+//! Stores that are moved to the next generation of their group, and stores of sites that are built again, step by step over
+//! databases in memory.
 use crate::databases::{after_texts, in_memory, layout};
-use crate::files::{Work, closed_after, empty_files, found_after_crash, fused, left_after};
 use crate::stores::{At, Opened, held_by};
 use exit_status::{Status, StoreRefusal};
 use live_databases::{Absence, RebuildEnd, ServiceEnd, make_rebuilt_over, regroup_over};
@@ -11,7 +10,6 @@ use site_rebuild::RebuildError;
 use site_store::{Permission, ServedError, SqlKeeper};
 use sqlite::{Alter, Connection};
 use std::alloc::Global;
-use std::sync::Wait;
 
 /// A site of so many, with two seats of record `a` at site 0, in a group or in none.
 macro_rules! at {
@@ -31,13 +29,14 @@ const SILENT: &str = "east.2:moved d6a41a2b6edb4b8d 49d0174c {\"from\":0,\"rows\
 const LATER: &str = "east.3:moved d6a41a2b6edb4b8d 49d0174c {\"from\":0,\"rows\":[],\"v\":1}";
 
 /// A reader is inside.
-const READ: &str = "INSERT INTO cells VALUES (0, 200, 1); INSERT INTO sessions VALUES (0, 7, 1, 5)";
+pub const READ: &str =
+    "INSERT INTO cells VALUES (0, 200, 1); INSERT INTO sessions VALUES (0, 7, 1, 5)";
 
-const TAKEN: &str =
+pub const TAKEN: &str =
     "east.2:moved d6a41a2b6edb4b8d 8fbd28c0 {\"from\":0,\"rows\":[{\"ann\":0,\"fin\":0,\"out\":[2,0],\"r\":0,\"s\":0,\"taken\":1}],\"v\":1}";
 
 /// A seat was given to site 1; also as a site of the group sends it, of three sites, and on two lines.
-const GAVE: &str =
+pub const GAVE: &str =
     "east.2:moved d6a41a2b6edb4b8d dd43195b {\"from\":0,\"rows\":[{\"ann\":0,\"fin\":0,\"out\":[2,1],\"r\":0,\"s\":0,\"taken\":0}],\"v\":1}";
 
 const SENT: &str =
@@ -63,7 +62,7 @@ const ACTED: &str =
 
 /// What an opening, a move or a rebuild comes to.
 #[derive(Clone, Copy)]
-enum Came {
+pub enum Came {
     /// The store was made, or was there, and is opened with so many counters and sessions.
     Open(usize, usize),
     Refused(ServedError),
@@ -76,7 +75,7 @@ enum Came {
 
 /// A step of a database.
 #[derive(Clone, Copy)]
-enum Step {
+pub enum Step {
     /// It takes these statements.
     Run(&'static str),
     /// It is made a store.
@@ -115,7 +114,7 @@ fn opens<S: Alter + Drop>(
     }
 }
 
-fn is_open(held: Opened, wanted: Came) -> bool {
+pub fn is_open(held: Opened, wanted: Came) -> bool {
     match (held, wanted) {
         (Opened::Holds(cells, sessions, _), Came::Open(c, s)) => cells == c && sessions == s,
         _ => false,
@@ -130,7 +129,7 @@ fn is_refused(error: ServedError, wanted: Came) -> bool {
 }
 
 /// A move of a store, and the connection.
-fn moved_at<S: Alter + Drop>(
+pub fn moved_at<S: Alter + Drop>(
     alloc: Global,
     connection: Connection<S>,
     at: At,
@@ -151,7 +150,7 @@ fn is_moved(told: &Result<String, ServiceEnd>, wanted: Came) -> bool {
 }
 
 /// A rebuild of a site, what it comes to, and the connection.
-fn built_at<S: Alter + Drop>(
+pub fn built_at<S: Alter + Drop>(
     alloc: Global,
     connection: Connection<S>,
     at: At,
@@ -182,7 +181,7 @@ fn is_built(ended: Option<RebuildEnd>, wanted: Came) -> bool {
 }
 
 /// The connection after a step, if that goes as it is told.
-fn after<S: Alter + Drop>(
+pub fn after<S: Alter + Drop>(
     alloc: Global,
     connection: Connection<S>,
     step: Step,
@@ -221,13 +220,13 @@ fn are_told(alloc: Global, steps: &[Step]) -> bool {
     }
 }
 
-const EAST: At = at!(2, 0, Some("east"));
+pub const EAST: At = at!(2, 0, Some("east"));
 
-const EAST_2: At = at!(2, 0, Some("east.2"));
+pub const EAST_2: At = at!(2, 0, Some("east.2"));
 
 const UNGROUPED: At = at!(2, 0, None);
 
-const LOST: At = at!(2, 1, Some("east.2"));
+pub const LOST: At = at!(2, 1, Some("east.2"));
 
 const LOST_OF_THREE: At = at!(3, 1, Some("east.2"));
 
@@ -458,185 +457,4 @@ fn a_store_is_moved_and_nothing_else_of_it_changes(rt: HostRuntime) {
 fn a_site_is_built_again_where_no_store_is(rt: HostRuntime) {
     let other = first_other(rt.alloc(), &REBUILDS);
     assert!(rt; other == None, "{other:?}");
-}
-
-/// Steps over a database on files.
-#[derive(Drop)]
-struct Steps(&'static [Step]);
-
-impl Work for Steps {
-    type Found = bool;
-
-    fn over<S: Alter + Drop, R: Wait>(
-        &self,
-        _rt: &R,
-        alloc: Global,
-        connection: Connection<S>,
-    ) -> Option<(bool, Connection<S>)> {
-        let connection = go_through(alloc, connection, self.0)?;
-        Some((true, connection))
-    }
-}
-
-/// The connection after steps, if they go as they are told.
-fn go_through<S: Alter + Drop>(
-    alloc: Global,
-    connection: Connection<S>,
-    steps: &[Step],
-) -> Option<Connection<S>> {
-    let mut held = connection;
-    for step in steps {
-        held = after(alloc, held, *step)?;
-    }
-    Some(held)
-}
-
-/// The store of site 0 is moved, or a store is made of site 1, whatever comes of it: whether it did.
-#[derive(Drop)]
-struct Changes(bool);
-
-impl Work for Changes {
-    type Found = bool;
-
-    fn over<S: Alter + Drop, R: Wait>(
-        &self,
-        _rt: &R,
-        alloc: Global,
-        connection: Connection<S>,
-    ) -> Option<(bool, Connection<S>)> {
-        if self.0 {
-            let (told, back) = moved_at(alloc, connection, EAST)?;
-            return Some((told.is_ok(), back));
-        }
-        let (ended, back) = built_at(alloc, connection, LOST, &[1], GAVE)?;
-        Some((ended.is_none(), back))
-    }
-}
-
-/// What was not changed by a stop is as it was, and is changed now.
-static MOVED_NOW: [Step; 2] = [
-    Step::Open(EAST, Came::Open(1, 1)),
-    Step::Move(EAST, Came::Text(TAKEN)),
-];
-
-static BUILT_NOW: [Step; 2] = [
-    Step::Open(LOST, Came::Refused(ServedError::NoStore)),
-    Step::Build(LOST, &[1], GAVE, Came::Rebuilt),
-];
-
-/// Whether a database is as the change leaves it; else it is as it was before, and the change goes well now.
-#[derive(Drop)]
-struct FindsOrChanges(bool);
-
-impl Work for FindsOrChanges {
-    type Found = bool;
-
-    fn over<S: Alter + Drop, R: Wait>(
-        &self,
-        _rt: &R,
-        alloc: Global,
-        connection: Connection<S>,
-    ) -> Option<(bool, Connection<S>)> {
-        let (at, cells, sessions) = if self.0 { (EAST_2, 1, 1) } else { (LOST, 1, 0) };
-        let (found, back) = is_there(alloc, connection, at, cells, sessions)?;
-        if found {
-            return Some((true, back));
-        }
-        let back = go_through(alloc, back, if self.0 { &MOVED_NOW } else { &BUILT_NOW })?;
-        Some((false, back))
-    }
-}
-
-/// Whether a database is a store with so many counters and sessions, and the connection.
-fn is_there<S: Alter + Drop>(
-    alloc: Global,
-    connection: Connection<S>,
-    at: At,
-    cells: usize,
-    sessions: usize,
-) -> Option<(bool, Connection<S>)> {
-    let layout = layout(alloc, at.sites, at.seats)?;
-    if !connection.is_autocommit() {
-        return None;
-    }
-    let permission = Permission {
-        create: false,
-        grow: false,
-    };
-    match SqlKeeper::open_served(alloc, connection, &layout, at.site, at.group, permission) {
-        Ok((mut keeper, _)) => {
-            let held = held_by(alloc, &mut keeper);
-            Some((
-                is_open(held, Came::Open(cells, sessions)),
-                keeper.into_connection(),
-            ))
-        }
-        Err((_, back)) => Some((false, back)),
-    }
-}
-
-/// What the database holds before.
-static BEFORE: [Step; 2] = [Step::Make(EAST), Step::Run(READ)];
-
-/// What a change comes to over files of which each stops after so many calls, if they open, and whether they are changed once
-/// they have crashed.
-fn stopped<R: Wait>(
-    rt: &R,
-    alloc: Global,
-    moves: bool,
-    log: u64,
-    db: u64,
-) -> Option<(Option<bool>, bool)> {
-    let files = if moves {
-        let (_, files) = closed_after(rt, alloc, empty_files(alloc), &Steps(&BEFORE))?;
-        files
-    } else {
-        empty_files(alloc)
-    };
-    let (came, left) = left_after(rt, alloc, fused(files, log, db), &Changes(moves))?;
-    let found = found_after_crash(rt, alloc, left, &FindsOrChanges(moves))?;
-    Some((came, found))
-}
-
-/// At how many calls of one file a change was stopped until it went well, if each stop left what was there before or all of
-/// the change, and a change that was told is there.
-fn stops<R: Wait>(rt: &R, alloc: Global, moves: bool, of_log: bool) -> Option<u64> {
-    for calls in 0..400u64 {
-        let (log, db) = if of_log {
-            (calls, 10000)
-        } else {
-            (10000, calls)
-        };
-        match stopped(rt, alloc, moves, log, db)? {
-            (Some(true), true) => return Some(calls),
-            (Some(true), false) => return None,
-            _ => {}
-        }
-    }
-    None
-}
-
-/// Whether it was stopped at several calls.
-fn survives<R: Wait>(rt: &R, alloc: Global, moves: bool, of_log: bool) -> Option<bool> {
-    Some(stops(rt, alloc, moves, of_log)? >= 3)
-}
-
-#[test]
-fn a_move_survives_each_stop_of_the_log(rt: HostRuntime) {
-    assert!(rt; survives(&rt, rt.alloc(), true, true) == Some(true));
-}
-
-#[test]
-fn a_move_survives_each_stop_of_the_file(rt: HostRuntime) {
-    assert!(rt; survives(&rt, rt.alloc(), true, false) == Some(true));
-}
-
-#[test]
-fn a_rebuild_survives_each_stop_of_the_log(rt: HostRuntime) {
-    assert!(rt; survives(&rt, rt.alloc(), false, true) == Some(true));
-}
-
-#[test]
-fn a_rebuild_survives_each_stop_of_the_file(rt: HostRuntime) {
-    assert!(rt; survives(&rt, rt.alloc(), false, false) == Some(true));
 }

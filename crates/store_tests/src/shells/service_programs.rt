@@ -155,7 +155,8 @@ fn each_line_of_a_service_is_answered(rt: HostRuntime) {
     assert_eq!(rt; wrongly_carried(&rt, rt.alloc(), &SERVED), None);
 }
 
-// Layout files that are refused: `serve` and `ask` name the record at fault, if it is one, and the other commands do not.
+// Layout files that are refused: the commands of a service name the record at fault, if it is one; `join`, `play`, `site`, `run`
+// and `judge` do not.
 static REFUSED: [Carried; 12] = [
     (
         &[
