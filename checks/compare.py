@@ -219,23 +219,24 @@ def script_of_calls(rng, layout, length):
 
 
 def replayed(path, layout, counts):
-    """The replies to each site's caller, and its calls, by a log that is replayed from its start."""
-    callers, at = {}, None
+    """The calls of each site's caller and their replies, and how often its links sent, by a log that is replayed from its start."""
+    callers, sends, at = {}, {}, None
     for line in Path(path).read_text("ascii").splitlines():
         entry = json.loads(line)
         if "book" in entry:
             s, empty = entry["site"], rules.reader.text_of({"from": entry["site"], "rows": [], "v": 1})
             start = {"book": empty, "sessions": [], "site": len(callers), "sites": layout["sites"]}
             compare(path, str(entry), str(start))
-            at, callers[s] = rules.Run(rules.Site(layout, s), layout), []
+            at, callers[s], sends[s] = rules.Run(rules.Site(layout, s), layout), [], 0
             continue
         call = entry["call"].replace("?65535", "no-such-record")
         compare(f"{path}: {call}", entry["reply"], at.answer(call.encode()))
         kind = entry["reply"] if not entry["reply"].startswith("{") else "(delta)"
         counts[NUMBERS.sub("", kind)] += 1
+        sends[s] += call == "send"
         if entry["pass"] == 0:
             callers[s].append((call, entry["reply"]))
-    return callers
+    return callers, sends
 
 
 def sites_at_once(program, runs, rng, folder, counts):
@@ -244,11 +245,12 @@ def sites_at_once(program, runs, rng, folder, counts):
         layout, _ = scripts.a_layout(rng)
         Path(layout_file).write_text(scripts.toml(layout), "ascii")
         lines = script_of_calls(rng, layout, rng.choice([0, 20, 200, 1000]))
-        turns = rng.choice([1, 5, 20, 40] if layout["sites"] < 16 else [1, 2])
+        turns = rng.choice([1, 5, 20, 40, 1000] if layout["sites"] < 4 else [1, 5, 20, 40] if layout["sites"] < 16 else [1, 2])
         words = [program, "run", "--turns", str(turns), "--out", log, "--layout", layout_file]
         Path(f"{folder}/script").write_bytes(b"\n".join(lines))
         done = subprocess.run(words, input=b"\n".join(lines), capture_output=True, check=False)
-        callers = replayed(log, layout, counts)
+        callers, sends = replayed(log, layout, counts)
+        compare(f"sends in {log}", str(set(sends.values())), str({turns * (layout["sites"] - 1)}))
         calls = [(s, call) for s, log_of in callers.items() for call, _ in log_of]
         asked = [(s, it) for s in range(layout["sites"]) for it in lines_of(lines, s)]
         compare(f"{folder}/script", "\n".join(map(str, calls)), "\n".join(map(str, asked)))

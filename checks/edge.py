@@ -575,7 +575,12 @@ def taken_away(place):
         store.unlink()
         store.mkdir()
 
-    for way in (move, remove, replace, folder):
+    def file_above(store):
+        above = store.parent
+        above.rename(above.with_name(above.name + ".aside"))
+        above.write_bytes(b"")
+
+    for way in (move, remove, replace, folder, file_above):
         for line in ("read a 5", "sessions a", "send", "leave a 9", "reed"):
             name = f"{way.__name__}.{line.split()[0]}"
             (place.folder / name).mkdir()
