@@ -528,6 +528,8 @@ class Ends(Case):
         read = zinduroi.read_layout(self.layout, PROGRAM)
         self.assertEqual(read, zinduroi.Layout(3, (Record("a", 3, 0), Record("b", 4, 1))))
         self.assertEqual(zinduroi.read_layout(program=PROGRAM), zinduroi.Layout(2, (Record("a", 2, 0),)))
+        named = self.write_layout("named.toml", 2, ("a", 2, 0, 1), ("record", 3, 1, 2), ("site", 1, 0, 1))
+        self.assertEqual(zinduroi.read_layout(named, PROGRAM), zinduroi.Layout(2, (Record("a", 2, 0), Record("record", 3, 1), Record("site", 1, 0))))
         with self.assertRaises(zinduroi.LayoutRefused):
             zinduroi.read_layout(self.folder, PROGRAM)
 

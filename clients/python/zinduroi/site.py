@@ -67,7 +67,8 @@ def read_layout(layout: Optional[Path] = None, program: Union[str, Sequence[str]
     sites = 0
     for line in ran.stdout.splitlines()[1:]:
         words = line.split()
-        if words[0] == "record":
+        # The head of the table of sessions; a record may be named so too.
+        if words[:2] == ["record", "site"]:
             break
         name, site, rights = words[0], int(words[1]), int(words[2])
         sites = max(sites, site + 1)
