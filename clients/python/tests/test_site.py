@@ -331,6 +331,21 @@ class Interruptions(Case):
             self.assertEqual(site.sessions("a"), [])
         self.assertEqual(site.announce("a", 1), 2)
 
+    def test_interrupted_leave_is_made(self):
+        """Ctrl-C while the end of a `with` waits behind the calls of others."""
+        site = self.open()
+        other = threading.Thread(target=site.show, args=("a",))
+        timers = [threading.Timer(0.6, os.kill, (os.getpid(), signal.SIGINT)), threading.Timer(0.9, os.kill, (site.pid, signal.SIGCONT))]
+        with self.assertRaises(KeyboardInterrupt):
+            with site.read("a", 7):
+                os.kill(site.pid, signal.SIGSTOP)
+                for thread in (other, *timers):
+                    thread.start()
+                time.sleep(0.3)
+        for thread in (other, *timers):
+            thread.join()
+        self.assertEqual(site.sessions("a"), [])
+
     def test_control_c_at_a_terminal(self):
         script = textwrap.dedent("""
             import sys

@@ -163,8 +163,8 @@ class Site:
         must not raise. Raises `ServiceEnded` if the site was closed."""
         self._service.submit(Call(line + b"\n", then=then))
 
-    def _answers(self, call: Call) -> List[str]:
-        replies = self._service.run(call)
+    def _answers(self, call: Call, stays: bool = False) -> List[str]:
+        replies = self._service.run(call, stays)
         for reply in replies:
             refused = refusal(reply)
             if refused is not None:
@@ -178,8 +178,9 @@ class Site:
         return number
 
     def leave(self, record: str, holder: int) -> str:
-        """Ends a session: `reader` or `writer`, which was inside, or `withdrawn`, a writer that waited."""
-        what = self.call(f"leave {record} {holder}").split(" ")[-1]
+        """Ends a session: `reader` or `writer`, which was inside, or `withdrawn`, a writer that waited. An exception that comes
+        meanwhile goes on behind the call, since nobody else would make it."""
+        what = self._answers(_call_of(f"leave {record} {holder}"), stays=True)[0].split(" ")[-1]
         if what != "reader":
             self.tell_listeners()
         return what
