@@ -5,6 +5,7 @@ import io
 import json
 import os
 import pathlib
+import shutil
 import signal
 import socket
 import sqlite3
@@ -499,6 +500,26 @@ class Restarts(NodeCase):
         self.says(client, ("read a y", "admitted"), ("sessions a", "2 x reader, y reader"), ("announce b w", "announced 1"))
         client.close()
         self.comes("sessions a", "0")
+
+    def test_service_that_does_not_start(self):
+        """A program that is away for a moment, as one that is being replaced: what came meanwhile is carried out behind that."""
+        program = self.folder / "program"
+        program.symlink_to(shutil.which(PROGRAM))
+        config = self.write_config()
+        config.write_text(config.read_text().replace(f'"{PROGRAM}"', f'"{program}"'))
+        self.process = self.spawn(config, "--create")
+        self.assertTrue(wait_for(self.answers))
+        client, other = self.connect(), self.connect()
+        self.says(client, ("read a x", "admitted"))
+        service = json.loads(client.ask("status"))["service"]
+        program.rename(self.folder / "away")
+        os.kill(service, signal.SIGKILL)
+        client.close()
+        other.socket.sendall(b"read a y\n")
+        self.assertRegex([self.process.stderr.readline() for _ in range(2)][1], "the service does not start: .*No such file")
+        (self.folder / "away").rename(program)
+        self.assertEqual(other.socket.recv(100), b"admitted\n")
+        self.comes("sessions a", "1 y reader")
 
     def test_socket(self):
         self.start(socket='mode = "640"')

@@ -100,7 +100,8 @@ class Link:
                     if await asyncio.to_thread(self.site.reopen):
                         report(f"{why}; started anew")
                     return
-                except ZinduroiError as failure:
+                except Exception as failure:
+                    # Whatever it is, as a program that is being replaced: the next attempt comes.
                     report(f"the service does not start: {failure}")
                 await asyncio.sleep(pause)
                 pause = min(pause * 2, LONGEST_PAUSE)
