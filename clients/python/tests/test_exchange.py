@@ -276,6 +276,19 @@ class Threads(Case):
             text = site.send()
             self.assertTrue(wait_for(lambda: (self.folder / "0.delta").read_text(encoding="utf-8") == text + "\n"))
 
+    def test_a_text_that_arrives_while_the_service_is_down(self):
+        """It is taken behind that, though the folder's file stays the same."""
+        site, other = self.open(), self.open(1)
+        exchange = Exchange(site, Folder(self.folder), records=["a"])
+        other.give("b", 0, 1)
+        Folder(self.folder).publish(1, other.send())
+        os.kill(site.pid, 9)
+        self.assertRaises(zinduroi.ServiceEnded, exchange.round)
+        self.assertRaises(zinduroi.ServiceEnded, exchange.round)
+        site.reopen(wait=10)
+        exchange.round()
+        self.assertEqual((site.show("b").rights, exchange.tally().took), (1, 1))
+
     def test_a_site_that_freezes(self):
         site = self.open()
         other = self.open(store=self.folder / "twice.db")

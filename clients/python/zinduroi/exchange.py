@@ -9,7 +9,7 @@ import pathlib
 import threading
 import time
 from types import TracebackType
-from typing import Callable, Counter, Optional, Sequence, Type
+from typing import Callable, Counter, Deque, Optional, Sequence, Type
 
 from .errors import Frozen, NoPlan, OwnRowAhead, Refused, StoreFault, ZinduroiError
 from .site import Path, Site, read_layout
@@ -68,6 +68,7 @@ class Exchange:
         self.failure: Optional[ZinduroiError] = None
         self._status = status
         self._tally = Tally()
+        self._arrived: Deque[str] = collections.deque()
         self._known: Optional[str] = None
         self._published: Optional[str] = None
         self._quiet = 0
@@ -161,21 +162,27 @@ class Exchange:
             self._send(self._known)
 
     def _take_all(self, starts: bool = False) -> int:
-        """Takes the texts that have arrived, and gives the number of counters that rose."""
+        """Takes the texts that have arrived, and gives the number of counters that rose. Those that the service could not be asked
+        for, as it had ended, come first: their transport doesn't tell them again, and their sites may send no more."""
+        rose = self._take_arrived()
         try:
-            texts = list(self.transport.messages())
+            self._arrived.extend(self.transport.messages())
         except (OSError, TransportFailed) as failed:
             # A folder that is not there at the start was mistyped, and will never be there.
             if starts and isinstance(failed, (FileNotFoundError, NotADirectoryError)):
                 raise
             self._count_failure(failed)
-            return 0
+            return rose
+        return rose + self._take_arrived()
+
+    def _take_arrived(self) -> int:
         rose = 0
-        for text in texts:
+        while self._arrived:
             # A line feed would end the call. With a blank in its place the program says what is wrong with the text.
-            text = text.rstrip("\n").replace("\n", " ")
+            text = self._arrived[0].rstrip("\n").replace("\n", " ")
             if text != self._published:
                 rose += self._take(text)
+            self._arrived.popleft()
         return rose
 
     def _take(self, text: str) -> int:
