@@ -341,6 +341,20 @@ class Transports(Case):
         with self.assertRaises(OSError):
             Folder(self.folder / "none").messages()
 
+    def test_folder_with_a_file_that_can_not_be_read(self):
+        """The texts of the others are told, and none of them is lost."""
+        folder = Folder(self.folder)
+        folder.publish(0, "x")
+        (self.folder / "1.delta").mkdir()
+        folder.publish(2, "y")
+        self.assertEqual(list(folder.messages()), ["x\n", "y\n"])
+        self.assertRaises(IsADirectoryError, folder.messages)
+        folder.publish(2, "z")
+        self.assertEqual(list(folder.messages()), ["z\n"])
+        self.assertRaises(IsADirectoryError, folder.messages)
+        (self.folder / "1.delta").rmdir()
+        self.assertEqual(list(folder.messages()), [])
+
     def test_command(self):
         command = Command(f"cat > {self.folder}/$ZINDUROI_SITE", f"cat {self.folder}/1", timeout=1)
         with self.assertRaises(TransportFailed):

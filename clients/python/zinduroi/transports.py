@@ -45,12 +45,18 @@ class Folder:
         os.replace(part, self.folder / f"{site}.delta")
 
     def messages(self) -> Iterable[str]:
-        texts = []
+        """The texts of all files that can be read. Why one can't be is raised where no other one has anything new."""
+        texts, failed = [], None
         for path in sorted(self.folder.iterdir()):
             if re.fullmatch(r"[0-9]+\.delta", path.name):
-                text = self._newer(path)
+                try:
+                    text = self._newer(path)
+                except OSError as error:
+                    text, failed = None, error
                 if text is not None:
                     texts.append(text)
+        if failed is not None and not texts:
+            raise failed
         return texts
 
     def _newer(self, path: pathlib.Path) -> Optional[str]:
