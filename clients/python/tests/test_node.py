@@ -15,6 +15,7 @@ import threading
 import time
 import unittest
 
+from zinduroi import Folder
 from zinduroi.command_line import main
 from zinduroi.node import NodeClient, NodeGone
 from zinduroi.node.book import Book, stored_sessions
@@ -500,6 +501,18 @@ class Restarts(NodeCase):
         self.says(client, ("read a y", "admitted"), ("sessions a", "2 x reader, y reader"), ("announce b w", "announced 1"))
         client.close()
         self.comes("sessions a", "0")
+
+    def test_service_of_an_idle_node_ends(self):
+        """The exchange goes on, though no caller says a line for which the service would be started anew."""
+        self.start()
+        with NodeClient(self.socket) as client:
+            service = json.loads(client.ask("status"))["service"]
+        other, told = self.open(1), self.folder / "deltas" / "0.delta"
+        self.assertTrue(wait_for(told.exists))
+        other.announce("a", 9)
+        os.kill(service, signal.SIGKILL)
+        Folder(self.folder / "deltas").publish(1, other.send())
+        self.assertTrue(wait_for(lambda: '"s":1,' in told.read_text(), 20))
 
     def test_service_that_does_not_start(self):
         """A program that is away for a moment, as one that is being replaced: what came meanwhile is carried out behind that."""
