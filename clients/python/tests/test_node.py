@@ -411,6 +411,21 @@ class Sessions(NodeCase):
         client.socket.shutdown(socket.SHUT_WR)
         self.assertEqual(self.rest(client), "refused NotHere\nrefused BadWord 2\nrefused BadWord\n")
 
+    def test_interrupted_line(self):
+        """No reply is taken for that of a later line, and the sessions stay until the connection is closed."""
+        self.start()
+        self.says(self.connect(), ("read a h", "admitted"))
+        client = self.connect()
+        self.says(client, ("read a x", "admitted"))
+        client.socket.settimeout(0.2)
+        for line in ("wait 1 write a w", "leave a x"):
+            with self.assertRaises(NodeGone):
+                client.ask(line)
+            time.sleep(1.5)
+        self.comes("sessions a", "2 h reader, x reader")
+        client.close()
+        self.comes("sessions a", "1 h reader")
+
     def test_keep_and_resume(self):
         self.start()
         client, other = self.connect(), self.connect()

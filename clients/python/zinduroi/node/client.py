@@ -27,6 +27,7 @@ class NodeClient:
         self.path = socket_path(path)
         self.socket = socket.socket(socket.AF_UNIX)
         self._read = b""
+        self._waits = False
         try:
             self.socket.connect(self.path)
         except OSError as error:
@@ -34,13 +35,18 @@ class NodeClient:
             raise NodeGone(f"no node answers at {self.path}: {error.strerror or error}") from None
 
     def ask(self, line: str) -> str:
-        """The node's reply to a line. Raises `NodeGone`."""
+        """The node's reply to a line. Raises `NodeGone`. If anything interrupts it, as Ctrl-C or a timeout of the socket, each further
+        line raises `NodeGone`, since the late reply would be taken for its own; sessions stay until `close`."""
         if "\n" in line:
             raise ValueError("a line has no line feed in it")
+        data = line.encode("utf-8", "surrogateescape") + b"\n"
+        if self._waits:
+            raise NodeGone(f"an earlier line to the node at {self.path} got no reply, and it may still come: close this connection")
+        self._waits = True
         try:
             # A node that turned the connection away has said so, and doesn't read the line.
             with contextlib.suppress(BrokenPipeError, ConnectionResetError):
-                self.socket.sendall(line.encode("utf-8", "surrogateescape") + b"\n")
+                self.socket.sendall(data)
             parts = [self._read]
             while b"\n" not in parts[-1]:
                 parts.append(self.socket.recv(65536))
@@ -49,6 +55,7 @@ class NodeClient:
         except OSError as error:
             raise NodeGone(f"the node at {self.path} ended: {error.strerror or error}") from None
         reply, _, self._read = b"".join(parts).partition(b"\n")
+        self._waits = False
         return reply.decode("utf-8", "replace")
 
     def fileno(self) -> int:
