@@ -181,6 +181,19 @@ class Books(Case):
         time.sleep(3)
         self.assertGreater(self.open_book().begin("a", None, "t", self, 7).number, last)
 
+    def test_numbers_that_can_not_be_reserved(self):
+        """No number is given that the file hasn't reserved."""
+        book = self.open_book()
+        with sqlite3.connect(self.folder / "s.db.sessions") as other:
+            other.execute("CREATE TRIGGER full BEFORE INSERT ON numbers BEGIN SELECT RAISE(FAIL, 'full'); END")
+        for _ in range(2):
+            with self.assertRaises(sqlite3.Error):
+                book.begin("a", "x", "t", self, 7)
+        self.assertEqual(book.sessions(), [])
+        other.execute("DROP TRIGGER full")
+        other.close()
+        book.begin("a", "x", "t", self, 7)
+
     def test_not_a_book(self):
         (self.folder / "s.db.sessions").write_bytes(b"no database, but a text that is long enough to be looked at" * 100)
         with self.assertRaises(sqlite3.DatabaseError):

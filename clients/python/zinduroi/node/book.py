@@ -158,13 +158,14 @@ class Book:
             number += 1
         if number > LAST_NUMBER:
             raise NumbersUsedUp
-        self._next = number + 1
-        if self._next > self._limit:
-            self._limit = self._next + RESERVED
+        if number >= self._limit:
+            limit = number + 1 + RESERVED
             with self._file:
                 self._file.execute("BEGIN")
                 self._file.execute("DELETE FROM numbers")
-                self._file.execute("INSERT INTO numbers VALUES (?)", (self._limit,))
+                self._file.execute("INSERT INTO numbers VALUES (?)", (limit,))
+            self._limit = limit
+        self._next = number + 1
         return number
 
 
