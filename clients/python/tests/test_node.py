@@ -152,6 +152,20 @@ class Books(Case):
         self.assertIsNone(book.find("b", "x"))
         self.assertGreater(book.begin("b", "x", "u", connection, 7).number, second.number)
 
+    def test_all_or_none_are_kept(self):
+        book, connection = self.open_book(), object()
+        sessions = [book.begin("a", word, "t", connection, 7) for word in "xy"]
+        with sqlite3.connect(self.folder / "s.db.sessions") as other:
+            other.execute("CREATE TRIGGER full BEFORE UPDATE ON sessions WHEN old.word = 'y' BEGIN SELECT RAISE(FAIL, 'full'); END")
+        other.close()
+        self.assertRaises(sqlite3.Error, book.keep, *sessions)
+        self.assertEqual([(it.kept, it.tied) for it in sessions], [(False, connection)] * 2)
+        numbers = {"a": [(it.number, "reader") for it in sessions]}
+        book.close()
+        again = self.open_book()
+        again.recall(numbers)
+        self.assertEqual([it.kept for it in again.sessions()], [False, False])
+
     def test_recall(self):
         book = self.open_book()
         kept, left, gone = (book.begin("a", word, "t", self, 7) for word in "xyz")

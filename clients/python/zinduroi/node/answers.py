@@ -221,12 +221,12 @@ class Answers:
         free = [session for session in found if session.tied is None or session.tied is caller]
         if not free:
             return "refused InUse"
+        if asked.keep:
+            self.book.keep(*free)
+        else:
+            self.book.tie(caller, *free)
         caller.adopt(asked.token)
         for session in free:
-            if asked.keep:
-                self.book.keep(session)
-            else:
-                self.book.tie(session, caller)
             chosen = caller.chosen.get(session.record)
             if session.word.startswith("-") and (chosen is None or not self.book.is_here(chosen)):
                 caller.chosen[session.record] = session

@@ -11,7 +11,7 @@ import os
 import secrets
 import sqlite3
 import time
-from typing import Dict, Iterable, List, Optional, Tuple
+from typing import Dict, Iterable, List, Optional, Sequence, Tuple
 
 # The greatest number of a holder.
 LAST_NUMBER = 10**12
@@ -100,15 +100,13 @@ class Book:
             with contextlib.suppress(sqlite3.Error):
                 self._file.execute("DELETE FROM sessions WHERE number = ?", (session.number,))
 
-    def keep(self, session: Session) -> None:
-        """No connection's end ends this session from now on. That is on the disk when this returns."""
-        self._set_kept(session, True)
-        session.tied = None
+    def keep(self, *sessions: Session) -> None:
+        """No connection's end ends these sessions from now on. That is on the disk when this returns."""
+        self._set_kept(sessions, True, None)
 
-    def tie(self, session: Session, to: object) -> None:
-        """The end of this connection ends the session from now on."""
-        self._set_kept(session, False)
-        session.tied = to
+    def tie(self, to: object, *sessions: Session) -> None:
+        """The end of this connection ends these sessions from now on."""
+        self._set_kept(sessions, False, to)
 
     def find(self, record: str, word: str) -> Optional[Session]:
         """The session of a word."""
@@ -139,14 +137,19 @@ class Book:
         self._by_number[session.record, session.number] = session
         self._by_word[session.record, session.word] = session
 
-    def _set_kept(self, session: Session, kept: bool) -> None:
-        if session.kept != kept:
+    def _set_kept(self, sessions: Sequence[Session], kept: bool, tied: Optional[object]) -> None:
+        """Changes all of these sessions, or none."""
+        changed = [(int(kept), session.number) for session in sessions if session.kept != kept]
+        if changed:
             self._file.execute("PRAGMA synchronous = FULL")
             try:
-                self._file.execute("UPDATE sessions SET kept = ? WHERE number = ?", (int(kept), session.number))
+                with self._file:
+                    self._file.execute("BEGIN")
+                    self._file.executemany("UPDATE sessions SET kept = ? WHERE number = ?", changed)
             finally:
                 self._file.execute("PRAGMA synchronous = NORMAL")
-            session.kept = kept
+        for session in sessions:
+            session.kept, session.tied = kept, tied
 
     def _stored_next(self) -> int:
         row = self._file.execute("SELECT max(next) FROM numbers").fetchone()
