@@ -18,6 +18,7 @@ import unittest
 from zinduroi import Folder
 from zinduroi.command_line import main
 from zinduroi.node import NodeClient, NodeGone
+from zinduroi.node.answers import Answers, Caller
 from zinduroi.node.book import Book, stored_sessions
 from zinduroi.node.desk import Desk
 from zinduroi.node.config import ConfigError, read_config
@@ -263,6 +264,55 @@ class Interruptions(Case):
                 self.assertEqual(session.phase, {"admitted": "writer" if verb == "write" else "reader", "announced 1": "waiting"}.get(reply))
                 self.assertEqual(book.is_here(session), verb != "leave")
             book.close()
+
+
+class ListedLink:
+    """A link whose replies are a list; an exception in it is raised."""
+
+    def __init__(self, *replies):
+        self.replies, self.lines, self.site = list(replies), [], self
+
+    def tell_listeners(self):
+        pass
+
+    async def ask(self, line):
+        self.lines.append(line.split(" ")[0])
+        reply = self.replies.pop(0)
+        if isinstance(reply, Exception):
+            raise reply
+        return reply
+
+    ask_until = ask
+
+
+class NoMemory(Case):
+    """The program finds no memory for a line that nobody would repeat: the node does."""
+
+    def run_line(self, line, *replies):
+        """The reply to a connection's line, and what the line and the end of the connection ask of the program, with these replies."""
+        link, book = ListedLink(*replies), Book(self.folder / f"{len(list(self.folder.iterdir()))}.sessions")
+        answers, caller = Answers(link, book, ("a",), dict), Caller(1, lambda: True)
+
+        async def converse():
+            reply = await answers.answer(caller, line)
+            asked, link.lines = link.lines, []
+            await answers.end(caller)
+            return reply, asked, link.lines
+        found = asyncio.run(converse())
+        self.assertEqual((book.sessions(), link.replies), ([], []))
+        book.close()
+        return found
+
+    def test_end_of_a_connection(self):
+        self.assertEqual(self.run_line(b"read a x", "admitted", "refused Memory", "left reader"), ("admitted", ["read"], ["leave", "leave"]))
+
+    def test_end_of_a_wait(self):
+        self.assertEqual(self.run_line(b"wait 0 write a w", "announced 1", "refused MissingSeats 2 3", "refused Memory", "withdrawn"),
+                         ("timeout refused MissingSeats 2 3", ["announce", "write", "leave", "leave"], []))
+
+    def test_end_of_the_service(self):
+        self.assertEqual(self.run_line(b"read a x", Interrupted(), "refused Memory", "0", "admitted", "left reader"),
+                         ("admitted", ["read", "sessions", "sessions", "read"], ["leave"]))
 
 
 class NodeCase(Case):

@@ -83,7 +83,7 @@ class Answers:
     async def end(self, caller: Caller) -> None:
         """The connection has ended: its sessions are left or withdrawn. Only the end of the connection itself may call this."""
         for session in self.book.tied_to(caller):
-            reply = await self.desk.ask(session, "leave")
+            reply = await self.desk.leave(session)
             if self.book.is_here(session):
                 report(f"{session.record} {session.word} is not left: {reply}")
                 session.tied = None

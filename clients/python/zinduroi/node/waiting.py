@@ -78,7 +78,7 @@ class Queues:
             if not await self._pause(waiter, end):
                 last = last or f"refused Queued {queue.index(waiter)}"
                 if waiter.session.phase == "waiting":
-                    await desk.ask(waiter.session, "leave")
+                    await desk.leave(waiter.session)
                 return f"timeout {last}"
 
     async def _pause(self, waiter: Waiter, end: float) -> bool:
