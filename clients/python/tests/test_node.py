@@ -285,8 +285,8 @@ class ListedLink:
     ask_until = ask
 
 
-class NoMemory(Case):
-    """The program finds no memory for a line that nobody would repeat: the node does."""
+class Refusals(Case):
+    """Where the program finds no memory for a line that nobody would repeat, the node does; and no refused writer stays announced."""
 
     def run_line(self, line, *replies):
         """The reply to a connection's line, and what the line and the end of the connection ask of the program, with these replies."""
@@ -309,6 +309,10 @@ class NoMemory(Case):
     def test_end_of_a_wait(self):
         self.assertEqual(self.run_line(b"wait 0 write a w", "announced 1", "refused MissingSeats 2 3", "refused Memory", "withdrawn"),
                          ("timeout refused MissingSeats 2 3", ["announce", "write", "leave", "leave"], []))
+
+    def test_refused_writer(self):
+        self.assertEqual(self.run_line(b"wait 9 write a w", "announced 1", "refused CounterFull", "withdrawn"),
+                         ("refused CounterFull", ["announce", "write", "leave"], []))
 
     def test_end_of_the_service(self):
         self.assertEqual(self.run_line(b"read a x", Interrupted(), "refused Memory", "0", "admitted", "left reader"),
