@@ -904,6 +904,20 @@ class Commands(NodeCase):
         self.assertEqual(self.ran("a", "--read", "--", "echo", "--", "x"), (0, "-- x\n", ""))
         self.assertEqual([self.ran("a", "true")[0], self.ran("a", "--")[0], self.ran("--timeout", "-1", "a", "--", "true")[0]], [2, 2, 2])
 
+    def test_session_that_is_not_left(self):
+        """A node that can't leave says so, and `lock` tells it."""
+        replies = {b"token": b"token 00", b"wait": b"admitted", b"fence": b"fence 7", b"leave": b"refused Frozen"}
+        with socket.socket(socket.AF_UNIX) as listening:
+            listening.bind(str(self.socket))
+            listening.listen()
+            process = self.lock("a", "--", "sh", "-c", "exit 3")
+            connection, _ = listening.accept()
+            with connection:
+                for line in connection.makefile("rb"):
+                    connection.sendall(replies[line.split()[0]] + b"\n")
+            self.assertEqual(process.communicate(timeout=60), ("", "zinduroi: the session of a is not left: refused Frozen. See zinduroi status\n"))
+        self.assertEqual(process.returncode, 3)
+
     def test_killed_lock(self):
         """The session of a `lock` that was killed stays as long as its command lives."""
         self.start()

@@ -224,8 +224,9 @@ class Lock:
         try:
             while True:
                 try:
-                    if self.token:
-                        self._ask(f"leave {self.record} -")
+                    reply = self._ask(f"leave {self.record} -") if self.token else ""
+                    if reply.startswith("refused ") and reply != "refused NotHere":
+                        report(f"the session of {self.record} is not left: {reply}. See zinduroi status")
                     return
                 except NodeGone:
                     self._return(end, keep=False)
