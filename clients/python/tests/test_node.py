@@ -918,6 +918,34 @@ class Commands(NodeCase):
             self.assertEqual(process.communicate(timeout=60), ("", "zinduroi: the session of a is not left: refused Frozen. See zinduroi status\n"))
         self.assertEqual(process.returncode, 3)
 
+    def test_hang_up_that_is_ignored(self):
+        """As behind `nohup`: it does not keep `lock` from leaving a session that hangs on it."""
+        replies = {b"token": b"token 00", b"wait": b"admitted", b"fence": b"fence 7", b"resume": b"resumed 1 a -1 writer"}
+        with socket.socket(socket.AF_UNIX) as listening:
+            listening.bind(str(self.socket))
+            listening.listen()
+            process = self.lock("a", "--", "sh", "-c", "echo inside; read line; exit 5", stdin=subprocess.PIPE,
+                                preexec_fn=lambda: signal.signal(signal.SIGHUP, signal.SIG_IGN))
+            for lines in (3, 1):
+                connection, _ = listening.accept()
+                reader = connection.makefile("rb")
+                for _ in range(lines):
+                    connection.sendall(replies[reader.readline().split()[0]] + b"\n")
+                if lines == 3:
+                    self.assertEqual(process.stdout.readline(), "inside\n")
+                    reader.close()
+                    connection.close()
+            process.stdin.write("\n")
+            process.stdin.flush()
+            self.assertEqual(reader.readline(), b"leave a -\n")
+            process.send_signal(signal.SIGHUP)
+            time.sleep(0.3)
+            connection.sendall(b"left writer\n")
+            self.assertEqual(process.communicate(timeout=60), ("", ""))
+            reader.close()
+            connection.close()
+        self.assertEqual(process.returncode, 5)
+
     def test_killed_lock(self):
         """The session of a `lock` that was killed stays as long as its command lives."""
         self.start()

@@ -147,13 +147,12 @@ class Lock:
         os.close(held)
         lost = False
         if process is not None:
-            for number in PASSED_ON:
-                signal.signal(number, _passes_on(process))
+            found = {number: signal.signal(number, _passes_on(process)) for number in PASSED_ON}
             signal.pthread_sigmask(signal.SIG_SETMASK, mask)
             lost = self._watch(process)
             status = process.returncode if process.returncode >= 0 else 128 - process.returncode
-            for number in PASSED_ON:
-                signal.signal(number, signal.SIG_DFL)
+            for number, handler in found.items():
+                signal.signal(number, handler)
         self._leave(lifeline)
         os.close(lifeline)
         return NO_NODE if lost and self.strict else status
