@@ -454,7 +454,7 @@ class Sessions(NodeCase):
         self.says(other, ("leave a z", "left reader"))
 
     def test_shut_down(self):
-        """A connection that says no more, but is not closed, has not ended."""
+        """A connection that says no more, but is not closed, has not ended; one that is shut down both ways has."""
         self.start()
         client = self.connect()
         self.says(client, ("read a x", "admitted"))
@@ -462,6 +462,10 @@ class Sessions(NodeCase):
         time.sleep(0.3)
         self.says(self.connect(), ("sessions a", "1 x reader"))
         client.close()
+        self.comes("sessions a", "0")
+        client = self.connect()
+        self.says(client, ("read a x", "admitted"))
+        client.socket.shutdown(socket.SHUT_RDWR)
         self.comes("sessions a", "0")
         idle, reply = self.asks("show b")
         idle.socket.shutdown(socket.SHUT_WR)

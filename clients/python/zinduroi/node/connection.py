@@ -17,8 +17,8 @@ CHUNK = 65_536
 
 
 class Connection:
-    """One connection of the node. It has ended when the last holder of its other end has closed it, and only then; a caller that
-    shuts down its writing side may still be inside."""
+    """One connection of the node. It has ended when the last holder of its other end has closed it, or one of them has shut it down
+    both ways, and only then; a caller that shuts down its writing side may still be inside."""
 
     def __init__(self, connection: socket.socket, answers: Answers, shared: Shared, hang_ups: HangUps, stops: Callable[[], bool]) -> None:
         self._socket = connection
