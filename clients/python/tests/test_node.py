@@ -13,9 +13,10 @@ import subprocess
 import sys
 import threading
 import time
+import types
 import unittest
 
-from zinduroi import Folder
+from zinduroi import Folder, TransportFailed
 from zinduroi.command_line import main
 from zinduroi.node import NodeClient, NodeGone
 from zinduroi.node.answers import Answers, Caller
@@ -24,6 +25,7 @@ from zinduroi.node.desk import Desk
 from zinduroi.node.config import ConfigError, read_config
 from zinduroi.node.lines import LONGEST_LINE, BadWord, Call, Cutter, Plain, Resume, Shared, fits, parse
 from zinduroi.node.link import Interrupted
+from zinduroi.node.server import Several
 
 from .common import PACKAGE, PROGRAM, Case, wait_for
 
@@ -699,6 +701,33 @@ class Restarts(NodeCase):
         self.says(self.connect(), ("announce a w", "announced 1"), ("leave a w", "withdrawn"))
         self.assertTrue(wait_for((self.folder / "deltas" / "0.delta").exists))
         self.assertIn("a transport fails; it is tried again", self.end()[1])
+
+
+    def test_one_of_two_folders_away(self):
+        """It is told, at the first start too, and the texts of the other one are taken."""
+        config = self.write_config()
+        config.write_text(config.read_text() + '[[transport]]\nkind = "folder"\npath = "other"\n')
+        self.process = self.spawn(config, "--create")
+        errors = self.process.communicate(timeout=20)[1]
+        self.assertEqual((errors, self.process.returncode), (f"zinduroi: [Errno 2] No such file or directory: '{self.folder}/other'\n", 1))
+        self.process = self.spawn(config)
+        self.assertTrue(wait_for(self.answers))
+        other = self.open(1)
+        other.give("b", 0, 1)
+        Folder(self.folder / "deltas").publish(1, other.send())
+        self.comes("show b", "rights 1 inside 0 unfinished 0")
+        self.assertGreater(json.loads(self.connect().ask("status"))["exchange"]["failed"]["FileNotFoundError"], 0)
+        self.assertIn("a transport fails; it is tried again", self.end()[1])
+
+    def test_messages_that_can_not_be_fetched(self):
+        """A transport that publishes, and has no messages, is told beside one that has."""
+        good = types.SimpleNamespace(messages=lambda: ["x", "y"])
+        bad = types.SimpleNamespace(messages=lambda: (_ for _ in ()).throw(TransportFailed("away")))
+        for transports in ([good, bad], [bad, good]):
+            found = []
+            with self.assertRaises(TransportFailed):
+                found.extend(Several(transports).messages())
+            self.assertEqual(found, ["x", "y"])
 
 
 class Waits(NodeCase):

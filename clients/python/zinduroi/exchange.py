@@ -172,7 +172,6 @@ class Exchange:
             if starts and isinstance(failed, (FileNotFoundError, NotADirectoryError)):
                 raise
             self._count_failure(failed)
-            return rose
         return rose + self._take_arrived()
 
     def _take_arrived(self) -> int:

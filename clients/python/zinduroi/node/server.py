@@ -51,17 +51,17 @@ class Several:
             raise failed
 
     def messages(self) -> Iterable[str]:
-        """The texts of all; raises if none could be asked."""
-        texts: List[str] = []
-        failures: List[Exception] = []
+        """The texts of all that could be asked; then raises why another one could not, at best that its folder is not there."""
+        failed: Optional[Exception] = None
         for transport in self._transports:
             try:
-                texts.extend(transport.messages())
+                texts = list(transport.messages())
             except Exception as failure:
-                failures.append(failure)
-        if len(failures) == len(self._transports):
-            raise failures[-1]
-        return texts
+                failed = failure if failed is None or isinstance(failure, OSError) else failed
+            else:
+                yield from texts
+        if failed is not None:
+            raise failed
 
     def listen(self, listener: object) -> None:
         """Passes the listener on to those that know such."""
