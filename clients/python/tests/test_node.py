@@ -937,6 +937,19 @@ class Commands(NodeCase):
         self.assertEqual(self.ran("a", "--read", "--", "echo", "--", "x"), (0, "-- x\n", ""))
         self.assertEqual([self.ran("a", "true")[0], self.ran("a", "--")[0], self.ran("--timeout", "-1", "a", "--", "true")[0]], [2, 2, 2])
 
+    def test_closed_streams(self):
+        """What a command prints is no line of the connection, and what it reads no reply, if `lock` was started with closed streams."""
+        self.start()
+        for number in (0, 1, 2):
+            with self.subTest(closed=number):
+                process = self.lock("a", "--", "sh", "-c", "echo leave a -; echo leave a - >&2; cat; touch ready; sleep 3", stdin=subprocess.DEVNULL,
+                                    preexec_fn=lambda: os.close(number), cwd=self.folder)
+                self.assertTrue(wait_for((self.folder / "ready").exists, 20))
+                self.assertIn(" writer", self.connect().ask("sessions a"))
+                self.end_group(process)
+                (self.folder / "ready").unlink()
+                self.comes("sessions a", "0")
+
     def test_session_that_is_not_left(self):
         """A node that can't leave says so, and `lock` tells it."""
         replies = {b"token": b"token 00", b"wait": b"admitted", b"fence": b"fence 7", b"leave": b"refused Frozen"}
