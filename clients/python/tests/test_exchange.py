@@ -13,6 +13,7 @@ import unittest
 import zinduroi
 from zinduroi import Command, Counts, Exchange, Folder, Mqtt, TransportFailed
 from zinduroi.exchange import status_of
+from zinduroi.service import Call
 from zinduroi.watch import main
 
 from .common import PACKAGE, PROGRAM, Broker, Case, marked, wait_for
@@ -275,6 +276,16 @@ class Threads(Case):
             site.give("a", 2, 1)
             text = site.send()
             self.assertTrue(wait_for(lambda: (self.folder / "0.delta").read_text(encoding="utf-8") == text + "\n"))
+
+    def test_a_round_that_is_refused(self):
+        """`failure` says so, until a round is finished."""
+        site, refused = self.open(), threading.Event()
+        refused.set()
+        send, site.send = site.send, lambda: site._answers(Call(b"reed\n"))[0] if refused.is_set() else send()
+        with Exchange(site, Folder(self.folder), 0.05) as exchange:
+            self.assertTrue(wait_for(lambda: isinstance(exchange.failure, zinduroi.BadWord)))
+            refused.clear()
+            self.assertTrue(wait_for(lambda: exchange.failure is None and exchange.tally().sent > 0))
 
     def test_a_text_that_arrives_while_the_service_is_down(self):
         """It is taken behind that, though the folder's file stays the same."""

@@ -51,8 +51,8 @@ class Exchange:
     Set `helps` to `False` to have the exchange only send and take, as while a site that has announced a writer is cut off: it
     would get all free seats.
 
-    `failure` says why the last round was not finished: `ServiceEnded`, until `Site.reopen` starts the service anew; or
-    `OwnRowAhead`, `StoreFault` or `Frozen`, which end the thread. `status` is a file that gets the site's state after each
+    `failure` says why the last round was not finished: `ServiceEnded`, until `Site.reopen` starts the service anew; a refusal, as
+    `Memory`; or `OwnRowAhead`, `StoreFault` or `Frozen`, which end the thread. `status` is a file that gets the site's state after each
     round, for `python -m zinduroi watch`."""
 
     def __init__(self, site: Site, transport: Transport, interval: float = 1.0, every: int = 10,
@@ -135,6 +135,7 @@ class Exchange:
                 self.failure = failure
                 return
             except Refused as refused:
+                self.failure = refused
                 self._count_refusal(refused)
             except ZinduroiError as failure:
                 self.failure = failure
