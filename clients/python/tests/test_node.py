@@ -1,6 +1,7 @@
 """A node: its lines and sessions, callers that wait, its end and its start, and the commands that use it."""
 import asyncio
 import contextlib
+import errno
 import io
 import json
 import os
@@ -15,6 +16,7 @@ import threading
 import time
 import types
 import unittest
+import unittest.mock
 
 from zinduroi import Folder, TransportFailed
 from zinduroi.command_line import main
@@ -25,7 +27,8 @@ from zinduroi.node.desk import Desk
 from zinduroi.node.config import ConfigError, read_config
 from zinduroi.node.lines import LONGEST_LINE, BadWord, Call, Cutter, Plain, Resume, Shared, fits, parse
 from zinduroi.node.link import Interrupted
-from zinduroi.node.server import Several
+from zinduroi.node.listening import HangUps
+from zinduroi.node.server import Node, Several
 
 from .common import PACKAGE, PROGRAM, Case, wait_for
 
@@ -856,6 +859,37 @@ class Crowds(NodeCase):
     def push(to, data):
         with contextlib.suppress(OSError):
             to.sendall(data)
+
+    def test_connection_that_can_not_be_watched(self):
+        """As where the kernel has no room for that: it is closed, and the next one is served."""
+        watch, errors = HangUps.watch, io.StringIO()
+        faults = [OSError(errno.ENOSPC, "no room")]
+
+        def watch_or_fail(*words):
+            if faults:
+                raise faults.pop()
+            watch(*words)
+
+        def talk():
+            with NodeClient(self.socket) as first:
+                first.socket.settimeout(10)
+                self.assertRaises(NodeGone, first.ask, "show a")
+            with NodeClient(self.socket) as second:
+                second.socket.settimeout(10)
+                self.says(second, ("show a", "rights 3 inside 0 unfinished 0"))
+
+        async def run():
+            node = Node(read_config(self.write_config()))
+            running = asyncio.create_task(node.run(True))
+            try:
+                self.assertTrue(await asyncio.to_thread(wait_for, self.socket.exists))
+                await asyncio.wait_for(asyncio.to_thread(talk), 20)
+            finally:
+                node.stop()
+                await running
+        with unittest.mock.patch.object(HangUps, "watch", watch_or_fail), contextlib.redirect_stderr(errors):
+            asyncio.run(run())
+        self.assertIn("zinduroi: a connection can't be served: [Errno 28] no room\n", errors.getvalue())
 
     def test_too_many(self):
         self.start(socket="connections = 2")

@@ -190,8 +190,13 @@ class Node:
             accepted.setblocking(False)
             if len(self._connections) >= self.config.socket.connections:
                 _turn_away(accepted)
-            else:
+                continue
+            try:
                 self._begin(accepted)
+            except OSError as error:
+                # As where the kernel has no room to watch it. It has no session yet, and the next one comes.
+                report(f"a connection can't be served: {error}")
+                accepted.close()
 
     def _begin(self, accepted: socket.socket) -> None:
         assert self._answers is not None and self._hang_ups is not None
