@@ -10,6 +10,7 @@ import textwrap
 import threading
 import time
 import unittest
+import unittest.mock
 
 import zinduroi
 from zinduroi import Counts, Gave, Record, ServiceEnded, Session, StoreRefused, TimedOut
@@ -153,6 +154,8 @@ class Calls(Case):
         site = self.open()
         with self.assertRaises(ValueError):
             site.take("x\nread a 7")
+        with self.assertRaises(ValueError):
+            site.submit(b"show a\nread a 7", print)
         self.assertEqual(site.sessions("a"), [])
 
     def test_too_many_writers(self):
@@ -461,6 +464,18 @@ class Ends(Case):
             self.assertFalse(site.reopen())
             self.assertEqual(site.sessions("a"), [Session(7, "reader")])
         self.assertEqual(site.sessions("a"), [])
+
+    def test_no_memory_for_a_reply(self):
+        """It ends the service, since no later reply is known to be whose; no caller waits for ever."""
+        site, found = self.open(), queue.SimpleQueue()
+        self.addCleanup(site._service.kill)
+        with unittest.mock.patch.object(site._service, "_read", side_effect=MemoryError):
+            for line in (b"read a 7", b"show a"):
+                site.submit(line, found.put)
+            failures = [type(found.get(timeout=20).failure) for _ in range(2)]
+        self.assertEqual(failures, [ServiceEnded, ServiceEnded])
+        self.assertTrue(site.reopen(wait=10))
+        self.assertEqual(site.sessions("a"), [Session(7, "reader")])
 
     def test_killed_before_a_writer_withdraws(self):
         site = self.open()

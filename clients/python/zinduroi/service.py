@@ -143,7 +143,8 @@ class Service:
                 for call in calls:
                     call.replies += [self._read() for _ in call.lines]
                     done += 1
-        except OSError:
+        except (OSError, MemoryError):
+            # Behind a reply that was not read no other one is known to be whose.
             self._end()
         for call in calls[done:]:
             assert self._ended is not None

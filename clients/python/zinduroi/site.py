@@ -161,6 +161,8 @@ class Site:
     def submit(self, line: bytes, then: Callable[[Call], None]) -> None:
         """Has a line answered, and does not wait. `then` gets the call, with `replies` or with `failure`, on another thread; it
         must not raise. Raises `ServiceEnded` if the site was closed."""
+        if b"\n" in line:
+            raise ValueError("a line has no line feed in it")
         self._service.submit(Call(line + b"\n", then=then))
 
     def _answers(self, call: Call, stays: bool = False) -> List[str]:
