@@ -380,6 +380,14 @@ class Transports(Case):
             Command("", "sleep 60; true", timeout=0.3).messages()
         self.assertLess(time.monotonic() - before, 30)
 
+    def test_command_that_leaves_a_process(self):
+        """One that has the command's output, and is in no group of it, as a connection that `ssh` keeps: nobody waits for its end."""
+        left = Command("setsid sleep 15 &", "setsid sleep 15 & echo x", timeout=0.5)
+        began = time.monotonic()
+        for call in (lambda: left.publish(1, "text"), left.messages):
+            self.assertRaises(TransportFailed, call)
+        self.assertLess(time.monotonic() - began, 10)
+
     def test_mqtt_with_large_and_odd_texts(self):
         if Broker.program() is None or shutil.which("mosquitto_pub") is None:
             self.skipTest("mosquitto and mosquitto-clients are not installed")
