@@ -2,6 +2,7 @@
 import asyncio
 import contextlib
 import errno
+import functools
 import io
 import json
 import os
@@ -161,9 +162,7 @@ class Books(Case):
     def test_all_or_none_are_kept(self):
         book, connection = self.open_book(), object()
         sessions = [book.begin("a", word, "t", connection, 7) for word in "xy"]
-        with sqlite3.connect(self.folder / "s.db.sessions") as other:
-            other.execute("CREATE TRIGGER full BEFORE UPDATE ON sessions WHEN old.word = 'y' BEGIN SELECT RAISE(FAIL, 'full'); END")
-        other.close()
+        book._file.execute("CREATE TRIGGER full BEFORE UPDATE ON sessions WHEN old.word = 'y' BEGIN SELECT RAISE(FAIL, 'full'); END")
         self.assertRaises(sqlite3.Error, book.keep, *sessions)
         self.assertEqual([(it.kept, it.tied) for it in sessions], [(False, connection)] * 2)
         numbers = {"a": [(it.number, "reader") for it in sessions]}
@@ -204,15 +203,23 @@ class Books(Case):
     def test_numbers_that_can_not_be_reserved(self):
         """No number is given that the file hasn't reserved."""
         book = self.open_book()
-        with sqlite3.connect(self.folder / "s.db.sessions") as other:
-            other.execute("CREATE TRIGGER full BEFORE INSERT ON numbers BEGIN SELECT RAISE(FAIL, 'full'); END")
+        book._file.execute("CREATE TRIGGER full BEFORE INSERT ON numbers BEGIN SELECT RAISE(FAIL, 'full'); END")
         for _ in range(2):
             with self.assertRaises(sqlite3.Error):
                 book.begin("a", "x", "t", self, 7)
         self.assertEqual(book.sessions(), [])
-        other.execute("DROP TRIGGER full")
-        other.close()
+        book._file.execute("DROP TRIGGER full")
         book.begin("a", "x", "t", self, 7)
+
+    def test_book_in_use(self):
+        book = self.open_book()
+        with unittest.mock.patch("sqlite3.connect", functools.partial(sqlite3.connect, timeout=0.1)):
+            with self.assertRaises(sqlite3.OperationalError) as caught:
+                self.open_book()
+        self.assertEqual(str(caught.exception), f"{self.folder}/s.db.sessions: database is locked")
+        book.begin("a", "x", "t", self, 7)
+        book.close()
+        self.open_book()
 
     def test_not_a_book(self):
         (self.folder / "s.db.sessions").write_bytes(b"no database, but a text that is long enough to be looked at" * 100)
@@ -618,6 +625,25 @@ class Restarts(NodeCase):
         os.kill(service, signal.SIGKILL)
         Folder(self.folder / "deltas").publish(1, other.send())
         self.assertTrue(wait_for(lambda: '"s":1,' in told.read_text(), 20))
+
+    def test_second_node(self):
+        """A node that gets the store of another one, whose service has ended, doesn't serve: it knows nothing of its connections."""
+        self.start()
+        client = self.connect()
+        self.says(client, ("read a x", "admitted"))
+        service = json.loads(client.ask("status"))["service"]
+        os.kill(service, signal.SIGSTOP)
+        config = self.folder / "second.toml"
+        config.write_text(self.write_config().read_text().replace('"0.sock"', '"second.sock"'))
+        second = self.spawn(config)
+        self.addCleanup(second.kill)
+        time.sleep(2)
+        os.kill(service, signal.SIGKILL)
+        errors = second.communicate(timeout=30)[1]
+        # Where the first one was faster it has its store again.
+        self.assertIn(errors, (f"zinduroi: {self.folder}/0.db.sessions: database is locked\n", "zinduroi: store refused InUse\n"))
+        self.assertEqual(second.returncode, 1)
+        self.says(client, ("sessions a", "1 x reader"))
 
     def test_service_that_does_not_start(self):
         """A program that is away for a moment, as one that is being replaced: what came meanwhile is carried out behind that."""

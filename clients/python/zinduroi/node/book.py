@@ -186,14 +186,16 @@ def stored_sessions(reply: str) -> List[Tuple[int, str]]:
 
 def _open(path: "str | os.PathLike[str]") -> sqlite3.Connection:
     """The file of a book, made where it is not there. A commit survives the end of this process; only `keep` waits for the
-    disk, since after a power failure no caller of this machine is left."""
+    disk, since after a power failure no caller of this machine is left. It is locked until it is closed: a second node that got the
+    store, as where this one's service had ended, would show callers of this one as without a connection."""
     os.close(os.open(path, os.O_RDWR | os.O_CREAT, 0o600))
     file = sqlite3.connect(path, isolation_level=None)
     try:
+        file.execute("PRAGMA locking_mode = EXCLUSIVE")
         file.execute("PRAGMA journal_mode = WAL")
         file.execute("PRAGMA synchronous = NORMAL")
         file.executescript(_TABLES)
-    except BaseException:
+    except sqlite3.Error as fault:
         file.close()
-        raise
+        raise type(fault)(f"{os.fspath(path)}: {fault}") from None
     return file
