@@ -77,6 +77,13 @@ class Lines(unittest.TestCase):
         self.assertEqual(shared.room, 1000)
         self.assertEqual(cutter.feed(b"z" * 70_000 + b"\nnext\n"), ["Memory", b"next"])
         self.assertFalse(cutter.has_part())
+        self.assertEqual(cutter.feed(b"x" * 66_000 + b"\n"), [b"x" * 66_000])
+        self.assertEqual(shared.room, 1000 - (66_000 - 65_536))
+        cutter.answered()
+        self.assertEqual(shared.room, 1000)
+        cutter.feed(b"x" * 66_000 + b"\n")
+        cutter.clear()
+        self.assertEqual(shared.room, 1000)
         wide = Cutter(Shared(1 << 30))
         self.assertEqual(wide.feed(b"x" * LONGEST_LINE + b"\n"), [b"x" * LONGEST_LINE])
         self.assertEqual(wide.feed(b"x" * LONGEST_LINE), [])
@@ -880,6 +887,24 @@ class Crowds(NodeCase):
         flood.close()
         deaf.close()
         self.comes("sessions a", "0")
+
+    def test_long_lines_at_once(self):
+        """Lines that wait for the program have no more room than lines that are coming in."""
+        self.start()
+        service = json.loads(self.connect().ask("status"))["service"]
+        os.kill(service, signal.SIGSTOP)
+        clients = [self.connect() for _ in range(20)]
+        threads = [threading.Thread(target=self.push, args=(client.socket, b"take " + b"x" * 2_000_000 + b"\n")) for client in clients]
+        for thread in threads:
+            thread.start()
+        for thread in threads:
+            thread.join()
+        time.sleep(1)
+        os.kill(service, signal.SIGCONT)
+        replies = [client.socket.recv(100) for client in clients]
+        self.assertEqual(set(replies), {b"refused NoMark\n", b"refused Memory\n"})
+        self.assertLessEqual(replies.count(b"refused NoMark\n"), 8)
+        self.says(self.connect(), ("take " + "x" * 2_000_000, "refused NoMark"))
 
     @staticmethod
     def push(to, data):

@@ -66,6 +66,7 @@ class Connection:
             data = await self._receive()
             while data and not self._stops():
                 await self._answer_all(cutter.feed(data))
+                cutter.answered()
                 data = b"" if self._stops() else await self._receive()
             if cutter.has_part():
                 await self._send("refused BadWord")
