@@ -5,6 +5,7 @@ node is in a file beside the store: a row for each session, written before the s
 in the store means nothing and is dropped at the next start; a session of the store without a row belongs to nobody."""
 from __future__ import annotations
 
+import asyncio
 import contextlib
 import dataclasses
 import os
@@ -36,7 +37,7 @@ class Session:
     """A session at the site. `phase` is `reader`, `waiting` or `writer` as the store last said, and `None` before it said
     anything. `tied` is the connection whose end ends it, if there is one. `known` is false where the book has no row: the session
     belongs to nobody. `ending` holds while somebody else than its caller ends it. `since` is in seconds since 1970, and `pid`
-    the process that had connected. `entered` is when this node saw it admitted."""
+    the process that had connected. `entered` is when this node saw it admitted. `turn` is held during a call to the store."""
 
     record: str
     number: int
@@ -50,6 +51,7 @@ class Session:
     pid: int = 0
     since: float = 0.0
     entered: Optional[float] = None
+    turn: asyncio.Lock = dataclasses.field(default_factory=asyncio.Lock)
 
 
 class Book:

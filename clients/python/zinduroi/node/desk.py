@@ -28,19 +28,22 @@ class Desk:
 
     async def ask(self, session: Session, verb: str) -> str:
         """The reply to `read`, `announce`, `write` or `leave` of a session. If the service ends meanwhile, the store tells whether
-        the call was carried out, and it is made again if it was not. Nothing is asked for a session that was ended meanwhile."""
-        while True:
-            if not self.book.is_here(session):
-                return "refused NotAnnounced" if verb == "write" else "refused NotHere"
+        the call was carried out, and it is made again if it was not. Nothing is asked for a session that was ended meanwhile. Calls
+        of a session, which several connections may make, wait for each other: so what the store tells is of this one."""
+        async with session.turn:
+            reply = await self._ask(session, verb)
+            self._note(session, verb, reply)
+        return reply
+
+    async def _ask(self, session: Session, verb: str) -> str:
+        while self.book.is_here(session):
             try:
-                reply = await self.link.ask(f"{verb} {session.record} {session.number}")
+                return await self.link.ask(f"{verb} {session.record} {session.number}")
             except Interrupted:
                 found = await self._settle(session, verb)
-                if found is None:
-                    continue
-                reply = found
-            self._note(session, verb, reply)
-            return reply
+                if found is not None:
+                    return found
+        return "refused NotAnnounced" if verb == "write" else "refused NotHere"
 
     async def leave(self, session: Session) -> str:
         """The reply to a `leave` of a caller that is gone or gave up. Nobody would repeat it, so it is asked again where the program
