@@ -1143,6 +1143,9 @@ class Commands(NodeCase):
         self.start(socket="connections = 1")
         self.find_room()
         self.assertEqual(self.ran("a", "--", "true"), (69, "", "zinduroi: refused TooManyConnections\n"))
+        full = f"zinduroi: the node at {self.socket} answers refused TooManyConnections\n"
+        self.assertEqual(self.run_command("status"), (69, "", full))
+        self.assertEqual(self.run_command("watch", "--once"), (1, "", full))
 
     def test_signals(self):
         self.start()

@@ -162,8 +162,8 @@ def run_ask(client: NodeClient, words: List[str]) -> int:
 
 def run_status(client: NodeClient, as_json: bool) -> int:
     """Prints the state of the node."""
-    text = client.ask("status")
-    print(text if as_json else status_text(json.loads(text), time.time()))
+    state = client.status()
+    print(json.dumps(state) if as_json else status_text(state, time.time()))
     return 0
 
 

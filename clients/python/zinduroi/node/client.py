@@ -2,10 +2,11 @@
 from __future__ import annotations
 
 import contextlib
+import json
 import os
 import socket
 from types import TracebackType
-from typing import Optional, Type
+from typing import Any, Dict, Optional, Type
 
 from ..errors import ZinduroiError
 
@@ -14,7 +15,8 @@ DEFAULT_SOCKET = "/run/zinduroi/node.sock"
 
 
 class NodeGone(ZinduroiError):
-    """No node answers at the socket, or the connection ended before the reply. Then the call may have been carried out."""
+    """No node answers at the socket, or the connection ended before the reply. Then the call may have been carried out. `status` also
+    raises it where the node refuses to tell."""
 
 
 class NodeClient:
@@ -57,6 +59,14 @@ class NodeClient:
         reply, _, self._read = b"".join(parts).partition(b"\n")
         self._waits = False
         return reply.decode("utf-8", "replace")
+
+    def status(self) -> Dict[str, Any]:
+        """What the node tells of its state. Raises `NodeGone` also where it refuses that."""
+        reply = self.ask("status")
+        if reply.startswith("refused "):
+            raise NodeGone(f"the node at {self.path} answers {reply}")
+        state: Dict[str, Any] = json.loads(reply)
+        return state
 
     def fileno(self) -> int:
         """The number of the connection's file."""
