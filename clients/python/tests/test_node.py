@@ -1129,6 +1129,20 @@ class Commands(NodeCase):
         self.assertEqual(process.communicate(timeout=60), ("inside\n", ""))
         self.says(holder, ("sessions a", "0"))
 
+    def test_node_loses_its_book_under_a_command(self):
+        """The session is in the store, so `lock` doesn't say that it is gone."""
+        self.start()
+        process = self.lock("a", "--", "sh", "-c", "echo inside; read line; exit 5", stdin=subprocess.PIPE)
+        self.assertEqual(process.stdout.readline(), "inside\n")
+        self.end(signal.SIGKILL)
+        for path in self.folder.glob("0.db.sessions*"):
+            path.unlink()
+        self.start()
+        self.assertEqual(process.stderr.readline(), "zinduroi: the node knows no session of a for this command any more, which may not be alone: "
+                         "see zinduroi status\n")
+        process.communicate("\n", timeout=60)
+        self.assertEqual((process.returncode, self.connect().ask("sessions a")[:3]), (5, "1 ?"))
+
     def test_strict(self):
         self.start()
         process = self.lock("--strict", "a", "--", "sh", "-c", "echo inside; exec sleep 100")

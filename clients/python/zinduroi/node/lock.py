@@ -206,7 +206,7 @@ class Lock:
 
     def _say_lost(self, phase: Optional[str]) -> None:
         if phase is None:
-            report(f"the session of {self.record} is gone: the command is not alone any more")
+            report(f"the node knows no session of {self.record} for this command any more, which may not be alone: see zinduroi status")
 
     # Leaving
 
