@@ -820,6 +820,21 @@ class Waits(NodeCase):
         self.comes("sessions a", "1 h reader")
         self.assertEqual(self.queue("a"), [])
 
+    def test_kept_writer_that_waits(self):
+        """It doesn't end with the connection that waits for it, and is withdrawn at the end of the time."""
+        self.start()
+        holder, client = self.connect(), self.connect()
+        self.says(holder, ("read a h", "admitted"))
+        self.says(client, ("announce a w", "announced 1"))
+        token = client.ask("keep a w").split(" ")[1]
+        client.socket.sendall(b"wait 60 write a w\n")
+        self.assertTrue(wait_for(lambda: self.queue("a") == ["w"]))
+        client.close()
+        self.assertTrue(wait_for(lambda: self.queue("a") == []))
+        time.sleep(0.3)
+        self.says(self.connect(), (f"resume {token}", "resumed 1 a w waiting"), ("wait 0.1 write a w", "timeout refused MissingSeats 2 3"),
+                  ("sessions a", "1 h reader"))
+
     def test_announced_before(self):
         """A writer that is announced already doesn't wait for a reader that waits for it."""
         self.start()

@@ -37,7 +37,7 @@ class Queues:
 
     async def wait(self, desk: Desk, waiter: Waiter, seconds: float) -> str:
         """Asks until the session is admitted. Gives the answer, or `timeout` and the last refusal. Where it is not admitted nothing
-        is left announced. With 0 seconds it asks once, before the queue."""
+        is left announced, but a kept session whose connection has ended. With 0 seconds it asks once, before the queue."""
         queue = self._queues.setdefault(waiter.session.record, [])
         queue.append(waiter)
         try:
@@ -78,7 +78,8 @@ class Queues:
             if not await self._pause(waiter, end):
                 last = f"timeout {last or f'refused Queued {queue.index(waiter)}'}"
                 break
-        if waiter.session.phase == "waiting":
+        # A session that was kept ends with no connection.
+        if waiter.session.phase == "waiting" and not (waiter.session.kept and waiter.is_over()):
             await desk.leave(waiter.session)
         return last
 
