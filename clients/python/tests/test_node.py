@@ -957,6 +957,23 @@ class Crowds(NodeCase):
             asyncio.run(run())
         self.assertIn("zinduroi: a connection can't be served: [Errno 28] no room\n", errors.getvalue())
 
+    def test_standard_error_that_nobody_reads(self):
+        """A node serves though what it tells its operator finds no room."""
+        reader, writer = os.pipe()
+        os.set_blocking(writer, False)
+        with contextlib.suppress(BlockingIOError):
+            while True:
+                os.write(writer, b"x" * 4096)
+        os.set_blocking(writer, True)
+        self.process = subprocess.Popen([sys.executable, "-m", "zinduroi", "node", "--config", self.write_config(), "--create"],
+                                        env={**os.environ, "PYTHONPATH": str(PACKAGE)}, stderr=writer)
+        self.addCleanup(os.close, reader)
+        os.close(writer)
+        self.assertTrue(wait_for(self.answers, 30))
+        client = self.connect()
+        client.socket.settimeout(10)
+        self.says(client, ("read a x", "admitted"))
+
     def test_too_many(self):
         self.start(socket="connections = 2")
         first, second = self.find_room(), self.find_room()
