@@ -70,6 +70,14 @@ class Rounds(Case):
         self.exchange.round()
         self.assertEqual(len(self.listed.published), 1)
 
+    def test_goes_on_behind_any_failure(self):
+        """As where no thread can be started."""
+        def fails(*words):
+            raise RuntimeError("can't start new thread")
+        self.listed.publish = self.listed.messages = fails
+        self.exchange.round()
+        self.assertEqual(self.exchange.tally().failed, {"RuntimeError": 2})
+
     def test_counts_what_is_refused(self):
         row = '{"from":1,"rows":[{"ann":0,"fin":0,"out":%s,"r":%d,"s":1,"taken":0}],"v":1}'
         rows = [row % ("[0,0,0]", 5), row % ("[0,9,0]", 0), row % ("[3,0,0]", 0)]

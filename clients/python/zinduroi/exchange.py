@@ -51,9 +51,9 @@ class Exchange:
     Set `helps` to `False` to have the exchange only send and take, as while a site that has announced a writer is cut off: it
     would get all free seats.
 
-    `failure` says why the last round was not finished: `ServiceEnded`, until `Site.reopen` starts the service anew; a refusal, as
-    `Memory`; or `OwnRowAhead`, `StoreFault` or `Frozen`, which end the thread. `status` is a file that gets the site's state after each
-    round, for `python -m zinduroi watch`."""
+    Whatever the transport raises is counted, and tried again. `failure` says why the last round was not finished: `ServiceEnded`,
+    until `Site.reopen` starts the service anew; a refusal, as `Memory`; or `OwnRowAhead`, `StoreFault` or `Frozen`, which end the
+    thread. `status` is a file that gets the site's state after each round, for `python -m zinduroi watch`."""
 
     def __init__(self, site: Site, transport: Transport, interval: float = 1.0, every: int = 10,
                  records: Optional[Sequence[str]] = None, status: Optional[Path] = None) -> None:
@@ -168,9 +168,10 @@ class Exchange:
         rose = self._take_arrived()
         try:
             self._arrived.extend(self.transport.messages())
-        except (OSError, TransportFailed) as failed:
-            # A folder that is not there at the start was mistyped, and will never be there.
-            if starts and isinstance(failed, (FileNotFoundError, NotADirectoryError)):
+        except Exception as failed:
+            # A folder that is not there at the start was mistyped, and will never be there; and no transport of one's own has to raise more.
+            later = isinstance(failed, (OSError, TransportFailed)) and not isinstance(failed, (FileNotFoundError, NotADirectoryError))
+            if starts and not later:
                 raise
             self._count_failure(failed)
         return rose + self._take_arrived()
@@ -224,7 +225,7 @@ class Exchange:
             return
         try:
             self.transport.publish(self.site.site, text)
-        except (OSError, TransportFailed) as failed:
+        except Exception as failed:
             self._count_failure(failed)
             self._published = None
             return
