@@ -218,6 +218,14 @@ class Books(Case):
         book._file.execute("DROP TRIGGER full")
         book.begin("a", "x", "t", self, 7)
 
+    def test_clock_that_is_far_ahead(self):
+        """Callers get numbers, also once the clock was put back."""
+        with unittest.mock.patch("time.time", return_value=4e9):
+            first = self.open_book()
+        number = first.begin("a", "x", "t", self, 7).number
+        first.close()
+        self.assertGreater(self.open_book().begin("a", "x", "t", self, 7).number, number)
+
     def test_book_in_use(self):
         book = self.open_book()
         with unittest.mock.patch("sqlite3.connect", functools.partial(sqlite3.connect, timeout=0.1)):

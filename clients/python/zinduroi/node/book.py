@@ -18,8 +18,10 @@ from typing import Dict, Iterable, List, Optional, Sequence, Tuple
 LAST_NUMBER = 10**12
 # Numbers are reserved in the file so many at a time.
 RESERVED = 1000
-# A book that is begun anew gives numbers from the time on, a thousand for each second since 2025: above those of an earlier book.
+# A book that is begun anew gives numbers from the time on, a thousand for each second since 2025: above those of an earlier book. A
+# clock that is far ahead, past 2053, leaves a tenth of all numbers.
 EPOCH = 1_735_689_600
+LATEST = LAST_NUMBER // 10 * 9
 
 _TABLES = """
 CREATE TABLE IF NOT EXISTS numbers (next INTEGER NOT NULL);
@@ -62,7 +64,7 @@ class Book:
         self._file = _open(path)
         self._by_number: Dict[Tuple[str, int], Session] = {}
         self._by_word: Dict[Tuple[str, str], Session] = {}
-        self._next = max(1, self._stored_next(), int((time.time() - EPOCH) * 1000))
+        self._next = max(1, self._stored_next(), min(LATEST, int((time.time() - EPOCH) * 1000)))
         self._limit = 0
 
     def close(self) -> None:
@@ -162,7 +164,7 @@ class Book:
         while (record, number) in self._by_number:
             number += 1
         if number > LAST_NUMBER:
-            raise NumbersUsedUp
+            raise NumbersUsedUp("all numbers of holders have been given")
         if number >= self._limit:
             limit = number + 1 + RESERVED
             with self._file:
