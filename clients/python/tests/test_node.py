@@ -887,6 +887,20 @@ class Waits(NodeCase):
         self.assertLess(time.monotonic() - began, 4)
 
 
+FLOOD = """
+import socket, sys, threading
+flood = socket.socket(socket.AF_UNIX)
+flood.connect(sys.argv[1])
+
+def drain():
+    while flood.recv(1 << 20):
+        pass
+threading.Thread(target=drain, daemon=True).start()
+while True:
+    flood.sendall(b"wait\\n" * 20_000)
+"""
+
+
 class Crowds(NodeCase):
     """Long lines, floods, and clients that never read: the others are served."""
 
@@ -910,6 +924,21 @@ class Crowds(NodeCase):
         flood.close()
         deaf.close()
         self.comes("sessions a", "0")
+
+    def test_floods_that_are_read(self):
+        """Floods of lines that the node answers by itself, by clients that read each reply at once."""
+        self.start()
+        client = self.connect()
+        for _ in range(3):
+            flood = subprocess.Popen([sys.executable, "-c", FLOOD, self.socket], stderr=subprocess.DEVNULL)
+            self.addCleanup(flood.wait)
+            self.addCleanup(flood.kill)
+        longest, end = 0.0, time.monotonic() + 6
+        while time.monotonic() < end:
+            began = time.monotonic()
+            self.says(client, ("show a", "rights 3 inside 0 unfinished 0"))
+            longest = max(longest, time.monotonic() - began)
+        self.assertLess(longest, 1.5)
 
     def test_long_lines_at_once(self):
         """Lines that wait for the program have no more room than lines that are coming in."""

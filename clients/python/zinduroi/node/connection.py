@@ -84,6 +84,8 @@ class Connection:
                     self._answers.tally.answered(self.caller.pid, line, reply, time.monotonic() - began)
                     await self._send(reply)
                 self._busy = False
+                # Neither reading, answering nor writing has to wait, so a flood would keep all others from their turn.
+                await asyncio.sleep(0)
 
     async def _answer(self, line: bytes) -> str:
         """The reply to a line. A fault of the node's own ends neither the connection nor a session."""
