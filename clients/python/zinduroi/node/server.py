@@ -181,6 +181,8 @@ class Node:
     async def _accept(self, listening: socket.socket) -> None:
         loop = asyncio.get_running_loop()
         while True:
+            # Where the next one is there already nothing has to wait, and nobody else would get a turn.
+            await asyncio.sleep(0)
             try:
                 accepted, _ = await loop.sock_accept(listening)
             except OSError as error:
