@@ -346,6 +346,27 @@ class Refusals(Case):
                          ("admitted", ["read", "sessions", "sessions", "read"], ["leave"]))
 
 
+class Deltas(Case):
+    """A delta may be long, and there is room for it or not only once it is there: few are asked for at once."""
+
+    def test_sends_at_once(self):
+        link, book, most = ListedLink(), Book(self.folder / "s.db.sessions"), [0, 0]
+
+        async def ask_bytes(line):
+            most[:] = [max(most[0], most[1] + 1), most[1] + 1]
+            await asyncio.sleep(0.01)
+            most[1] -= 1
+            return "rights 3 inside 0 unfinished 0" if line == b"show a" else "a delta"
+
+        async def ask_all(line):
+            link.ask_bytes = ask_bytes
+            answers = Answers(link, book, ("a",), dict)
+            return set(await asyncio.gather(*(answers.answer(Caller(1, lambda: False), line) for _ in range(50))))
+        self.assertEqual((asyncio.run(ask_all(b"send")), most), ({"a delta"}, [4, 0]))
+        self.assertEqual((asyncio.run(ask_all(b"show a")), most), ({"rights 3 inside 0 unfinished 0"}, [50, 0]))
+        book.close()
+
+
 class NodeCase(Case):
     """A test with a node, which is a process of its own."""
 

@@ -1,6 +1,8 @@
 """The answer to each line of a connection."""
 from __future__ import annotations
 
+import asyncio
+import contextlib
 import json
 import sqlite3
 import time
@@ -13,6 +15,10 @@ from .link import Interrupted, Link
 from .waiting import Queues, Waiter
 from .report import report
 from .tally import Tally
+
+
+# How many deltas are asked for at once. Each may have 2 MiB, for which there is room or not only once it is there.
+SENDS = 4
 
 
 class Caller:
@@ -57,6 +63,7 @@ class Answers:
         self.tally = Tally()
         self.group: Optional[str] = None
         self._more = more
+        self._sends = asyncio.Semaphore(SENDS)
         self._calls: Dict[str, Callable[[Caller, Call], Awaitable[str]]] = {
             "read": self._enter, "announce": self._enter, "write": self._write, "leave": self._leave, "fence": self._fence,
             "keep": self._keep, "evict": self._evict}
@@ -115,7 +122,8 @@ class Answers:
         verb, _, rest = line.partition(b" ")
         while True:
             try:
-                reply = await self.link.ask_bytes(line)
+                async with self._sends if verb == b"send" else contextlib.nullcontext():
+                    reply = await self.link.ask_bytes(line)
                 break
             except Interrupted:
                 if verb in (b"give", b"help"):
