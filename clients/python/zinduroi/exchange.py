@@ -169,7 +169,7 @@ class Exchange:
         try:
             self._arrived.extend(self.transport.messages())
         except Exception as failed:
-            # A folder that is not there at the start was mistyped, and will never be there; and no transport of one's own has to raise more.
+            # At the start a folder that is not there was mistyped, and will never be there; what no transport should raise is a fault.
             later = isinstance(failed, (OSError, TransportFailed)) and not isinstance(failed, (FileNotFoundError, NotADirectoryError))
             if starts and not later:
                 raise
