@@ -25,10 +25,10 @@ from zinduroi.node import NodeClient, NodeGone
 from zinduroi.node.answers import Answers, Caller
 from zinduroi.node.book import Book, stored_sessions
 from zinduroi.node.desk import Desk
-from zinduroi.node.config import ConfigError, read_config
+from zinduroi.node.config import ConfigError, SocketConfig, read_config
 from zinduroi.node.lines import LONGEST_LINE, BadWord, Call, Cutter, Plain, Resume, Shared, fits, parse
 from zinduroi.node.link import Interrupted
-from zinduroi.node.listening import HangUps
+from zinduroi.node.listening import HangUps, Listener
 from zinduroi.node.server import Node, Several
 
 from .common import PACKAGE, PROGRAM, Case, wait_for
@@ -723,6 +723,25 @@ class Restarts(NodeCase):
         for more, name in (('group = "nobody-has-this"', "NoGroup: 0.sock: nobody-has-this"),):
             second = self.spawn(self.write_config(socket=more))
             self.assertIn(name.split(":")[0], second.communicate(timeout=60)[1])
+
+    def test_sockets_of_one_folder(self):
+        """Nodes whose processes have one number, in containers of their own, start at once: each gets its own socket."""
+        one, two = (Listener(SocketConfig(self.folder / name, 0o600, None, 9)) for name in ("one.sock", "two.sock"))
+        self.addCleanup(one.close)
+        self.addCleanup(two.close)
+        replace, parts = os.replace, []
+
+        def replace_behind(part, path):
+            parts.append(part)
+            if len(parts) == 1:
+                two.listen()
+            replace(part, path)
+        with unittest.mock.patch("os.replace", replace_behind):
+            one.listen()
+        for listener in (one, two):
+            with NodeClient(listener.path):
+                accepted, _ = listener.socket.accept()
+                accepted.close()
 
     def test_faults_of_the_start(self):
         for change, status, fault in ((("0.db", "none.db"), 1, "zinduroi: store refused NoStore\n"),
