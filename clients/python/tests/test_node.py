@@ -1155,6 +1155,27 @@ class Commands(NodeCase):
                 (self.folder / "ready").unlink()
                 self.comes("sessions a", "0")
 
+    def test_files_that_lock_inherits(self):
+        """The command has them too: the connection of an outer `lock`, even if the inner one is killed."""
+        self.start()
+        reader, writer = os.pipe()
+        with open(reader, "rb") as found:
+            process = self.lock("a", "--", "sh", "-c", f"echo inherited >&{writer}", pass_fds=[writer])
+            os.close(writer)
+            self.assertEqual((process.communicate(timeout=60)[1], found.read()), ("", b"inherited\n"))
+        inner = [sys.executable, "-m", "zinduroi", "lock", "--socket", self.socket, "b", "--read", "--", "sh", "-c", "echo $PPID; read line"]
+        with self.open(1) as other:
+            other.give("b", 0, 1)
+            Folder(self.folder / "deltas").publish(1, other.send())
+        process = self.lock("a", "--", *inner, stdin=subprocess.PIPE)
+        os.kill(int(process.stdout.readline()), signal.SIGKILL)
+        time.sleep(1)
+        self.assertEqual([self.connect().ask(f"sessions {record}").split(" ")[-1] for record in "ab"], ["writer", "reader"])
+        self.assertEqual(process.communicate("\n", timeout=60), ("", ""))
+        self.assertEqual(process.returncode, 137)
+        self.comes("sessions a", "0")
+        self.comes("sessions b", "0")
+
     def test_session_that_is_not_left(self):
         """A node that can't leave says so, and `lock` tells it."""
         replies = {b"token": b"token 00", b"wait": b"admitted", b"fence": b"fence 7", b"leave": b"refused Frozen"}

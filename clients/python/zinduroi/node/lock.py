@@ -159,16 +159,20 @@ class Lock:
 
     def _start(self, command: Sequence[str], fence: str, held: int, before: Dict[Any, Any],
                mask: Any) -> "Tuple[Optional[subprocess.Popen[bytes]], int]":
-        """Starts the command with the connection, and with the signals as they were; or gives the exit status."""
-        def take_signals() -> None:
+        """Starts the command with the connection, with all files that this process inherited, such as those of an outer `lock`, and with
+        the signals as they were; or gives the exit status."""
+        assert self.client is not None
+        files = (self.client.fileno(), held)
+
+        def prepare() -> None:
+            for file in files:
+                os.set_inheritable(file, True)
             signal.pthread_sigmask(signal.SIG_SETMASK, mask)
             for number, handler in before.items():
                 signal.signal(number, signal.SIG_IGN if handler == signal.SIG_IGN else signal.SIG_DFL)
 
-        assert self.client is not None
         try:
-            return subprocess.Popen(command, pass_fds=(self.client.fileno(), held), env={**os.environ, "ZINDUROI_FENCE": fence},
-                                    preexec_fn=take_signals), 0
+            return subprocess.Popen(command, close_fds=False, env={**os.environ, "ZINDUROI_FENCE": fence}, preexec_fn=prepare), 0
         except OSError as error:
             report(f"{command[0]}: {error.strerror}")
             return None, NOT_FOUND if isinstance(error, FileNotFoundError) else NOT_RUN
