@@ -619,6 +619,24 @@ class Restarts(NodeCase):
         self.start()
         self.says(self.connect(), ("sessions a", "1 x reader"))
 
+    def test_stop_while_the_program_hangs(self):
+        """The node ends, and what was answered is in the store."""
+        self.start()
+        client = self.connect()
+        self.says(client, ("read a x", "admitted"))
+        service = json.loads(client.ask("status"))["service"]
+        os.kill(service, signal.SIGSTOP)
+        try:
+            self.process.terminate()
+            _, errors = self.process.communicate(timeout=40)
+        finally:
+            with contextlib.suppress(ProcessLookupError):
+                os.kill(service, signal.SIGCONT)
+        self.assertIn("zinduroi: the program does not answer, and is killed: what it has answered is in the store\n", errors)
+        self.assertEqual(self.process.returncode, 0)
+        self.start()
+        self.says(self.connect(), ("sessions a", "1 x reader"))
+
     def test_strangers(self):
         """A session that the node doesn't know is listed, and left by an operator alone."""
         with self.open(log=self.folder / "0.log") as site:

@@ -42,6 +42,10 @@ class NodeSite(Site):
             self.ended(why)
             raise
 
+    def kill(self) -> None:
+        """Ends the service at once."""
+        self._service.kill()
+
     def take(self, text: str) -> int:
         rose = super().take(text)
         sender = sender_of(text)

@@ -27,7 +27,7 @@ from .sharing_task import Sharer, Sharing
 from .starting import Stopped, unless_stopped
 from .view import View
 
-# How many seconds a stop waits for lines in work.
+# How many seconds a stop waits for lines in work, and for a program that doesn't answer.
 LAST_ANSWERS = 5.0
 # Files that the node needs beside its connections.
 OTHER_FILES = 100
@@ -222,6 +222,9 @@ class Node:
             for task in late:
                 task.cancel()
             await asyncio.gather(*tasks, return_exceptions=True)
+        if self._answers is not None and self._site is not None and not await self._program_answers(self._answers):
+            report("the program does not answer, and is killed: what it has answered is in the store")
+            self._site.kill()
         if self._page is not None:
             await self._page.close()
         if self._sharing is not None:
@@ -237,6 +240,13 @@ class Node:
             self._site.merged = lambda: None
             await asyncio.to_thread(self._site.close)
         self._listener.close()
+
+    @staticmethod
+    async def _program_answers(answers: Answers) -> bool:
+        """Whether the program still answers. The exchange and the service could not be closed else."""
+        asked = asyncio.ensure_future(answers.link.ask_until(f"show {answers.records[0]}"))
+        await asyncio.wait((asked,), timeout=LAST_ANSWERS)
+        return asked.done() or not asked.cancel()
 
     def _more(self) -> Dict[str, object]:
         """What a status has beside the records."""
