@@ -605,7 +605,7 @@ def storm(folder, given, between):
     finally:
         world.close()
         world.errors.close()
-        world.wrong += [line for line in (folder / "errors").read_text().splitlines() if "is not alone" in line or "failed" in line]
+        world.wrong += [line for line in (folder / "errors").read_text().splitlines() if "may not be alone" in line or "failed" in line]
     found, waits = visits(world)
     world.wrong += [f"inside together: {pair}" for pair in overlaps(found)[:5]]
     world.wrong += [f"{world.statuses[status]} runs of lock ended with {status}" for status in world.statuses if status not in (0, 69, 75, -9)]

@@ -13,6 +13,7 @@ import unittest
 import zinduroi
 from zinduroi import Command, Counts, Exchange, Folder, Mqtt, TransportFailed
 from zinduroi.exchange import status_of
+from zinduroi.service import Call
 from zinduroi.watch import main
 
 from .common import PACKAGE, PROGRAM, Broker, Case, marked, wait_for
@@ -68,6 +69,14 @@ class Rounds(Case):
         self.listed.broken = False
         self.exchange.round()
         self.assertEqual(len(self.listed.published), 1)
+
+    def test_goes_on_behind_any_failure(self):
+        """As where no thread can be started."""
+        def fails(*words):
+            raise RuntimeError("can't start new thread")
+        self.listed.publish = self.listed.messages = fails
+        self.exchange.round()
+        self.assertEqual(self.exchange.tally().failed, {"RuntimeError": 2})
 
     def test_counts_what_is_refused(self):
         row = '{"from":1,"rows":[{"ann":0,"fin":0,"out":%s,"r":%d,"s":1,"taken":0}],"v":1}'
@@ -276,6 +285,29 @@ class Threads(Case):
             text = site.send()
             self.assertTrue(wait_for(lambda: (self.folder / "0.delta").read_text(encoding="utf-8") == text + "\n"))
 
+    def test_a_round_that_is_refused(self):
+        """`failure` says so, until a round is finished."""
+        site, refused = self.open(), threading.Event()
+        refused.set()
+        send, site.send = site.send, lambda: site._answers(Call(b"reed\n"))[0] if refused.is_set() else send()
+        with Exchange(site, Folder(self.folder), 0.05) as exchange:
+            self.assertTrue(wait_for(lambda: isinstance(exchange.failure, zinduroi.BadWord)))
+            refused.clear()
+            self.assertTrue(wait_for(lambda: exchange.failure is None and exchange.tally().sent > 0))
+
+    def test_a_text_that_arrives_while_the_service_is_down(self):
+        """It is taken behind that, though the folder's file stays the same."""
+        site, other = self.open(), self.open(1)
+        exchange = Exchange(site, Folder(self.folder), records=["a"])
+        other.give("b", 0, 1)
+        Folder(self.folder).publish(1, other.send())
+        os.kill(site.pid, 9)
+        self.assertRaises(zinduroi.ServiceEnded, exchange.round)
+        self.assertRaises(zinduroi.ServiceEnded, exchange.round)
+        site.reopen(wait=10)
+        exchange.round()
+        self.assertEqual((site.show("b").rights, exchange.tally().took), (1, 1))
+
     def test_a_site_that_freezes(self):
         site = self.open()
         other = self.open(store=self.folder / "twice.db")
@@ -328,6 +360,20 @@ class Transports(Case):
         with self.assertRaises(OSError):
             Folder(self.folder / "none").messages()
 
+    def test_folder_with_a_file_that_can_not_be_read(self):
+        """The texts of the others are told, and none of them is lost."""
+        folder = Folder(self.folder)
+        folder.publish(0, "x")
+        (self.folder / "1.delta").mkdir()
+        folder.publish(2, "y")
+        self.assertEqual(list(folder.messages()), ["x\n", "y\n"])
+        self.assertRaises(IsADirectoryError, folder.messages)
+        folder.publish(2, "z")
+        self.assertEqual(list(folder.messages()), ["z\n"])
+        self.assertRaises(IsADirectoryError, folder.messages)
+        (self.folder / "1.delta").rmdir()
+        self.assertEqual(list(folder.messages()), [])
+
     def test_command(self):
         command = Command(f"cat > {self.folder}/$ZINDUROI_SITE", f"cat {self.folder}/1", timeout=1)
         with self.assertRaises(TransportFailed):
@@ -341,6 +387,14 @@ class Transports(Case):
         with self.assertRaises(TransportFailed):
             Command("", "sleep 60; true", timeout=0.3).messages()
         self.assertLess(time.monotonic() - before, 30)
+
+    def test_command_that_leaves_a_process(self):
+        """One that has the command's output, and is in no group of it, as a connection that `ssh` keeps: nobody waits for its end."""
+        left = Command("setsid sleep 15 &", "setsid sleep 15 & echo x", timeout=0.5)
+        began = time.monotonic()
+        for call in (lambda: left.publish(1, "text"), left.messages):
+            self.assertRaises(TransportFailed, call)
+        self.assertLess(time.monotonic() - began, 10)
 
     def test_mqtt_with_large_and_odd_texts(self):
         if Broker.program() is None or shutil.which("mosquitto_pub") is None:

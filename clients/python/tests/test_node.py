@@ -1,10 +1,13 @@
 """A node: its lines and sessions, callers that wait, its end and its start, and the commands that use it."""
 import asyncio
 import contextlib
+import errno
+import functools
 import io
 import json
 import os
 import pathlib
+import shutil
 import signal
 import socket
 import sqlite3
@@ -12,15 +15,21 @@ import subprocess
 import sys
 import threading
 import time
+import types
 import unittest
+import unittest.mock
 
+from zinduroi import Folder, TransportFailed
 from zinduroi.command_line import main
 from zinduroi.node import NodeClient, NodeGone
+from zinduroi.node.answers import Answers, Caller
 from zinduroi.node.book import Book, stored_sessions
 from zinduroi.node.desk import Desk
-from zinduroi.node.config import ConfigError, read_config
+from zinduroi.node.config import ConfigError, SocketConfig, read_config
 from zinduroi.node.lines import LONGEST_LINE, BadWord, Call, Cutter, Plain, Resume, Shared, fits, parse
 from zinduroi.node.link import Interrupted
+from zinduroi.node.listening import HangUps, Listener
+from zinduroi.node.server import Node, Several
 
 from .common import PACKAGE, PROGRAM, Case, wait_for
 
@@ -68,6 +77,13 @@ class Lines(unittest.TestCase):
         self.assertEqual(shared.room, 1000)
         self.assertEqual(cutter.feed(b"z" * 70_000 + b"\nnext\n"), ["Memory", b"next"])
         self.assertFalse(cutter.has_part())
+        self.assertEqual(cutter.feed(b"x" * 66_000 + b"\n"), [b"x" * 66_000])
+        self.assertEqual(shared.room, 1000 - (66_000 - 65_536))
+        cutter.answered()
+        self.assertEqual(shared.room, 1000)
+        cutter.feed(b"x" * 66_000 + b"\n")
+        cutter.clear()
+        self.assertEqual(shared.room, 1000)
         wide = Cutter(Shared(1 << 30))
         self.assertEqual(wide.feed(b"x" * LONGEST_LINE + b"\n"), [b"x" * LONGEST_LINE])
         self.assertEqual(wide.feed(b"x" * LONGEST_LINE), [])
@@ -150,6 +166,18 @@ class Books(Case):
         self.assertIsNone(book.find("b", "x"))
         self.assertGreater(book.begin("b", "x", "u", connection, 7).number, second.number)
 
+    def test_all_or_none_are_kept(self):
+        book, connection = self.open_book(), object()
+        sessions = [book.begin("a", word, "t", connection, 7) for word in "xy"]
+        book._file.execute("CREATE TRIGGER full BEFORE UPDATE ON sessions WHEN old.word = 'y' BEGIN SELECT RAISE(FAIL, 'full'); END")
+        self.assertRaises(sqlite3.Error, book.keep, *sessions)
+        self.assertEqual([(it.kept, it.tied) for it in sessions], [(False, connection)] * 2)
+        numbers = {"a": [(it.number, "reader") for it in sessions]}
+        book.close()
+        again = self.open_book()
+        again.recall(numbers)
+        self.assertEqual([it.kept for it in again.sessions()], [False, False])
+
     def test_recall(self):
         book = self.open_book()
         kept, left, gone = (book.begin("a", word, "t", self, 7) for word in "xyz")
@@ -178,6 +206,35 @@ class Books(Case):
         os.unlink(self.folder / "s.db.sessions")
         time.sleep(3)
         self.assertGreater(self.open_book().begin("a", None, "t", self, 7).number, last)
+
+    def test_numbers_that_can_not_be_reserved(self):
+        """No number is given that the file hasn't reserved."""
+        book = self.open_book()
+        book._file.execute("CREATE TRIGGER full BEFORE INSERT ON numbers BEGIN SELECT RAISE(FAIL, 'full'); END")
+        for _ in range(2):
+            with self.assertRaises(sqlite3.Error):
+                book.begin("a", "x", "t", self, 7)
+        self.assertEqual(book.sessions(), [])
+        book._file.execute("DROP TRIGGER full")
+        book.begin("a", "x", "t", self, 7)
+
+    def test_clock_that_is_far_ahead(self):
+        """Callers get numbers, also once the clock was put back."""
+        with unittest.mock.patch("time.time", return_value=4e9):
+            first = self.open_book()
+        number = first.begin("a", "x", "t", self, 7).number
+        first.close()
+        self.assertGreater(self.open_book().begin("a", "x", "t", self, 7).number, number)
+
+    def test_book_in_use(self):
+        book = self.open_book()
+        with unittest.mock.patch("sqlite3.connect", functools.partial(sqlite3.connect, timeout=0.1)):
+            with self.assertRaises(sqlite3.OperationalError) as caught:
+                self.open_book()
+        self.assertEqual(str(caught.exception), f"{self.folder}/s.db.sessions: database is locked")
+        book.begin("a", "x", "t", self, 7)
+        book.close()
+        self.open_book()
 
     def test_not_a_book(self):
         (self.folder / "s.db.sessions").write_bytes(b"no database, but a text that is long enough to be looked at" * 100)
@@ -234,6 +291,80 @@ class Interruptions(Case):
                 self.assertEqual(session.phase, {"admitted": "writer" if verb == "write" else "reader", "announced 1": "waiting"}.get(reply))
                 self.assertEqual(book.is_here(session), verb != "leave")
             book.close()
+
+
+class ListedLink:
+    """A link whose replies are a list; an exception in it is raised."""
+
+    def __init__(self, *replies):
+        self.replies, self.lines, self.site = list(replies), [], self
+
+    def tell_listeners(self):
+        pass
+
+    async def ask(self, line):
+        self.lines.append(line.split(" ")[0])
+        reply = self.replies.pop(0)
+        if isinstance(reply, Exception):
+            raise reply
+        return reply
+
+    ask_until = ask
+
+
+class Refusals(Case):
+    """Where the program finds no memory for a line that nobody would repeat, the node does; and no refused writer stays announced."""
+
+    def run_line(self, line, *replies):
+        """The reply to a connection's line, and what the line and the end of the connection ask of the program, with these replies."""
+        link, book = ListedLink(*replies), Book(self.folder / f"{len(list(self.folder.iterdir()))}.sessions")
+        answers, caller = Answers(link, book, ("a",), dict), Caller(1, lambda: True)
+
+        async def converse():
+            reply = await answers.answer(caller, line)
+            asked, link.lines = link.lines, []
+            await answers.end(caller)
+            return reply, asked, link.lines
+        found = asyncio.run(converse())
+        self.assertEqual((book.sessions(), link.replies), ([], []))
+        book.close()
+        return found
+
+    def test_end_of_a_connection(self):
+        self.assertEqual(self.run_line(b"read a x", "admitted", "refused Memory", "left reader"), ("admitted", ["read"], ["leave", "leave"]))
+
+    def test_end_of_a_wait(self):
+        self.assertEqual(self.run_line(b"wait 0 write a w", "announced 1", "refused MissingSeats 2 3", "refused Memory", "withdrawn"),
+                         ("timeout refused MissingSeats 2 3", ["announce", "write", "leave", "leave"], []))
+
+    def test_refused_writer(self):
+        self.assertEqual(self.run_line(b"wait 9 write a w", "announced 1", "refused CounterFull", "withdrawn"),
+                         ("refused CounterFull", ["announce", "write", "leave"], []))
+
+    def test_end_of_the_service(self):
+        self.assertEqual(self.run_line(b"read a x", Interrupted(), "refused Memory", "0", "admitted", "left reader"),
+                         ("admitted", ["read", "sessions", "sessions", "read"], ["leave"]))
+
+
+class Deltas(Case):
+    """A delta may be long, and there is room for it or not only once it is there: few are asked for at once."""
+
+    def test_sends_at_once(self):
+        link, book, most = ListedLink(), Book(self.folder / "s.db.sessions"), [0, 0]
+
+        async def ask_bytes(line):
+            most[:] = [max(most[0], most[1] + 1), most[1] + 1]
+            await asyncio.sleep(0.01)
+            most[1] -= 1
+            return "rights 3 inside 0 unfinished 0" if line == b"show a" else "a delta"
+
+        async def ask_all(line):
+            link.ask_bytes = ask_bytes
+            answers = Answers(link, book, ("a",), dict)
+            return set(await asyncio.gather(*(answers.answer(Caller(1, lambda: False), line) for _ in range(50))))
+        self.assertEqual((asyncio.run(ask_all(b"send")), most), ({"a delta"}, [4, 0]))
+        self.assertEqual((asyncio.run(ask_all(b"show a")), most), ({"rights 3 inside 0 unfinished 0"}, [50, 0]))
+        book.close()
 
 
 class NodeCase(Case):
@@ -371,7 +502,7 @@ class Sessions(NodeCase):
         self.says(other, ("leave a z", "left reader"))
 
     def test_shut_down(self):
-        """A connection that says no more, but is not closed, has not ended."""
+        """A connection that says no more, but is not closed, has not ended; one that is shut down both ways has."""
         self.start()
         client = self.connect()
         self.says(client, ("read a x", "admitted"))
@@ -379,6 +510,10 @@ class Sessions(NodeCase):
         time.sleep(0.3)
         self.says(self.connect(), ("sessions a", "1 x reader"))
         client.close()
+        self.comes("sessions a", "0")
+        client = self.connect()
+        self.says(client, ("read a x", "admitted"))
+        client.socket.shutdown(socket.SHUT_RDWR)
         self.comes("sessions a", "0")
         idle, reply = self.asks("show b")
         idle.socket.shutdown(socket.SHUT_WR)
@@ -408,6 +543,21 @@ class Sessions(NodeCase):
         client.socket.sendall(b"leave a x\nsend a\nleave a y")
         client.socket.shutdown(socket.SHUT_WR)
         self.assertEqual(self.rest(client), "refused NotHere\nrefused BadWord 2\nrefused BadWord\n")
+
+    def test_interrupted_line(self):
+        """No reply is taken for that of a later line, and the sessions stay until the connection is closed."""
+        self.start()
+        self.says(self.connect(), ("read a h", "admitted"))
+        client = self.connect()
+        self.says(client, ("read a x", "admitted"))
+        client.socket.settimeout(0.2)
+        for line in ("wait 1 write a w", "leave a x"):
+            with self.assertRaises(NodeGone):
+                client.ask(line)
+            time.sleep(1.5)
+        self.comes("sessions a", "2 h reader, x reader")
+        client.close()
+        self.comes("sessions a", "1 h reader")
 
     def test_keep_and_resume(self):
         self.start()
@@ -469,6 +619,24 @@ class Restarts(NodeCase):
         self.start()
         self.says(self.connect(), ("sessions a", "1 x reader"))
 
+    def test_stop_while_the_program_hangs(self):
+        """The node ends, and what was answered is in the store."""
+        self.start()
+        client = self.connect()
+        self.says(client, ("read a x", "admitted"))
+        service = json.loads(client.ask("status"))["service"]
+        os.kill(service, signal.SIGSTOP)
+        try:
+            self.process.terminate()
+            _, errors = self.process.communicate(timeout=40)
+        finally:
+            with contextlib.suppress(ProcessLookupError):
+                os.kill(service, signal.SIGCONT)
+        self.assertIn("zinduroi: the program does not answer, and is killed: what it has answered is in the store\n", errors)
+        self.assertEqual(self.process.returncode, 0)
+        self.start()
+        self.says(self.connect(), ("sessions a", "1 x reader"))
+
     def test_strangers(self):
         """A session that the node doesn't know is listed, and left by an operator alone."""
         with self.open(log=self.folder / "0.log") as site:
@@ -500,6 +668,57 @@ class Restarts(NodeCase):
         client.close()
         self.comes("sessions a", "0")
 
+    def test_service_of_an_idle_node_ends(self):
+        """The exchange goes on, though no caller says a line for which the service would be started anew."""
+        self.start()
+        with NodeClient(self.socket) as client:
+            service = json.loads(client.ask("status"))["service"]
+        other, told = self.open(1), self.folder / "deltas" / "0.delta"
+        self.assertTrue(wait_for(told.exists))
+        other.announce("a", 9)
+        os.kill(service, signal.SIGKILL)
+        Folder(self.folder / "deltas").publish(1, other.send())
+        self.assertTrue(wait_for(lambda: '"s":1,' in told.read_text(), 20))
+
+    def test_second_node(self):
+        """A node that gets the store of another one, whose service has ended, doesn't serve: it knows nothing of its connections."""
+        self.start()
+        client = self.connect()
+        self.says(client, ("read a x", "admitted"))
+        service = json.loads(client.ask("status"))["service"]
+        os.kill(service, signal.SIGSTOP)
+        config = self.folder / "second.toml"
+        config.write_text(self.write_config().read_text().replace('"0.sock"', '"second.sock"'))
+        second = self.spawn(config)
+        self.addCleanup(second.kill)
+        time.sleep(2)
+        os.kill(service, signal.SIGKILL)
+        errors = second.communicate(timeout=30)[1]
+        # Where the first one was faster it has its store again.
+        self.assertIn(errors, (f"zinduroi: {self.folder}/0.db.sessions: database is locked\n", "zinduroi: store refused InUse\n"))
+        self.assertEqual(second.returncode, 1)
+        self.says(client, ("sessions a", "1 x reader"))
+
+    def test_service_that_does_not_start(self):
+        """A program that is away for a moment, as one that is being replaced: what came meanwhile is carried out behind that."""
+        program = self.folder / "program"
+        program.symlink_to(shutil.which(PROGRAM))
+        config = self.write_config()
+        config.write_text(config.read_text().replace(f'"{PROGRAM}"', f'"{program}"'))
+        self.process = self.spawn(config, "--create")
+        self.assertTrue(wait_for(self.answers))
+        client, other = self.connect(), self.connect()
+        self.says(client, ("read a x", "admitted"))
+        service = json.loads(client.ask("status"))["service"]
+        program.rename(self.folder / "away")
+        os.kill(service, signal.SIGKILL)
+        client.close()
+        other.socket.sendall(b"read a y\n")
+        self.assertRegex([self.process.stderr.readline() for _ in range(2)][1], "the service does not start: .*No such file")
+        (self.folder / "away").rename(program)
+        self.assertEqual(other.socket.recv(100), b"admitted\n")
+        self.comes("sessions a", "1 y reader")
+
     def test_socket(self):
         self.start(socket='mode = "640"')
         self.assertEqual(self.socket.stat().st_mode & 0o777, 0o640)
@@ -522,6 +741,25 @@ class Restarts(NodeCase):
         for more, name in (('group = "nobody-has-this"', "NoGroup: 0.sock: nobody-has-this"),):
             second = self.spawn(self.write_config(socket=more))
             self.assertIn(name.split(":")[0], second.communicate(timeout=60)[1])
+
+    def test_sockets_of_one_folder(self):
+        """Nodes whose processes have one number, in containers of their own, start at once: each gets its own socket."""
+        one, two = (Listener(SocketConfig(self.folder / name, 0o600, None, 9)) for name in ("one.sock", "two.sock"))
+        self.addCleanup(one.close)
+        self.addCleanup(two.close)
+        replace, parts = os.replace, []
+
+        def replace_behind(part, path):
+            parts.append(part)
+            if len(parts) == 1:
+                two.listen()
+            replace(part, path)
+        with unittest.mock.patch("os.replace", replace_behind):
+            one.listen()
+        for listener in (one, two):
+            with NodeClient(listener.path):
+                accepted, _ = listener.socket.accept()
+                accepted.close()
 
     def test_faults_of_the_start(self):
         for change, status, fault in ((("0.db", "none.db"), 1, "zinduroi: store refused NoStore\n"),
@@ -565,6 +803,33 @@ class Restarts(NodeCase):
         self.says(self.connect(), ("announce a w", "announced 1"), ("leave a w", "withdrawn"))
         self.assertTrue(wait_for((self.folder / "deltas" / "0.delta").exists))
         self.assertIn("a transport fails; it is tried again", self.end()[1])
+
+
+    def test_one_of_two_folders_away(self):
+        """It is told, at the first start too, and the texts of the other one are taken."""
+        config = self.write_config()
+        config.write_text(config.read_text() + '[[transport]]\nkind = "folder"\npath = "other"\n')
+        self.process = self.spawn(config, "--create")
+        errors = self.process.communicate(timeout=20)[1]
+        self.assertEqual((errors, self.process.returncode), (f"zinduroi: [Errno 2] No such file or directory: '{self.folder}/other'\n", 1))
+        self.process = self.spawn(config)
+        self.assertTrue(wait_for(self.answers))
+        other = self.open(1)
+        other.give("b", 0, 1)
+        Folder(self.folder / "deltas").publish(1, other.send())
+        self.comes("show b", "rights 1 inside 0 unfinished 0")
+        self.assertGreater(json.loads(self.connect().ask("status"))["exchange"]["failed"]["FileNotFoundError"], 0)
+        self.assertIn("a transport fails; it is tried again", self.end()[1])
+
+    def test_messages_that_can_not_be_fetched(self):
+        """A transport that publishes, and has no messages, is told beside one that has."""
+        good = types.SimpleNamespace(messages=lambda: ["x", "y"])
+        bad = types.SimpleNamespace(messages=lambda: (_ for _ in ()).throw(TransportFailed("away")))
+        for transports in ([good, bad], [bad, good]):
+            found = []
+            with self.assertRaises(TransportFailed):
+                found.extend(Several(transports).messages())
+            self.assertEqual(found, ["x", "y"])
 
 
 class Waits(NodeCase):
@@ -621,6 +886,21 @@ class Waits(NodeCase):
         self.comes("sessions a", "1 h reader")
         self.assertEqual(self.queue("a"), [])
 
+    def test_kept_writer_that_waits(self):
+        """It doesn't end with the connection that waits for it, and is withdrawn at the end of the time."""
+        self.start()
+        holder, client = self.connect(), self.connect()
+        self.says(holder, ("read a h", "admitted"))
+        self.says(client, ("announce a w", "announced 1"))
+        token = client.ask("keep a w").split(" ")[1]
+        client.socket.sendall(b"wait 60 write a w\n")
+        self.assertTrue(wait_for(lambda: self.queue("a") == ["w"]))
+        client.close()
+        self.assertTrue(wait_for(lambda: self.queue("a") == []))
+        time.sleep(0.3)
+        self.says(self.connect(), (f"resume {token}", "resumed 1 a w waiting"), ("wait 0.1 write a w", "timeout refused MissingSeats 2 3"),
+                  ("sessions a", "1 h reader"))
+
     def test_announced_before(self):
         """A writer that is announced already doesn't wait for a reader that waits for it."""
         self.start()
@@ -665,6 +945,27 @@ class Waits(NodeCase):
         self.assertLess(time.monotonic() - began, 4)
 
 
+# A client that sends lines which the node answers by itself, and reads each reply at once; and one that connects again and again.
+LINES = """
+import socket, sys, threading
+flood = socket.socket(socket.AF_UNIX)
+flood.connect(sys.argv[1])
+
+def drain():
+    while flood.recv(1 << 20):
+        pass
+threading.Thread(target=drain, daemon=True).start()
+while True:
+    flood.sendall(b"wait\\n" * 20_000)
+"""
+CONNECTIONS = """
+import socket, sys
+while True:
+    with socket.socket(socket.AF_UNIX) as flood:
+        flood.connect(sys.argv[1])
+"""
+
+
 class Crowds(NodeCase):
     """Long lines, floods, and clients that never read: the others are served."""
 
@@ -689,10 +990,95 @@ class Crowds(NodeCase):
         deaf.close()
         self.comes("sessions a", "0")
 
+    def test_floods(self):
+        """Three clients that never have to wait for the node: somebody else's line takes this long at most."""
+        self.start()
+        client = self.connect()
+        for script in (LINES, CONNECTIONS):
+            with self.subTest(script=script):
+                floods = [subprocess.Popen([sys.executable, "-c", script, self.socket], stderr=subprocess.DEVNULL) for _ in range(3)]
+                longest, end = 0.0, time.monotonic() + 6
+                try:
+                    while time.monotonic() < end:
+                        began = time.monotonic()
+                        self.says(client, ("show a", "rights 3 inside 0 unfinished 0"))
+                        longest = max(longest, time.monotonic() - began)
+                finally:
+                    for flood in floods:
+                        flood.kill()
+                        flood.wait()
+                self.assertLess(longest, 1)
+
+    def test_long_lines_at_once(self):
+        """Lines that wait for the program have no more room than lines that are coming in."""
+        self.start()
+        service = json.loads(self.connect().ask("status"))["service"]
+        os.kill(service, signal.SIGSTOP)
+        clients = [self.connect() for _ in range(20)]
+        threads = [threading.Thread(target=self.push, args=(client.socket, b"take " + b"x" * 2_000_000 + b"\n")) for client in clients]
+        for thread in threads:
+            thread.start()
+        for thread in threads:
+            thread.join()
+        time.sleep(1)
+        os.kill(service, signal.SIGCONT)
+        replies = [client.socket.recv(100) for client in clients]
+        self.assertEqual(set(replies), {b"refused NoMark\n", b"refused Memory\n"})
+        self.assertLessEqual(replies.count(b"refused NoMark\n"), 8)
+        self.says(self.connect(), ("take " + "x" * 2_000_000, "refused NoMark"))
+
     @staticmethod
     def push(to, data):
         with contextlib.suppress(OSError):
             to.sendall(data)
+
+    def test_connection_that_can_not_be_watched(self):
+        """As where the kernel has no room for that: it is closed, and the next one is served."""
+        watch, errors = HangUps.watch, io.StringIO()
+        faults = [OSError(errno.ENOSPC, "no room")]
+
+        def watch_or_fail(*words):
+            if faults:
+                raise faults.pop()
+            watch(*words)
+
+        def talk():
+            with NodeClient(self.socket) as first:
+                first.socket.settimeout(10)
+                self.assertRaises(NodeGone, first.ask, "show a")
+            with NodeClient(self.socket) as second:
+                second.socket.settimeout(10)
+                self.says(second, ("show a", "rights 3 inside 0 unfinished 0"))
+
+        async def run():
+            node = Node(read_config(self.write_config()))
+            running = asyncio.create_task(node.run(True))
+            try:
+                self.assertTrue(await asyncio.to_thread(wait_for, self.socket.exists))
+                await asyncio.wait_for(asyncio.to_thread(talk), 20)
+            finally:
+                node.stop()
+                await running
+        with unittest.mock.patch.object(HangUps, "watch", watch_or_fail), contextlib.redirect_stderr(errors):
+            asyncio.run(run())
+        self.assertIn("zinduroi: a connection can't be served: [Errno 28] no room\n", errors.getvalue())
+
+    def test_standard_error_that_nobody_reads(self):
+        """A node serves though what it tells its operator finds no room."""
+        reader, writer = os.pipe()
+        os.set_blocking(writer, False)
+        with contextlib.suppress(BlockingIOError):
+            while True:
+                os.write(writer, b"x" * 4096)
+        os.set_blocking(writer, True)
+        self.process = subprocess.Popen([sys.executable, "-m", "zinduroi", "node", "--config", self.write_config(), "--create"],
+                                        env={**os.environ, "PYTHONPATH": str(PACKAGE)}, stderr=writer)
+        self.addCleanup(os.close, reader)
+        os.close(writer)
+        self.assertTrue(wait_for(self.answers, 30))
+        client = self.connect()
+        client.socket.settimeout(10)
+        self.says(client, ("read a x", "admitted"))
 
     def test_too_many(self):
         self.start(socket="connections = 2")
@@ -774,6 +1160,82 @@ class Commands(NodeCase):
         self.assertEqual(self.ran("a", "--read", "--", "echo", "--", "x"), (0, "-- x\n", ""))
         self.assertEqual([self.ran("a", "true")[0], self.ran("a", "--")[0], self.ran("--timeout", "-1", "a", "--", "true")[0]], [2, 2, 2])
 
+    def test_closed_streams(self):
+        """What a command prints is no line of the connection, and what it reads no reply, if `lock` was started with closed streams."""
+        self.start()
+        for number in (0, 1, 2):
+            with self.subTest(closed=number):
+                process = self.lock("a", "--", "sh", "-c", "echo leave a -; echo leave a - >&2; cat; touch ready; sleep 3", stdin=subprocess.DEVNULL,
+                                    preexec_fn=lambda: os.close(number), cwd=self.folder)
+                self.assertTrue(wait_for((self.folder / "ready").exists, 20))
+                self.assertIn(" writer", self.connect().ask("sessions a"))
+                self.end_group(process)
+                (self.folder / "ready").unlink()
+                self.comes("sessions a", "0")
+
+    def test_files_that_lock_inherits(self):
+        """The command has them too: the connection of an outer `lock`, even if the inner one is killed."""
+        self.start()
+        reader, writer = os.pipe()
+        with open(reader, "rb") as found:
+            process = self.lock("a", "--", "sh", "-c", f"echo inherited >&{writer}", pass_fds=[writer])
+            os.close(writer)
+            self.assertEqual((process.communicate(timeout=60)[1], found.read()), ("", b"inherited\n"))
+        inner = [sys.executable, "-m", "zinduroi", "lock", "--socket", self.socket, "b", "--read", "--", "sh", "-c", "echo $PPID; read line"]
+        with self.open(1) as other:
+            other.give("b", 0, 1)
+            Folder(self.folder / "deltas").publish(1, other.send())
+        process = self.lock("a", "--", *inner, stdin=subprocess.PIPE)
+        os.kill(int(process.stdout.readline()), signal.SIGKILL)
+        time.sleep(1)
+        self.assertEqual([self.connect().ask(f"sessions {record}").split(" ")[-1] for record in "ab"], ["writer", "reader"])
+        self.assertEqual(process.communicate("\n", timeout=60), ("", ""))
+        self.assertEqual(process.returncode, 137)
+        self.comes("sessions a", "0")
+        self.comes("sessions b", "0")
+
+    def test_session_that_is_not_left(self):
+        """A node that can't leave says so, and `lock` tells it."""
+        replies = {b"token": b"token 00", b"wait": b"admitted", b"fence": b"fence 7", b"leave": b"refused Frozen"}
+        with socket.socket(socket.AF_UNIX) as listening:
+            listening.bind(str(self.socket))
+            listening.listen()
+            process = self.lock("a", "--", "sh", "-c", "exit 3")
+            connection, _ = listening.accept()
+            with connection:
+                for line in connection.makefile("rb"):
+                    connection.sendall(replies[line.split()[0]] + b"\n")
+            self.assertEqual(process.communicate(timeout=60), ("", "zinduroi: the session of a is not left: refused Frozen. See zinduroi status\n"))
+        self.assertEqual(process.returncode, 3)
+
+    def test_hang_up_that_is_ignored(self):
+        """As behind `nohup`: it does not keep `lock` from leaving a session that hangs on it."""
+        replies = {b"token": b"token 00", b"wait": b"admitted", b"fence": b"fence 7", b"resume": b"resumed 1 a -1 writer"}
+        with socket.socket(socket.AF_UNIX) as listening:
+            listening.bind(str(self.socket))
+            listening.listen()
+            process = self.lock("a", "--", "sh", "-c", "echo inside; read line; exit 5", stdin=subprocess.PIPE,
+                                preexec_fn=lambda: signal.signal(signal.SIGHUP, signal.SIG_IGN))
+            for lines in (3, 1):
+                connection, _ = listening.accept()
+                reader = connection.makefile("rb")
+                for _ in range(lines):
+                    connection.sendall(replies[reader.readline().split()[0]] + b"\n")
+                if lines == 3:
+                    self.assertEqual(process.stdout.readline(), "inside\n")
+                    reader.close()
+                    connection.close()
+            process.stdin.write("\n")
+            process.stdin.flush()
+            self.assertEqual(reader.readline(), b"leave a -\n")
+            process.send_signal(signal.SIGHUP)
+            time.sleep(0.3)
+            connection.sendall(b"left writer\n")
+            self.assertEqual(process.communicate(timeout=60), ("", ""))
+            reader.close()
+            connection.close()
+        self.assertEqual(process.returncode, 5)
+
     def test_killed_lock(self):
         """The session of a `lock` that was killed stays as long as its command lives."""
         self.start()
@@ -826,6 +1288,20 @@ class Commands(NodeCase):
         self.assertEqual(process.communicate(timeout=60), ("inside\n", ""))
         self.says(holder, ("sessions a", "0"))
 
+    def test_node_loses_its_book_under_a_command(self):
+        """The session is in the store, so `lock` doesn't say that it is gone."""
+        self.start()
+        process = self.lock("a", "--", "sh", "-c", "echo inside; read line; exit 5", stdin=subprocess.PIPE)
+        self.assertEqual(process.stdout.readline(), "inside\n")
+        self.end(signal.SIGKILL)
+        for path in self.folder.glob("0.db.sessions*"):
+            path.unlink()
+        self.start()
+        self.assertEqual(process.stderr.readline(), "zinduroi: the node knows no session of a for this command any more, which may not be alone: "
+                         "see zinduroi status\n")
+        process.communicate("\n", timeout=60)
+        self.assertEqual((process.returncode, self.connect().ask("sessions a")[:3]), (5, "1 ?"))
+
     def test_strict(self):
         self.start()
         process = self.lock("--strict", "a", "--", "sh", "-c", "echo inside; exec sleep 100")
@@ -840,6 +1316,9 @@ class Commands(NodeCase):
         self.start(socket="connections = 1")
         self.find_room()
         self.assertEqual(self.ran("a", "--", "true"), (69, "", "zinduroi: refused TooManyConnections\n"))
+        full = f"zinduroi: the node at {self.socket} answers refused TooManyConnections\n"
+        self.assertEqual(self.run_command("status"), (69, "", full))
+        self.assertEqual(self.run_command("watch", "--once"), (1, "", full))
 
     def test_signals(self):
         self.start()

@@ -228,6 +228,29 @@ async def evict_all(world):
         raise AssertionError(f"in the end there are {world.store.phases}")
 
 
+async def run_pairs(path, seeds):
+    """Two connections with one token: what one says of a session comes while the other enters it, and the service ends now and then."""
+    book = Book(path)
+    for seed in seeds:
+        chance, store = random.Random(seed), Store()
+        answers = Answers(StoreLink(store, chance, 0.5), book, ("a",), dict)
+        first, second = Caller(1, lambda: False), Caller(2, lambda: False)
+        second.adopt(first.token)
+
+        async def say(caller, line):
+            await answers.link.pause()
+            return await answers.answer(caller, line.encode())
+        await asyncio.gather(say(first, chance.choice(["read a x", "announce a x", "wait 0 write a x"])), say(second, "leave a x"),
+                             say(second, chance.choice(["leave a x", "write a x"])))
+        known = {session.number: session.phase for session in book.sessions()}
+        if known != store.phases:
+            raise AssertionError(f"seed {seed}: the node knows {known}, and the store has {store.phases}")
+        await answers.end(first)
+        if store.phases or book.sessions():
+            raise AssertionError(f"seed {seed}: in the end there are {store.phases}")
+    book.close()
+
+
 class Orders(unittest.TestCase):
     """Each session is left when its connection ends, and by nothing else; and who is told that it is inside is inside."""
 
@@ -236,6 +259,10 @@ class Orders(unittest.TestCase):
             for seed in range(60):
                 with self.subTest(seed=seed):
                     asyncio.run(run_world(seed, pathlib.Path(folder)))
+
+    def test_calls_of_one_session(self):
+        with tempfile.TemporaryDirectory() as folder:
+            asyncio.run(run_pairs(pathlib.Path(folder) / "pairs.sessions", range(1000)))
 
 
 if __name__ == "__main__":

@@ -2,6 +2,7 @@
 import asyncio
 import json
 import socket
+import time
 import types
 import unittest.mock
 
@@ -15,6 +16,7 @@ from zinduroi.node.seats import Share, rows_of, sender_of, shares_of
 from zinduroi.node.server import Several
 from zinduroi.node.tally import KEPT_ANSWERS, Histogram, Tally, shown_line, shown_reply, verb_of
 from zinduroi.node.view import View
+from zinduroi.peers import PeerState
 from zinduroi.site import Layout, Record
 
 from .common import Case, marked, wait_for
@@ -206,6 +208,14 @@ class Health(unittest.TestCase):
             self.assertEqual(asked, ["show a", "show a"])
         with unittest.mock.patch("zinduroi.node.view.PATIENCE", 0.05):
             asyncio.run(many())
+
+    def test_age_of_a_text_that_is_handed_out_again(self):
+        """`Peers` does so with the text of a site that is long dead."""
+        view, now = stub_view(StubLink()), time.monotonic()
+        view.site.heard = {1: ("", now), 2: ("", now - 7)}
+        view.exchange.transport = types.SimpleNamespace(states=lambda: [PeerState(1, None, 500.0, 0, 3, None), PeerState(3, None, None, 0, 0, None)])
+        self.assertEqual({site: round(age) for site, age in view.ages().items()}, {1: 500, 2: 7})
+        self.assertEqual([(it["site"], it["age"] and round(it["age"])) for it in view.peers()], [(1, 500), (3, None), (2, 7)])
 
     def test_several(self):
         both = Several([types.SimpleNamespace(states=lambda: [1], failures=lambda: {"X": 1}), object()])

@@ -10,6 +10,7 @@ import textwrap
 import threading
 import time
 import unittest
+import unittest.mock
 
 import zinduroi
 from zinduroi import Counts, Gave, Record, ServiceEnded, Session, StoreRefused, TimedOut
@@ -153,6 +154,8 @@ class Calls(Case):
         site = self.open()
         with self.assertRaises(ValueError):
             site.take("x\nread a 7")
+        with self.assertRaises(ValueError):
+            site.submit(b"show a\nread a 7", print)
         self.assertEqual(site.sessions("a"), [])
 
     def test_too_many_writers(self):
@@ -331,6 +334,21 @@ class Interruptions(Case):
             self.assertEqual(site.sessions("a"), [])
         self.assertEqual(site.announce("a", 1), 2)
 
+    def test_interrupted_leave_is_made(self):
+        """Ctrl-C while the end of a `with` waits behind the calls of others."""
+        site = self.open()
+        other = threading.Thread(target=site.show, args=("a",))
+        timers = [threading.Timer(0.6, os.kill, (os.getpid(), signal.SIGINT)), threading.Timer(0.9, os.kill, (site.pid, signal.SIGCONT))]
+        with self.assertRaises(KeyboardInterrupt):
+            with site.read("a", 7):
+                os.kill(site.pid, signal.SIGSTOP)
+                for thread in (other, *timers):
+                    thread.start()
+                time.sleep(0.3)
+        for thread in (other, *timers):
+            thread.join()
+        self.assertEqual(site.sessions("a"), [])
+
     def test_control_c_at_a_terminal(self):
         script = textwrap.dedent("""
             import sys
@@ -447,6 +465,18 @@ class Ends(Case):
             self.assertEqual(site.sessions("a"), [Session(7, "reader")])
         self.assertEqual(site.sessions("a"), [])
 
+    def test_no_memory_for_a_reply(self):
+        """It ends the service, since no later reply is known to be whose; no caller waits for ever."""
+        site, found = self.open(), queue.SimpleQueue()
+        self.addCleanup(site._service.kill)
+        with unittest.mock.patch.object(site._service, "_read", side_effect=MemoryError):
+            for line in (b"read a 7", b"show a"):
+                site.submit(line, found.put)
+            failures = [type(found.get(timeout=20).failure) for _ in range(2)]
+        self.assertEqual(failures, [ServiceEnded, ServiceEnded])
+        self.assertTrue(site.reopen(wait=10))
+        self.assertEqual(site.sessions("a"), [Session(7, "reader")])
+
     def test_killed_before_a_writer_withdraws(self):
         site = self.open()
         site.call("read a 7")
@@ -528,6 +558,8 @@ class Ends(Case):
         read = zinduroi.read_layout(self.layout, PROGRAM)
         self.assertEqual(read, zinduroi.Layout(3, (Record("a", 3, 0), Record("b", 4, 1))))
         self.assertEqual(zinduroi.read_layout(program=PROGRAM), zinduroi.Layout(2, (Record("a", 2, 0),)))
+        named = self.write_layout("named.toml", 2, ("a", 2, 0, 1), ("record", 3, 1, 2), ("site", 1, 0, 1))
+        self.assertEqual(zinduroi.read_layout(named, PROGRAM), zinduroi.Layout(2, (Record("a", 2, 0), Record("record", 3, 1), Record("site", 1, 0))))
         with self.assertRaises(zinduroi.LayoutRefused):
             zinduroi.read_layout(self.folder, PROGRAM)
 

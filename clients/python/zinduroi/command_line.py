@@ -3,6 +3,7 @@ from __future__ import annotations
 
 import argparse
 import json
+import os
 import sys
 import time
 from typing import Any, Callable, Dict, List, Optional, Sequence, Tuple
@@ -67,6 +68,7 @@ def _seconds(text: str) -> float:
 
 def main(words: Optional[Sequence[str]] = None) -> int:
     """Carries out the command line, and gives the exit status."""
+    _open_streams()
     made = parser()
     before, command = _split(list(sys.argv[1:] if words is None else words))
     if before[:1] == ["lock"] and not command and not {"-h", "--help"} & set(before):
@@ -81,6 +83,13 @@ def main(words: Optional[Sequence[str]] = None) -> int:
     if given.command == "lock":
         return _interruptible(lambda: run_lock(given.socket, given.record, given.read, given.timeout, given.strict, command))
     return _interruptible(lambda: _ask(given))
+
+
+def _open_streams() -> None:
+    """Opens the standard streams that are closed. A connection would get the number of one, and what a command of `lock` prints."""
+    while (number := os.open(os.devnull, os.O_RDWR)) <= 2:
+        os.set_inheritable(number, True)
+    os.close(number)
 
 
 def _split(words: List[str]) -> Tuple[List[str], List[str]]:
@@ -153,8 +162,8 @@ def run_ask(client: NodeClient, words: List[str]) -> int:
 
 def run_status(client: NodeClient, as_json: bool) -> int:
     """Prints the state of the node."""
-    text = client.ask("status")
-    print(text if as_json else status_text(json.loads(text), time.time()))
+    state = client.status()
+    print(json.dumps(state) if as_json else status_text(state, time.time()))
     return 0
 
 

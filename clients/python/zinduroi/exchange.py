@@ -9,7 +9,7 @@ import pathlib
 import threading
 import time
 from types import TracebackType
-from typing import Callable, Counter, Optional, Sequence, Type
+from typing import Callable, Counter, Deque, Optional, Sequence, Type
 
 from .errors import Frozen, NoPlan, OwnRowAhead, Refused, StoreFault, ZinduroiError
 from .site import Path, Site, read_layout
@@ -51,9 +51,9 @@ class Exchange:
     Set `helps` to `False` to have the exchange only send and take, as while a site that has announced a writer is cut off: it
     would get all free seats.
 
-    `failure` says why the last round was not finished: `ServiceEnded`, until `Site.reopen` starts the service anew; or
-    `OwnRowAhead`, `StoreFault` or `Frozen`, which end the thread. `status` is a file that gets the site's state after each
-    round, for `python -m zinduroi watch`."""
+    Whatever the transport raises is counted, and tried again. `failure` says why the last round was not finished: `ServiceEnded`,
+    until `Site.reopen` starts the service anew; a refusal, as `Memory`; or `OwnRowAhead`, `StoreFault` or `Frozen`, which end the
+    thread. `status` is a file that gets the site's state after each round, for `python -m zinduroi watch`."""
 
     def __init__(self, site: Site, transport: Transport, interval: float = 1.0, every: int = 10,
                  records: Optional[Sequence[str]] = None, status: Optional[Path] = None) -> None:
@@ -68,6 +68,7 @@ class Exchange:
         self.failure: Optional[ZinduroiError] = None
         self._status = status
         self._tally = Tally()
+        self._arrived: Deque[str] = collections.deque()
         self._known: Optional[str] = None
         self._published: Optional[str] = None
         self._quiet = 0
@@ -134,6 +135,7 @@ class Exchange:
                 self.failure = failure
                 return
             except Refused as refused:
+                self.failure = refused
                 self._count_refusal(refused)
             except ZinduroiError as failure:
                 self.failure = failure
@@ -161,21 +163,27 @@ class Exchange:
             self._send(self._known)
 
     def _take_all(self, starts: bool = False) -> int:
-        """Takes the texts that have arrived, and gives the number of counters that rose."""
+        """Takes the texts that have arrived, and gives the number of counters that rose. Those that the service could not be asked
+        for, as it had ended, come first: their transport doesn't tell them again, and their sites may send no more."""
+        rose = self._take_arrived()
         try:
-            texts = list(self.transport.messages())
-        except (OSError, TransportFailed) as failed:
-            # A folder that is not there at the start was mistyped, and will never be there.
-            if starts and isinstance(failed, (FileNotFoundError, NotADirectoryError)):
+            self._arrived.extend(self.transport.messages())
+        except Exception as failed:
+            # At the start a folder that is not there was mistyped, and will never be there; what no transport should raise is a fault.
+            later = isinstance(failed, (OSError, TransportFailed)) and not isinstance(failed, (FileNotFoundError, NotADirectoryError))
+            if starts and not later:
                 raise
             self._count_failure(failed)
-            return 0
+        return rose + self._take_arrived()
+
+    def _take_arrived(self) -> int:
         rose = 0
-        for text in texts:
+        while self._arrived:
             # A line feed would end the call. With a blank in its place the program says what is wrong with the text.
-            text = text.rstrip("\n").replace("\n", " ")
+            text = self._arrived[0].rstrip("\n").replace("\n", " ")
             if text != self._published:
                 rose += self._take(text)
+            self._arrived.popleft()
         return rose
 
     def _take(self, text: str) -> int:
@@ -217,7 +225,7 @@ class Exchange:
             return
         try:
             self.transport.publish(self.site.site, text)
-        except (OSError, TransportFailed) as failed:
+        except Exception as failed:
             self._count_failure(failed)
             self._published = None
             return

@@ -67,15 +67,21 @@ class Service:
         """Whether the process has ended, as far as a call has noticed."""
         return self._ended is not None
 
-    def run(self, call: Call) -> List[str]:
+    def run(self, call: Call, stays: bool = False) -> List[str]:
         """Waits for the replies. An exception that comes meanwhile drops the call if it has not begun; else the replies are
-        waited for, so that `call.reply` says what happened, and then the exception goes on."""
+        waited for, so that `call.reply` says what happened, and then the exception goes on. A call that `stays` is made before that."""
         try:
             self.submit(call)
             call.done.wait()
+        except ZinduroiError:
+            raise
         except BaseException:
             if not call.claim.acquire(blocking=False):
                 call.done.wait()
+            elif stays:
+                again = Call(*call.lines)
+                self.submit(again)
+                again.done.wait()
             raise
         if call.failure is not None:
             raise call.failure
@@ -137,7 +143,8 @@ class Service:
                 for call in calls:
                     call.replies += [self._read() for _ in call.lines]
                     done += 1
-        except OSError:
+        except (OSError, MemoryError):
+            # Behind a reply that was not read no other one is known to be whose.
             self._end()
         for call in calls[done:]:
             assert self._ended is not None

@@ -67,7 +67,8 @@ def read_layout(layout: Optional[Path] = None, program: Union[str, Sequence[str]
     sites = 0
     for line in ran.stdout.splitlines()[1:]:
         words = line.split()
-        if words[0] == "record":
+        # The head of the table of sessions; a record may be named so too.
+        if words[:2] == ["record", "site"]:
             break
         name, site, rights = words[0], int(words[1]), int(words[2])
         sites = max(sites, site + 1)
@@ -160,10 +161,12 @@ class Site:
     def submit(self, line: bytes, then: Callable[[Call], None]) -> None:
         """Has a line answered, and does not wait. `then` gets the call, with `replies` or with `failure`, on another thread; it
         must not raise. Raises `ServiceEnded` if the site was closed."""
+        if b"\n" in line:
+            raise ValueError("a line has no line feed in it")
         self._service.submit(Call(line + b"\n", then=then))
 
-    def _answers(self, call: Call) -> List[str]:
-        replies = self._service.run(call)
+    def _answers(self, call: Call, stays: bool = False) -> List[str]:
+        replies = self._service.run(call, stays)
         for reply in replies:
             refused = refusal(reply)
             if refused is not None:
@@ -177,8 +180,9 @@ class Site:
         return number
 
     def leave(self, record: str, holder: int) -> str:
-        """Ends a session: `reader` or `writer`, which was inside, or `withdrawn`, a writer that waited."""
-        what = self.call(f"leave {record} {holder}").split(" ")[-1]
+        """Ends a session: `reader` or `writer`, which was inside, or `withdrawn`, a writer that waited. An exception that comes
+        meanwhile goes on behind the call, since nobody else would make it."""
+        what = self._answers(_call_of(f"leave {record} {holder}"), stays=True)[0].split(" ")[-1]
         if what != "reader":
             self.tell_listeners()
         return what

@@ -45,12 +45,18 @@ class Folder:
         os.replace(part, self.folder / f"{site}.delta")
 
     def messages(self) -> Iterable[str]:
-        texts = []
+        """The texts of all files that can be read. Why one can't be is raised where no other one has anything new."""
+        texts, failed = [], None
         for path in sorted(self.folder.iterdir()):
             if re.fullmatch(r"[0-9]+\.delta", path.name):
-                text = self._newer(path)
+                try:
+                    text = self._newer(path)
+                except OSError as error:
+                    text, failed = None, error
                 if text is not None:
                     texts.append(text)
+        if failed is not None and not texts:
+            raise failed
         return texts
 
     def _newer(self, path: pathlib.Path) -> Optional[str]:
@@ -151,7 +157,7 @@ class Command:
 
     `publish` gets the text on its standard input and the site's number in the variable `ZINDUROI_SITE`. `messages` prints
     the texts that it has, one a line; a text that it printed before costs a call and changes nothing. A status other than 0,
-    or more than `timeout` seconds, is a failure."""
+    or more than `timeout` seconds, is a failure; these last until nothing has its output any more, as a process that it leaves."""
 
     def __init__(self, publish: str, messages: str, timeout: float = 30.0) -> None:
         self._publish = publish
@@ -184,9 +190,15 @@ def _run(words: Sequence[str], data: bytes, timeout: float, more: Optional[Dict[
 
 
 def _kill_group(process: "subprocess.Popen[bytes]") -> None:
-    """Kills a command and what it started."""
+    """Kills a command and what it started. What left its group may still have its output, which nobody waits for."""
     try:
         os.killpg(process.pid, 9)
     except ProcessLookupError:
         pass
-    process.communicate()
+    for pipe in (process.stdin, process.stdout, process.stderr):
+        assert pipe is not None
+        try:
+            pipe.close()
+        except OSError:
+            pass
+    process.wait()

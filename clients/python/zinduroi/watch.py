@@ -95,7 +95,7 @@ def watch_node(path: str, interval: float, once: bool) -> int:
     """Shows the state that a node tells."""
     with NodeClient(path) as client:
         while True:
-            show(table(rows_of([json.loads(client.ask("status"))], time.time())), once)
+            show(table(rows_of([client.status()], time.time())), once)
             if once:
                 return 0
             time.sleep(interval)

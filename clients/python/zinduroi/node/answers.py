@@ -1,6 +1,8 @@
 """The answer to each line of a connection."""
 from __future__ import annotations
 
+import asyncio
+import contextlib
 import json
 import sqlite3
 import time
@@ -13,6 +15,10 @@ from .link import Interrupted, Link
 from .waiting import Queues, Waiter
 from .report import report
 from .tally import Tally
+
+
+# How many deltas are asked for at once. Each may have 2 MiB, for which there is room or not only once it is there.
+SENDS = 4
 
 
 class Caller:
@@ -57,6 +63,7 @@ class Answers:
         self.tally = Tally()
         self.group: Optional[str] = None
         self._more = more
+        self._sends = asyncio.Semaphore(SENDS)
         self._calls: Dict[str, Callable[[Caller, Call], Awaitable[str]]] = {
             "read": self._enter, "announce": self._enter, "write": self._write, "leave": self._leave, "fence": self._fence,
             "keep": self._keep, "evict": self._evict}
@@ -83,7 +90,7 @@ class Answers:
     async def end(self, caller: Caller) -> None:
         """The connection has ended: its sessions are left or withdrawn. Only the end of the connection itself may call this."""
         for session in self.book.tied_to(caller):
-            reply = await self.desk.ask(session, "leave")
+            reply = await self.desk.leave(session)
             if self.book.is_here(session):
                 report(f"{session.record} {session.word} is not left: {reply}")
                 session.tied = None
@@ -115,7 +122,8 @@ class Answers:
         verb, _, rest = line.partition(b" ")
         while True:
             try:
-                reply = await self.link.ask_bytes(line)
+                async with self._sends if verb == b"send" else contextlib.nullcontext():
+                    reply = await self.link.ask_bytes(line)
                 break
             except Interrupted:
                 if verb in (b"give", b"help"):
@@ -221,12 +229,12 @@ class Answers:
         free = [session for session in found if session.tied is None or session.tied is caller]
         if not free:
             return "refused InUse"
+        if asked.keep:
+            self.book.keep(*free)
+        else:
+            self.book.tie(caller, *free)
         caller.adopt(asked.token)
         for session in free:
-            if asked.keep:
-                self.book.keep(session)
-            else:
-                self.book.tie(session, caller)
             chosen = caller.chosen.get(session.record)
             if session.word.startswith("-") and (chosen is None or not self.book.is_here(chosen)):
                 caller.chosen[session.record] = session

@@ -5,20 +5,23 @@ node is in a file beside the store: a row for each session, written before the s
 in the store means nothing and is dropped at the next start; a session of the store without a row belongs to nobody."""
 from __future__ import annotations
 
+import asyncio
 import contextlib
 import dataclasses
 import os
 import secrets
 import sqlite3
 import time
-from typing import Dict, Iterable, List, Optional, Tuple
+from typing import Dict, Iterable, List, Optional, Sequence, Tuple
 
 # The greatest number of a holder.
 LAST_NUMBER = 10**12
 # Numbers are reserved in the file so many at a time.
 RESERVED = 1000
-# A book that is begun anew gives numbers from the time on, a thousand for each second since 2025: above those of an earlier book.
+# A book that is begun anew gives numbers from the time on, a thousand for each second since 2025: above those of an earlier book. A
+# clock that is far ahead, past 2053, leaves a tenth of all numbers.
 EPOCH = 1_735_689_600
+LATEST = LAST_NUMBER // 10 * 9
 
 _TABLES = """
 CREATE TABLE IF NOT EXISTS numbers (next INTEGER NOT NULL);
@@ -36,7 +39,7 @@ class Session:
     """A session at the site. `phase` is `reader`, `waiting` or `writer` as the store last said, and `None` before it said
     anything. `tied` is the connection whose end ends it, if there is one. `known` is false where the book has no row: the session
     belongs to nobody. `ending` holds while somebody else than its caller ends it. `since` is in seconds since 1970, and `pid`
-    the process that had connected. `entered` is when this node saw it admitted."""
+    the process that had connected. `entered` is when this node saw it admitted. `turn` is held during a call to the store."""
 
     record: str
     number: int
@@ -50,6 +53,7 @@ class Session:
     pid: int = 0
     since: float = 0.0
     entered: Optional[float] = None
+    turn: asyncio.Lock = dataclasses.field(default_factory=asyncio.Lock)
 
 
 class Book:
@@ -60,7 +64,7 @@ class Book:
         self._file = _open(path)
         self._by_number: Dict[Tuple[str, int], Session] = {}
         self._by_word: Dict[Tuple[str, str], Session] = {}
-        self._next = max(1, self._stored_next(), int((time.time() - EPOCH) * 1000))
+        self._next = max(1, self._stored_next(), min(LATEST, int((time.time() - EPOCH) * 1000)))
         self._limit = 0
 
     def close(self) -> None:
@@ -100,15 +104,13 @@ class Book:
             with contextlib.suppress(sqlite3.Error):
                 self._file.execute("DELETE FROM sessions WHERE number = ?", (session.number,))
 
-    def keep(self, session: Session) -> None:
-        """No connection's end ends this session from now on. That is on the disk when this returns."""
-        self._set_kept(session, True)
-        session.tied = None
+    def keep(self, *sessions: Session) -> None:
+        """No connection's end ends these sessions from now on. That is on the disk when this returns."""
+        self._set_kept(sessions, True, None)
 
-    def tie(self, session: Session, to: object) -> None:
-        """The end of this connection ends the session from now on."""
-        self._set_kept(session, False)
-        session.tied = to
+    def tie(self, to: object, *sessions: Session) -> None:
+        """The end of this connection ends these sessions from now on."""
+        self._set_kept(sessions, False, to)
 
     def find(self, record: str, word: str) -> Optional[Session]:
         """The session of a word."""
@@ -139,14 +141,19 @@ class Book:
         self._by_number[session.record, session.number] = session
         self._by_word[session.record, session.word] = session
 
-    def _set_kept(self, session: Session, kept: bool) -> None:
-        if session.kept != kept:
+    def _set_kept(self, sessions: Sequence[Session], kept: bool, tied: Optional[object]) -> None:
+        """Changes all of these sessions, or none."""
+        changed = [(int(kept), session.number) for session in sessions if session.kept != kept]
+        if changed:
             self._file.execute("PRAGMA synchronous = FULL")
             try:
-                self._file.execute("UPDATE sessions SET kept = ? WHERE number = ?", (int(kept), session.number))
+                with self._file:
+                    self._file.execute("BEGIN")
+                    self._file.executemany("UPDATE sessions SET kept = ? WHERE number = ?", changed)
             finally:
                 self._file.execute("PRAGMA synchronous = NORMAL")
-            session.kept = kept
+        for session in sessions:
+            session.kept, session.tied = kept, tied
 
     def _stored_next(self) -> int:
         row = self._file.execute("SELECT max(next) FROM numbers").fetchone()
@@ -157,14 +164,15 @@ class Book:
         while (record, number) in self._by_number:
             number += 1
         if number > LAST_NUMBER:
-            raise NumbersUsedUp
-        self._next = number + 1
-        if self._next > self._limit:
-            self._limit = self._next + RESERVED
+            raise NumbersUsedUp("all numbers of holders have been given")
+        if number >= self._limit:
+            limit = number + 1 + RESERVED
             with self._file:
                 self._file.execute("BEGIN")
                 self._file.execute("DELETE FROM numbers")
-                self._file.execute("INSERT INTO numbers VALUES (?)", (self._limit,))
+                self._file.execute("INSERT INTO numbers VALUES (?)", (limit,))
+            self._limit = limit
+        self._next = number + 1
         return number
 
 
@@ -182,14 +190,16 @@ def stored_sessions(reply: str) -> List[Tuple[int, str]]:
 
 def _open(path: "str | os.PathLike[str]") -> sqlite3.Connection:
     """The file of a book, made where it is not there. A commit survives the end of this process; only `keep` waits for the
-    disk, since after a power failure no caller of this machine is left."""
+    disk, since after a power failure no caller of this machine is left. It is locked until it is closed: a second node that got the
+    store, as where this one's service had ended, would show callers of this one as without a connection."""
     os.close(os.open(path, os.O_RDWR | os.O_CREAT, 0o600))
     file = sqlite3.connect(path, isolation_level=None)
     try:
+        file.execute("PRAGMA locking_mode = EXCLUSIVE")
         file.execute("PRAGMA journal_mode = WAL")
         file.execute("PRAGMA synchronous = NORMAL")
         file.executescript(_TABLES)
-    except BaseException:
+    except sqlite3.Error as fault:
         file.close()
-        raise
+        raise type(fault)(f"{os.fspath(path)}: {fault}") from None
     return file

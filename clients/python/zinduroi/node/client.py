@@ -2,10 +2,11 @@
 from __future__ import annotations
 
 import contextlib
+import json
 import os
 import socket
 from types import TracebackType
-from typing import Optional, Type
+from typing import Any, Dict, Optional, Type
 
 from ..errors import ZinduroiError
 
@@ -14,7 +15,8 @@ DEFAULT_SOCKET = "/run/zinduroi/node.sock"
 
 
 class NodeGone(ZinduroiError):
-    """No node answers at the socket, or the connection ended before the reply. Then the call may have been carried out."""
+    """No node answers at the socket, or the connection ended before the reply. Then the call may have been carried out. `status` also
+    raises it where the node refuses to tell."""
 
 
 class NodeClient:
@@ -27,6 +29,7 @@ class NodeClient:
         self.path = socket_path(path)
         self.socket = socket.socket(socket.AF_UNIX)
         self._read = b""
+        self._waits = False
         try:
             self.socket.connect(self.path)
         except OSError as error:
@@ -34,13 +37,18 @@ class NodeClient:
             raise NodeGone(f"no node answers at {self.path}: {error.strerror or error}") from None
 
     def ask(self, line: str) -> str:
-        """The node's reply to a line. Raises `NodeGone`."""
+        """The node's reply to a line. Raises `NodeGone`. If anything interrupts it, as Ctrl-C or a timeout of the socket, each further
+        line raises `NodeGone`, since the late reply would be taken for its own; sessions stay until `close`."""
         if "\n" in line:
             raise ValueError("a line has no line feed in it")
+        data = line.encode("utf-8", "surrogateescape") + b"\n"
+        if self._waits:
+            raise NodeGone(f"an earlier line to the node at {self.path} got no reply, and it may still come: close this connection")
+        self._waits = True
         try:
             # A node that turned the connection away has said so, and doesn't read the line.
             with contextlib.suppress(BrokenPipeError, ConnectionResetError):
-                self.socket.sendall(line.encode("utf-8", "surrogateescape") + b"\n")
+                self.socket.sendall(data)
             parts = [self._read]
             while b"\n" not in parts[-1]:
                 parts.append(self.socket.recv(65536))
@@ -49,7 +57,16 @@ class NodeClient:
         except OSError as error:
             raise NodeGone(f"the node at {self.path} ended: {error.strerror or error}") from None
         reply, _, self._read = b"".join(parts).partition(b"\n")
+        self._waits = False
         return reply.decode("utf-8", "replace")
+
+    def status(self) -> Dict[str, Any]:
+        """What the node tells of its state. Raises `NodeGone` also where it refuses that."""
+        reply = self.ask("status")
+        if reply.startswith("refused "):
+            raise NodeGone(f"the node at {self.path} answers {reply}")
+        state: Dict[str, Any] = json.loads(reply)
+        return state
 
     def fileno(self) -> int:
         """The number of the connection's file."""

@@ -17,8 +17,8 @@ CHUNK = 65_536
 
 
 class Connection:
-    """One connection of the node. It has ended when the last holder of its other end has closed it, and only then; a caller that
-    shuts down its writing side may still be inside."""
+    """One connection of the node. It has ended when the last holder of its other end has closed it, or one of them has shut it down
+    both ways, and only then; a caller that shuts down its writing side may still be inside."""
 
     def __init__(self, connection: socket.socket, answers: Answers, shared: Shared, hang_ups: HangUps, stops: Callable[[], bool]) -> None:
         self._socket = connection
@@ -66,6 +66,7 @@ class Connection:
             data = await self._receive()
             while data and not self._stops():
                 await self._answer_all(cutter.feed(data))
+                cutter.answered()
                 data = b"" if self._stops() else await self._receive()
             if cutter.has_part():
                 await self._send("refused BadWord")
@@ -83,6 +84,8 @@ class Connection:
                     self._answers.tally.answered(self.caller.pid, line, reply, time.monotonic() - began)
                     await self._send(reply)
                 self._busy = False
+                # Neither reading, answering nor writing has to wait, so a flood would keep all others from their turn.
+                await asyncio.sleep(0)
 
     async def _answer(self, line: bytes) -> str:
         """The reply to a line. A fault of the node's own ends neither the connection nor a session."""

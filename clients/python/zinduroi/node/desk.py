@@ -3,11 +3,15 @@
 Each `leave` of the node goes to the program from here."""
 from __future__ import annotations
 
+import asyncio
 import time
 from typing import Callable, Optional
 
 from .book import Book, Session, stored_sessions
 from .link import Interrupted, Link
+
+# Seconds until the node asks again for what the program found no memory for.
+MEMORY_PAUSE = 0.1
 
 _LEFT = {"reader": "left reader", "writer": "left writer", "waiting": "withdrawn", None: "refused NotHere"}
 
@@ -24,19 +28,31 @@ class Desk:
 
     async def ask(self, session: Session, verb: str) -> str:
         """The reply to `read`, `announce`, `write` or `leave` of a session. If the service ends meanwhile, the store tells whether
-        the call was carried out, and it is made again if it was not. Nothing is asked for a session that was ended meanwhile."""
-        while True:
-            if not self.book.is_here(session):
-                return "refused NotAnnounced" if verb == "write" else "refused NotHere"
+        the call was carried out, and it is made again if it was not. Nothing is asked for a session that was ended meanwhile. Calls
+        of a session, which several connections may make, wait for each other: so what the store tells is of this one."""
+        async with session.turn:
+            reply = await self._ask(session, verb)
+            self._note(session, verb, reply)
+        return reply
+
+    async def _ask(self, session: Session, verb: str) -> str:
+        while self.book.is_here(session):
             try:
-                reply = await self.link.ask(f"{verb} {session.record} {session.number}")
+                return await self.link.ask(f"{verb} {session.record} {session.number}")
             except Interrupted:
                 found = await self._settle(session, verb)
-                if found is None:
-                    continue
-                reply = found
-            self._note(session, verb, reply)
-            return reply
+                if found is not None:
+                    return found
+        return "refused NotAnnounced" if verb == "write" else "refused NotHere"
+
+    async def leave(self, session: Session) -> str:
+        """The reply to a `leave` of a caller that is gone or gave up. Nobody would repeat it, so it is asked again where the program
+        found no memory."""
+        while True:
+            reply = await self.ask(session, "leave")
+            if reply != "refused Memory":
+                return reply
+            await asyncio.sleep(MEMORY_PAUSE)
 
     def drop(self, session: Session, reply: str) -> None:
         """Forgets a session that the store has refused. After `StoreFault` it may be there."""
@@ -45,7 +61,7 @@ class Desk:
 
     async def _settle(self, session: Session, verb: str) -> Optional[str]:
         """The reply to a call that was interrupted; `None` where it has to be made again."""
-        listed = await self.link.ask_until(f"sessions {session.record}")
+        listed = await self._insist(f"sessions {session.record}")
         if listed.startswith("refused"):
             return listed
         phase = dict(stored_sessions(listed)).get(session.number)
@@ -53,9 +69,17 @@ class Desk:
             return _LEFT[session.phase] if phase is None else None
         if verb == "announce" and phase == "waiting":
             # Its number is lost. A writer that never asked for its seats is withdrawn, and announced again.
-            await self.link.ask_until(f"leave {session.record} {session.number}")
+            await self._insist(f"leave {session.record} {session.number}")
             return None
         return "admitted" if (verb, phase) in (("read", "reader"), ("write", "writer")) else None
+
+    async def _insist(self, line: str) -> str:
+        """The reply to a line that may be asked more than once, also where the program found no memory."""
+        while True:
+            reply = await self.link.ask_until(line)
+            if reply != "refused Memory":
+                return reply
+            await asyncio.sleep(MEMORY_PAUSE)
 
     def _note(self, session: Session, verb: str, reply: str) -> None:
         """Writes down what a reply says."""

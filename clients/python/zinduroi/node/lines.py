@@ -134,12 +134,13 @@ class Shared:
 
 class Cutter:
     """Cuts lines at LF. A line that is too long, or for which there is no room, is dropped as it comes and gives the name of
-    its refusal in its place."""
+    its refusal in its place. A line keeps its room until it was answered."""
 
     def __init__(self, shared: Shared) -> None:
         self._shared = shared
         self._part = bytearray()
         self._taken = 0
+        self._unanswered = 0
         self._fault: Optional[str] = None
 
     def feed(self, data: bytes) -> List[Union[bytes, str]]:
@@ -149,19 +150,24 @@ class Cutter:
         for end in ended:
             self._add(end)
             found.append(self._fault or bytes(self._part))
-            self.clear()
+            self._unanswered += self._taken
+            self._part, self._taken, self._fault = bytearray(), 0, None
         self._add(rest)
         return found
+
+    def answered(self) -> None:
+        """The lines that were cut are answered."""
+        self._shared.give(self._unanswered)
+        self._unanswered = 0
 
     def has_part(self) -> bool:
         """Whether there are bytes behind the last LF."""
         return self._fault is not None or len(self._part) > 0
 
     def clear(self) -> None:
-        """Forgets the line that has begun."""
-        self._part = bytearray()
-        self._shared.give(self._taken)
-        self._taken, self._fault = 0, None
+        """Forgets the line that has begun, and those that were cut."""
+        self.answered()
+        self._drop(None)
 
     def _add(self, data: bytes) -> None:
         if self._fault is None:
@@ -175,9 +181,9 @@ class Cutter:
                 self._taken += max(0, more)
                 self._part += data
 
-    def _drop(self, fault: str) -> None:
-        self.clear()
-        self._fault = fault
+    def _drop(self, fault: Optional[str]) -> None:
+        self._shared.give(self._taken)
+        self._part, self._taken, self._fault = bytearray(), 0, fault
 
 
 def resumed_text(found: List[Tuple[str, str, Optional[str]]]) -> str:

@@ -3,9 +3,9 @@ from __future__ import annotations
 
 import asyncio
 import time
-from typing import Callable, Dict, Optional, Sequence, Tuple, Union
+from typing import Callable, Dict, List, Optional, Sequence, Tuple, Union
 
-from ..errors import ZinduroiError
+from ..errors import Refused, ZinduroiError
 from ..service import Call
 from ..site import Path, Site
 from .report import report
@@ -22,15 +22,29 @@ class Interrupted(Exception):
 
 
 class NodeSite(Site):
-    """A site that tells when a delta has brought something new. `last_sent` is its own last delta, and `heard` the last one that each
-    site made, with the time when it was taken."""
+    """A site that tells when a delta has brought something new, and when a call of its own found that the service had ended, as those of
+    the exchange. `last_sent` is its own last delta, and `heard` the last one that each site made, with the time when it was taken."""
 
     def __init__(self, store: Path, site: int, layout: Optional[Path], group: Optional[str], create: bool, log: Optional[Path],
                  program: Union[str, Sequence[str]]) -> None:
         super().__init__(store, site, layout, group, create, STORE_WAIT, log, program)
         self.merged: Callable[[], None] = lambda: None
+        self.ended: Callable[[ZinduroiError], None] = lambda why: None
         self.last_sent: Optional[str] = None
         self.heard: Dict[int, Tuple[str, float]] = {}
+
+    def _answers(self, call: Call, stays: bool = False) -> List[str]:
+        try:
+            return super()._answers(call, stays)
+        except Refused:
+            raise
+        except ZinduroiError as why:
+            self.ended(why)
+            raise
+
+    def kill(self) -> None:
+        """Ends the service at once."""
+        self._service.kill()
 
     def take(self, text: str) -> int:
         rose = super().take(text)
@@ -54,6 +68,8 @@ class Link:
         self.timed: Callable[[bytes, float], None] = lambda line, seconds: None
         self._loop = asyncio.get_running_loop()
         self._opening = asyncio.Lock()
+        self._reviving: Optional[asyncio.Task[None]] = None
+        site.ended = self._ended
 
     async def ask(self, line: str) -> str:
         """The reply to a line. Replies are handed out in the order in which the program wrote them. Raises `Interrupted`."""
@@ -91,6 +107,17 @@ class Link:
         except RuntimeError:
             pass
 
+    def _ended(self, why: ZinduroiError) -> None:
+        """On the exchange's thread: has the service started anew, even if no caller says a line for which that would be done."""
+        try:
+            self._loop.call_soon_threadsafe(self._revive, why)
+        except RuntimeError:
+            pass
+
+    def _revive(self, why: ZinduroiError) -> None:
+        if self._reviving is None or self._reviving.done():
+            self._reviving = self._loop.create_task(self._reopen(why))
+
     async def _reopen(self, why: ZinduroiError) -> None:
         """Starts the service anew. Of several calls that need it one does."""
         pause = 0.1
@@ -100,7 +127,8 @@ class Link:
                     if await asyncio.to_thread(self.site.reopen):
                         report(f"{why}; started anew")
                     return
-                except ZinduroiError as failure:
+                except Exception as failure:
+                    # Whatever it is, as a program that is being replaced: the next attempt comes.
                     report(f"the service does not start: {failure}")
                 await asyncio.sleep(pause)
                 pause = min(pause * 2, LONGEST_PAUSE)

@@ -5,6 +5,7 @@ import asyncio
 import errno
 import fcntl
 import grp
+import hashlib
 import os
 import pathlib
 import select
@@ -50,7 +51,8 @@ class Listener:
 
     def listen(self) -> socket.socket:
         """Puts the socket in its place, with its mode and group, and listens."""
-        part = self.path.with_name(f".{os.getpid()}")
+        # A name that is this socket's alone: nodes in containers may have one folder and the same number of their process.
+        part = self.path.with_name("." + hashlib.sha256(os.fsencode(self.path.name)).hexdigest()[:7])
         made = socket.socket(socket.AF_UNIX)
         try:
             part.unlink(missing_ok=True)

@@ -147,29 +147,32 @@ class Lock:
         os.close(held)
         lost = False
         if process is not None:
-            for number in PASSED_ON:
-                signal.signal(number, _passes_on(process))
+            found = {number: signal.signal(number, _passes_on(process)) for number in PASSED_ON}
             signal.pthread_sigmask(signal.SIG_SETMASK, mask)
             lost = self._watch(process)
             status = process.returncode if process.returncode >= 0 else 128 - process.returncode
-            for number in PASSED_ON:
-                signal.signal(number, signal.SIG_DFL)
+            for number, handler in found.items():
+                signal.signal(number, handler)
         self._leave(lifeline)
         os.close(lifeline)
         return NO_NODE if lost and self.strict else status
 
     def _start(self, command: Sequence[str], fence: str, held: int, before: Dict[Any, Any],
                mask: Any) -> "Tuple[Optional[subprocess.Popen[bytes]], int]":
-        """Starts the command with the connection, and with the signals as they were; or gives the exit status."""
-        def take_signals() -> None:
+        """Starts the command with the connection, with all files that this process inherited, such as those of an outer `lock`, and with
+        the signals as they were; or gives the exit status."""
+        assert self.client is not None
+        files = (self.client.fileno(), held)
+
+        def prepare() -> None:
+            for file in files:
+                os.set_inheritable(file, True)
             signal.pthread_sigmask(signal.SIG_SETMASK, mask)
             for number, handler in before.items():
                 signal.signal(number, signal.SIG_IGN if handler == signal.SIG_IGN else signal.SIG_DFL)
 
-        assert self.client is not None
         try:
-            return subprocess.Popen(command, pass_fds=(self.client.fileno(), held), env={**os.environ, "ZINDUROI_FENCE": fence},
-                                    preexec_fn=take_signals), 0
+            return subprocess.Popen(command, close_fds=False, env={**os.environ, "ZINDUROI_FENCE": fence}, preexec_fn=prepare), 0
         except OSError as error:
             report(f"{command[0]}: {error.strerror}")
             return None, NOT_FOUND if isinstance(error, FileNotFoundError) else NOT_RUN
@@ -207,7 +210,7 @@ class Lock:
 
     def _say_lost(self, phase: Optional[str]) -> None:
         if phase is None:
-            report(f"the session of {self.record} is gone: the command is not alone any more")
+            report(f"the node knows no session of {self.record} for this command any more, which may not be alone: see zinduroi status")
 
     # Leaving
 
@@ -224,8 +227,9 @@ class Lock:
         try:
             while True:
                 try:
-                    if self.token:
-                        self._ask(f"leave {self.record} -")
+                    reply = self._ask(f"leave {self.record} -") if self.token else ""
+                    if reply.startswith("refused ") and reply != "refused NotHere":
+                        report(f"the session of {self.record} is not left: {reply}. See zinduroi status")
                     return
                 except NodeGone:
                     self._return(end, keep=False)

@@ -27,7 +27,7 @@ from .sharing_task import Sharer, Sharing
 from .starting import Stopped, unless_stopped
 from .view import View
 
-# How many seconds a stop waits for lines in work.
+# How many seconds a stop waits for lines in work, and for a program that doesn't answer.
 LAST_ANSWERS = 5.0
 # Files that the node needs beside its connections.
 OTHER_FILES = 100
@@ -51,17 +51,17 @@ class Several:
             raise failed
 
     def messages(self) -> Iterable[str]:
-        """The texts of all; raises if none could be asked."""
-        texts: List[str] = []
-        failures: List[Exception] = []
+        """The texts of all that could be asked; then raises why another one could not, at best that its folder is not there."""
+        failed: Optional[Exception] = None
         for transport in self._transports:
             try:
-                texts.extend(transport.messages())
+                texts = list(transport.messages())
             except Exception as failure:
-                failures.append(failure)
-        if len(failures) == len(self._transports):
-            raise failures[-1]
-        return texts
+                failed = failure if failed is None or isinstance(failure, OSError) else failed
+            else:
+                yield from texts
+        if failed is not None:
+            raise failed
 
     def listen(self, listener: object) -> None:
         """Passes the listener on to those that know such."""
@@ -181,6 +181,8 @@ class Node:
     async def _accept(self, listening: socket.socket) -> None:
         loop = asyncio.get_running_loop()
         while True:
+            # Where the next one is there already nothing has to wait, and nobody else would get a turn.
+            await asyncio.sleep(0)
             try:
                 accepted, _ = await loop.sock_accept(listening)
             except OSError as error:
@@ -190,8 +192,13 @@ class Node:
             accepted.setblocking(False)
             if len(self._connections) >= self.config.socket.connections:
                 _turn_away(accepted)
-            else:
+                continue
+            try:
                 self._begin(accepted)
+            except OSError as error:
+                # As where the kernel has no room to watch it. It has no session yet, and the next one comes.
+                report(f"a connection can't be served: {error}")
+                accepted.close()
 
     def _begin(self, accepted: socket.socket) -> None:
         assert self._answers is not None and self._hang_ups is not None
@@ -215,6 +222,9 @@ class Node:
             for task in late:
                 task.cancel()
             await asyncio.gather(*tasks, return_exceptions=True)
+        if self._answers is not None and self._site is not None and not await self._program_answers(self._answers):
+            report("the program does not answer, and is killed: what it has answered is in the store")
+            self._site.kill()
         if self._page is not None:
             await self._page.close()
         if self._sharing is not None:
@@ -230,6 +240,13 @@ class Node:
             self._site.merged = lambda: None
             await asyncio.to_thread(self._site.close)
         self._listener.close()
+
+    @staticmethod
+    async def _program_answers(answers: Answers) -> bool:
+        """Whether the program still answers. The exchange and the service could not be closed else."""
+        asked = asyncio.ensure_future(answers.link.ask_until(f"show {answers.records[0]}"))
+        await asyncio.wait((asked,), timeout=LAST_ANSWERS)
+        return asked.done() or not asked.cancel()
 
     def _more(self) -> Dict[str, object]:
         """What a status has beside the records."""

@@ -70,17 +70,22 @@ class View:
         return shares_of(self.layout, self._rows(self.site.site, own), said)
 
     def ages(self) -> Dict[int, float]:
-        """Seconds since a delta that a site made was taken."""
+        """Seconds since a delta that a site made came. `Peers` hands out the newest ones again from time to time, and knows itself when
+        they came."""
         now = time.monotonic()
-        return {site: now - at for site, (_, at) in dict(self.site.heard).items()}
+        ages = {site: now - at for site, (_, at) in dict(self.site.heard).items()}
+        return {**ages, **{state.site: state.age for state in self._states() if state.age is not None}}
 
     def peers(self) -> List[Dict[str, Any]]:
         """The neighbours of the transport `Peers`; then the other sites of which a delta came."""
         ages = self.ages()
-        states = getattr(None if self.exchange is None else self.exchange.transport, "states", None)
-        listed = [{**vars(state), "age": ages.get(state.site, state.age)} for state in (states() if states is not None else ())]
+        listed = [{**vars(state), "age": ages.get(state.site)} for state in self._states()]
         known = {state["site"] for state in listed}
         return listed + [{"site": site, "age": ages[site]} for site in sorted(ages) if site not in known and site != self.site.site]
+
+    def _states(self) -> List[Any]:
+        states = getattr(None if self.exchange is None else self.exchange.transport, "states", None)
+        return list(states()) if states is not None else []
 
     def failures(self) -> Dict[str, int]:
         """How often connections to neighbours failed, by name."""

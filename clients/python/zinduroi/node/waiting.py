@@ -36,8 +36,8 @@ class Queues:
         self._safety = safety
 
     async def wait(self, desk: Desk, waiter: Waiter, seconds: float) -> str:
-        """Asks until the session is admitted. Gives the answer, or `timeout` and the last refusal; then nothing is left
-        announced. With 0 seconds it asks once, before the queue."""
+        """Asks until the session is admitted. Gives the answer, or `timeout` and the last refusal. Where it is not admitted nothing
+        is left announced, but a kept session whose connection has ended. With 0 seconds it asks once, before the queue."""
         queue = self._queues.setdefault(waiter.session.record, [])
         queue.append(waiter)
         try:
@@ -74,12 +74,14 @@ class Queues:
                 waiter.changed.clear()
                 last = await _try(desk, waiter)
                 if not _is_mended(last):
-                    return last
+                    break
             if not await self._pause(waiter, end):
-                last = last or f"refused Queued {queue.index(waiter)}"
-                if waiter.session.phase == "waiting":
-                    await desk.ask(waiter.session, "leave")
-                return f"timeout {last}"
+                last = f"timeout {last or f'refused Queued {queue.index(waiter)}'}"
+                break
+        # A session that was kept ends with no connection.
+        if waiter.session.phase == "waiting" and not (waiter.session.kept and waiter.is_over()):
+            await desk.leave(waiter.session)
+        return last
 
     async def _pause(self, waiter: Waiter, end: float) -> bool:
         """Waits for a change. Says whether there is still time."""
