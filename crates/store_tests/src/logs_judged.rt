@@ -124,10 +124,9 @@ fn sessions_in<S: Alter + Drop, R: Wait>(
     alloc: Global,
     connection: Connection<S>,
 ) -> Option<(usize, Connection<S>)> {
-    match run_site(rt, alloc, connection, 2, &[]) {
-        Some((_, Some(log), connection)) => Some((sessions_before(&log)?, connection)),
-        _ => None,
-    }
+    let (_, log, connection) = run_site(rt, alloc, connection, 2, &[])?;
+    let sessions = sessions_before(log.as_ref()?)?;
+    Some((sessions, connection))
 }
 
 /// A site is opened again and answers the second reader by what its store has: its log, and how many sessions it began with.
@@ -145,10 +144,11 @@ impl Work for GoesOn {
     ) -> Option<((Transcript, usize), Connection<S>)> {
         let (sessions, connection) = sessions_in(rt, alloc, connection)?;
         let calls = if sessions == 2 { &FINDS_8 } else { &ENTERS_8 };
-        match run_site(rt, alloc, connection, 2, calls) {
-            Some((At::Served(1), Some(log), connection)) => Some(((log, sessions), connection)),
-            _ => None,
+        let (at, log, connection) = run_site(rt, alloc, connection, 2, calls)?;
+        if at != At::Served(1) {
+            return None;
         }
+        Some(((log?, sessions), connection))
     }
 }
 
