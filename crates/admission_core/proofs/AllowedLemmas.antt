@@ -3,10 +3,10 @@ use Rattle.std.proofs.Common.{◌≡◌, ◌≢◌, ℕ, ◌+◌, ◌<◌, ◌�
 use Rattle.std.proofs.lemmas.Bool.{cond-true, eq-eqb, eqb-false, ltb-false, leb-false}
 use Rattle.std.proofs.lemmas.Bool.Decides.{nat_tests}
 use Rattle.grow_counters.specs.Counts.{counter_limit}
-use Rattle.rights_matrix.specs.Matrix.{entry}
-use Rattle.rights_matrix.specs.Transfer.{transfer_fault}
-use Rattle.seat_rows.specs.Seats.{SeatState, taken_at, seat_rights, inside_of}
-use Rattle.seat_rows.specs.Take.{take_fault}
+use Rattle.merge_core.specs.Matrix.{entry}
+use Rattle.merge_core.specs.Transfer.{transfer_fault}
+use Rattle.merge_core.specs.Seats.{SeatState, taken_at, seat_rights, inside_of}
+use Rattle.merge_core.specs.Take.{take_fault}
 use Rattle.writer_notices.specs.Notices.{NoticeState, IsOpen, announce_fault, most_writers}
 use Rattle.merge_core.specs.declared.cell.Cell.TheVariants.{Out, Taken, Ann, Fin}
 use Rattle.merge_core.specs.Book.{seats_at, notices_at, counter_of}

@@ -8,7 +8,7 @@ use Rattle.admission_model.specs.declared.durable.DurableCell.{DurableCell}
 use Rattle.admission_model.specs.Durable.{at_slot, places, kept_cells, durable_cells}
 use Rattle.admission_core.specs.Kept.{DurableState, durable_of}
 use Rattle.merge_core.specs.Book.{IsBook, book_shape, seats_at, notices_at}
-use Rattle.seat_rows.specs.Seats.{seat_rights, HasSeatRights}
+use Rattle.merge_core.specs.Seats.{seat_rights, HasSeatRights}
 use Rattle.writer_notices.specs.Notices.{IsOpen, IsLeastOpen}
 use Rattle.admission_model.specs.Account.{Account, layout_of}
 use Rattle.admission_model.specs.declared.reply.Plan.{Plan}

@@ -4,8 +4,8 @@ use Rattle.std.proofs.lemmas.Bool.{cases_lt, cases_eq, cases_Bool, cond-true, co
 use Rattle.std.proofs.lemmas.Bool.Decides.{nat_tests}
 use Rattle.std.proofs.lemmas.List.{get_or_past, length-map}
 use Rattle.grow_counters.specs.Counts.{counter_limit}
-use Rattle.rights_matrix.specs.Transfer.{transfer_fault}
-use Rattle.seat_rows.specs.Seats.{SeatState, taken_at}
+use Rattle.merge_core.specs.Transfer.{transfer_fault}
+use Rattle.merge_core.specs.Seats.{SeatState, taken_at}
 use Rattle.merge_core.specs.declared.cell.Cell.{Cell}
 use Rattle.merge_core.specs.declared.cell.Cell.TheVariants.{Out, Taken, Ann, Fin}
 use Rattle.merge_core.specs.declared.layout.RecordSpec.{RecordSpec}

@@ -2,9 +2,9 @@
 use Rattle.std.specs.Prelude.{◌≡◌, ℕ, ◌+◌, ◌<◌, ◌≤◌, ◌==◌, ◌&&◌, List, length, if◌then◌else◌, Some, None}
 use Rattle.merge_core.specs.declared.cell.Cell.{Cell}
 use Rattle.merge_core.specs.Book.{BookState, IsBook, book_shape, counter_of, seats_at, notices_at}
-use Rattle.rights_matrix.specs.Transfer.{transfer_fault}
-use Rattle.seat_rows.specs.Seats.{taken_at, inside_of, HasSeatRights}
-use Rattle.seat_rows.specs.Take.{take_fault}
+use Rattle.merge_core.specs.Transfer.{transfer_fault}
+use Rattle.merge_core.specs.Seats.{taken_at, inside_of, HasSeatRights}
+use Rattle.merge_core.specs.Take.{take_fault}
 use Rattle.writer_notices.specs.Notices.{IsOpen, announce_fault}
 use Rattle.session_list.specs.declared.session.Phase.{Phase}
 use Rattle.session_list.specs.declared.session.Phase.TheVariants.{Waiting}

@@ -3,7 +3,7 @@ use Rattle.std.specs.Prelude.{◌≡◌, ◌↔◌, ℕ, ◌<◌, length, Bool, 
 use Rattle.merge_core.specs.declared.cell.Cell.{Cell}
 use Rattle.merge_core.specs.Layout.{LayoutState, IsLayout, shape_of}
 use Rattle.merge_core.specs.Book.{BookState, IsBook, book_shape, counter_of, Names, seats_at}
-use Rattle.seat_rows.specs.Seats.{HasSeatRights}
+use Rattle.merge_core.specs.Seats.{HasSeatRights}
 use Rattle.session_list.specs.declared.session.Session.{Session}
 use Rattle.session_list.specs.Sessions.{phase_in}
 use Rattle.admission_model.specs.declared.ask.Call.{Call}

@@ -3,9 +3,9 @@ use Rattle.std.proofs.Common.{◌≡◌, ◌↔◌, ℕ, ◌<◌, ◌≤◌, ◌
 use Rattle.std.specs.Prelude.{◌==◌, if◌then◌else◌}
 use Rattle.std.proofs.lemmas.List.{get_or_past, get_or-map, length-map}
 use Rattle.std.proofs.lemmas.Bool.{cases_lt, cases_Bool, cond-true, eq-eqb, ltb-true, lt-ltb, false≢true}
-use Rattle.rights_matrix.specs.Matrix.{spent as matrix_spent, grant as matrix_grant}
-use Rattle.seat_rows.specs.Seats.{taken_at, inside_of, seat_rights, HasSeatRights}
-use Rattle.writer_notices.specs.Notices.{open_count, IsOpen, IsLeastOpen}
+use Rattle.merge_core.specs.Matrix.{spent as matrix_spent, grant as matrix_grant}
+use Rattle.merge_core.specs.Seats.{taken_at, inside_of, seat_rights, HasSeatRights}
+use Rattle.merge_core.specs.Notices.{open_count, IsOpen, IsLeastOpen}
 use Rattle.merge_core.specs.declared.cell.Cell.TheVariants.{Out, Taken, Ann, Fin}
 use Rattle.merge_core.specs.Layout.{Shape, RecordShape, shape_of, record_shape}
 use Rattle.merge_core.specs.Rows.{grant as shape_grant, no_record}

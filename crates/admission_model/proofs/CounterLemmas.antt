@@ -4,8 +4,8 @@ use Rattle.std.proofs.lemmas.Bool.{eq-eqb, ne_eqb, cond-true, cond-false}
 use Rattle.merge_core.specs.declared.cell.Cell.{Cell}
 use Rattle.merge_core.specs.declared.cell.Cell.TheVariants.{Out, Taken, Ann, Fin}
 use Rattle.merge_core.specs.Layout.{shape_of}
-use Rattle.grow_counters.specs.Counts.{counter_limit}
-use Rattle.writer_notices.specs.Notices.{most_writers}
+use Rattle.merge_core.specs.Counts.{counter_limit}
+use Rattle.merge_core.specs.Notices.{most_writers}
 use Rattle.merge_core.specs.Rows.{grant}
 use Rattle.merge_core.specs.Sums.{total_others}
 use Rattle.admission_model.specs.Account.{Account, seats_in, own, rise_of, record_of, phase_of, inside, writers_here}

@@ -5,7 +5,7 @@ use Rattle.merge_core.specs.declared.cell.Cell.{Cell}
 use Rattle.merge_core.specs.declared.cell.Cell.TheVariants.{Out, Taken, Ann, Fin}
 use Rattle.merge_core.specs.declared.delta.Row.{Row}
 use Rattle.merge_core.specs.Layout.{shape_of}
-use Rattle.grow_counters.specs.Counts.{counter_limit}
+use Rattle.merge_core.specs.Counts.{counter_limit}
 use Rattle.merge_core.specs.Rows.{grant, start_counter}
 use Rattle.merge_core.specs.Naming.{shown_by}
 use Rattle.merge_core.specs.Sums.{total_others}

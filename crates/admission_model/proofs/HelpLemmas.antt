@@ -3,7 +3,7 @@ use Rattle.std.proofs.Common.{◌≡◌, ◌≢◌, ℕ, ◌+◌, ◌<◌, ◌�
 use Rattle.std.specs.Prelude.{is_none}
 use Rattle.std.proofs.lemmas.Bool.{cases_eq, cases_Bool, eq-eqb, ne_eqb, lt-leb, or_right, or_from, cond-true, cond-false}
 use Rattle.merge_core.specs.declared.cell.Cell.TheVariants.{Out, Taken, Ann, Fin}
-use Rattle.grow_counters.specs.Counts.{counter_limit}
+use Rattle.merge_core.specs.Counts.{counter_limit}
 use Rattle.admission_model.specs.declared.ask.Ask.TheVariants.{Help}
 use Rattle.admission_model.specs.declared.ask.Call.TheVariants.{Ask as AskCall}
 use Rattle.admission_model.specs.declared.reply.Plan.{Plan}

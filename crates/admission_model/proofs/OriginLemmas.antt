@@ -8,7 +8,7 @@ use Rattle.merge_core.specs.declared.cell.Cell.{Cell}
 use Rattle.merge_core.specs.declared.cell.Cell.TheVariants.{Out, Taken}
 use Rattle.merge_core.specs.Layout.{LayoutState, shape_of}
 use Rattle.merge_core.specs.Rows.{grant, start_counter}
-use Rattle.grow_counters.specs.Counts.{counter_limit}
+use Rattle.merge_core.specs.Counts.{counter_limit}
 use Rattle.session_list.specs.declared.session.Phase.{Phase}
 use Rattle.session_list.specs.declared.session.Session.{Session}
 use Rattle.session_list.specs.Sessions.{phase_in, IsOnce}

@@ -4,7 +4,7 @@ use Rattle.std.specs.Prelude.{unwrap_or}
 use Rattle.std.proofs.lemmas.Bool.{cases_Bool, lt-ltb, le-ltb, lt-leb, eq-eqb, and_from, and_left, cond-true, cond-false}
 use Rattle.merge_core.specs.declared.cell.Cell.TheVariants.{Out, Taken, Ann, Fin}
 use Rattle.merge_core.specs.Layout.{LayoutState}
-use Rattle.grow_counters.specs.Counts.{counter_limit}
+use Rattle.merge_core.specs.Counts.{counter_limit}
 use Rattle.admission_model.specs.declared.ask.Ask.TheVariants.{Read}
 use Rattle.admission_model.specs.declared.ask.Call.TheVariants.{Ask as AskCall}
 use Rattle.admission_model.specs.declared.reply.Refusal.{Refusal}

@@ -8,7 +8,7 @@ use Rattle.merge_core.specs.declared.cell.Cell.{Cell}
 use Rattle.merge_core.specs.declared.cell.Cell.TheVariants.{Out, Taken, Ann, Fin}
 use Rattle.merge_core.specs.declared.delta.Row.{Row}
 use Rattle.merge_core.specs.Layout.{LayoutState, Shape, RecordShape, shape_of, record_shape}
-use Rattle.grow_counters.specs.Counts.{counter_limit}
+use Rattle.merge_core.specs.Counts.{counter_limit}
 use Rattle.merge_core.specs.Rows.{grant, start_counter, no_record, counter_in, counters_of}
 use Rattle.merge_core.specs.Naming.{shown_by}
 use Rattle.merge_core.specs.Sums.{one_if, number_of_cells}

@@ -3,7 +3,7 @@ use Rattle.std.proofs.Common.{◌≡◌, ℕ, ◌+◌, ◌<◌, ◌≤◌, ◌�
 use Rattle.std.specs.Prelude.{is_none}
 use Rattle.std.proofs.lemmas.Bool.{cases_Bool, cond_both, leb-true, eqb-false, ltb-false, leb-false, cond-true, cond-false}
 use Rattle.merge_core.specs.declared.cell.Cell.TheVariants.{Out, Taken, Ann, Fin}
-use Rattle.grow_counters.specs.Counts.{counter_limit}
+use Rattle.merge_core.specs.Counts.{counter_limit}
 use Rattle.admission_model.specs.declared.ask.Ask.{Ask}
 use Rattle.admission_model.specs.declared.ask.Ask.TheVariants.{Read, Announce, Quill, Leave, Give, Help}
 use Rattle.admission_model.specs.declared.ask.Call.{Call}
@@ -17,7 +17,7 @@ use Rattle.admission_model.specs.declared.operation.Operation.TheVariants.{Enter
 use Rattle.admission_model.specs.Knowledge.{known, hears, grown}
 use Rattle.admission_model.specs.View.{view_of, rights_of, plan_of}
 use Rattle.merge_core.specs.Layout.{shape_of}
-use Rattle.writer_notices.specs.Notices.{most_writers}
+use Rattle.merge_core.specs.Notices.{most_writers}
 use Rattle.merge_core.specs.Tests.{is_placed, is_valid, first_failing}
 use Rattle.admission_model.specs.Merging.{first_ahead}
 use Rattle.admission_model.specs.Replies.{Line, first_reason, holder_limit, is_not_announced, is_writer, planned, ask_lines, merge_lines, read_lines, give_lines, help_lines}

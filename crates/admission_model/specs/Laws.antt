@@ -4,7 +4,7 @@ use Rattle.merge_core.specs.declared.cell.Cell.{Cell}
 use Rattle.merge_core.specs.declared.cell.Cell.TheVariants.{Out, Taken, Ann, Fin}
 use Rattle.merge_core.specs.declared.delta.Row.{Row}
 use Rattle.merge_core.specs.Layout.{Shape, shape_of}
-use Rattle.grow_counters.specs.Counts.{counter_limit}
+use Rattle.merge_core.specs.Counts.{counter_limit}
 use Rattle.merge_core.specs.Rows.{grant}
 use Rattle.merge_core.specs.Naming.{ReachesUnit, RowsName}
 use Rattle.admission_model.specs.declared.reply.Plan.{Plan}

@@ -4,8 +4,8 @@
 use Rattle.std.specs.Prelude.{ℕ, ◌+◌, ◌==◌, ◌&&◌, Bool, true, false, nat_lt, nat_le, List, [], ◌∷◌, length, is_some, is_none, unwrap_or, if◌then◌else◌, Option, Some, None}
 use Rattle.merge_core.specs.declared.cell.Cell.TheVariants.{Out, Taken, Ann, Fin}
 use Rattle.merge_core.specs.Delta.{DeltaState}
-use Rattle.grow_counters.specs.Counts.{counter_limit}
-use Rattle.writer_notices.specs.Notices.{most_writers}
+use Rattle.merge_core.specs.Counts.{counter_limit}
+use Rattle.merge_core.specs.Notices.{most_writers}
 use Rattle.admission_model.specs.declared.ask.Ask.{Ask}
 use Rattle.admission_model.specs.declared.ask.Ask.TheVariants.{Read, Announce, Quill, Leave, Give, Help}
 use Rattle.session_list.specs.declared.session.Phase.{Phase}

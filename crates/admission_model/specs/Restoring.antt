@@ -5,8 +5,8 @@ use Rattle.merge_core.specs.declared.cell.Cell.{Cell}
 use Rattle.merge_core.specs.declared.cell.Cell.TheVariants.{Out, Taken, Ann, Fin}
 use Rattle.merge_core.specs.Layout.{LayoutState, shape_of}
 use Rattle.merge_core.specs.Rows.{grant, start_counter}
-use Rattle.grow_counters.specs.Counts.{counter_limit}
-use Rattle.writer_notices.specs.Notices.{most_writers}
+use Rattle.merge_core.specs.Counts.{counter_limit}
+use Rattle.merge_core.specs.Notices.{most_writers}
 use Rattle.session_list.specs.declared.session.Session.{Session}
 use Rattle.session_list.specs.Sessions.{IsOnce}
 use Rattle.admission_model.specs.declared.durable.DurableCell.{DurableCell}

@@ -4,8 +4,8 @@ use Rattle.std.specs.Prelude.{◌≡◌, ◌≢◌, ℕ, ◌+◌, ◌<◌, ◌�
 use Rattle.merge_core.specs.declared.cell.Cell.{Cell}
 use Rattle.merge_core.specs.declared.cell.Cell.TheVariants.{Out, Taken, Ann, Fin}
 use Rattle.merge_core.specs.Layout.{shape_of}
-use Rattle.grow_counters.specs.Counts.{counter_limit}
-use Rattle.writer_notices.specs.Notices.{most_writers}
+use Rattle.merge_core.specs.Counts.{counter_limit}
+use Rattle.merge_core.specs.Notices.{most_writers}
 use Rattle.merge_core.specs.Rows.{grant, start_counter}
 use Rattle.session_list.specs.declared.session.Phase.{Phase}
 use Rattle.admission_model.specs.Account.{Origin, Account, begin, arrivals, occurs, phase_of, own, inside, writers_here}

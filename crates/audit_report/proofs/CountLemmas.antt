@@ -2,8 +2,8 @@
 use Rattle.std.proofs.Common.{◌≡◌, ℕ, ◌<◌, List, length, get_or, sym, ap, subst, ◌∙◌, arith}
 use Rattle.std.specs.Prelude.{All}
 use Rattle.std.proofs.lemmas.List.{get_or_default}
-use Rattle.seat_rows.specs.Seats.{seat_rights, inside_of, HasSeatRights}
-use Rattle.writer_notices.specs.Notices.{open_count}
+use Rattle.merge_core.specs.Seats.{seat_rights, inside_of, HasSeatRights}
+use Rattle.merge_core.specs.Notices.{open_count}
 use Rattle.merge_core.specs.declared.layout.RecordSpec.{RecordSpec}
 use Rattle.merge_core.specs.Layout.{LayoutState}
 use Rattle.merge_core.specs.Book.{BookState, seats_at, notices_at}

@@ -20,7 +20,7 @@ use Rattle.admission_model.specs.Durable.{change_between, IsEmpty}
 use Rattle.admission_core.specs.Core.{Core, IsCore, Stands}
 use Rattle.admission_core.specs.Kept.{durable_of}
 use Rattle.merge_core.specs.Book.{seats_at}
-use Rattle.seat_rows.specs.Seats.{inside_of}
+use Rattle.merge_core.specs.Seats.{inside_of}
 use Rattle.admission_model.proofs.BookLemmas.{inside_there}
 use Rattle.admission_core.proofs.CoreLemmas.{is_core, has_book}
 use Rattle.durable_keeper.specs.declared.keeper.Keeper.{Ghosts}

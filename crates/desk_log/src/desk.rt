@@ -45,7 +45,7 @@ impl<K: Keeper> Model for Desk<K> {
 
 impl<K: Keeper> Desk<K> {
     ghost use Rattle.std.specs.Prelude.{◌≡◌, ℕ, ◌<◌, ◌≤◌, length, true, false};
-    ghost use Rattle.seat_rows.specs.Seats.{inside_of};
+    ghost use Rattle.merge_core.specs.Seats.{inside_of};
     ghost use Rattle.merge_core.specs.Book.{seats_at};
     ghost use Rattle.admission_model.specs.Account.{inside};
     ghost use Rattle.admission_core.specs.Core.{Stands};

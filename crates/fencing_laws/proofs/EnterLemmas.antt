@@ -5,7 +5,7 @@ use Rattle.std.specs.Prelude.{is_none, slice_get}
 use Rattle.std.specs.List.{AllByRecursion}
 use Rattle.std.proofs.lemmas.List.{length-append}
 use Rattle.std.proofs.lemmas.Bool.{cases_eq, eq-eqb, ne_eqb, lt-leb, lt-ltb, le-ltb, or_right, or_from, ltb-true, ltb-false, cond_both, cond-true, cond-false}
-use Rattle.grow_counters.specs.Counts.{counter_limit}
+use Rattle.merge_core.specs.Counts.{counter_limit}
 use Rattle.merge_core.specs.declared.cell.Cell.{Cell}
 use Rattle.merge_core.specs.declared.cell.Cell.TheVariants.{Out, Taken, Ann, Fin}
 use Rattle.merge_core.specs.Delta.{DeltaState}

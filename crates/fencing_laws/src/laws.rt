@@ -1,7 +1,7 @@
 //! Laws of the definitions in specs/: functions that do nothing, whose contracts are the laws.
 ghost use Rattle.std.specs.Prelude.{true, false, ◌≡◌, ℕ, ◌≢◌, ◌+◌, ◌<◌, ◌≤◌, ◌⊎◌, ◌++◌, [], ◌∷◌, List, Some};
 ghost use Rattle.std.specs.List.{AllByRecursion};
-ghost use Rattle.grow_counters.specs.Counts.{counter_limit};
+ghost use Rattle.merge_core.specs.Counts.{counter_limit};
 ghost use Rattle.merge_core.specs.declared.cell.Cell.TheVariants.{Taken};
 ghost use Rattle.session_list.specs.declared.session.Phase.TheVariants.{Reader, Writer};
 ghost use Rattle.admission_model.specs.declared.ask.Ask.TheVariants.{Leave, Quill};

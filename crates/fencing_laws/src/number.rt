@@ -1,6 +1,6 @@
 //! The number of whoever is inside a record.
 ghost use Rattle.std.specs.Prelude.{◌≡◌, ℕ, ◌<◌, ◌≤◌, ◌*◌, length};
-ghost use Rattle.grow_counters.specs.Counts.{counter_limit};
+ghost use Rattle.merge_core.specs.Counts.{counter_limit};
 ghost use Rattle.admission_model.specs.Account.{Account};
 ghost use Rattle.admission_core.specs.Core.{IsCore, Stands};
 ghost use Rattle.multi_site_world.specs.World.{World, account_at};

@@ -53,7 +53,7 @@ impl<K: LiveKeeper> Model for LiveSite<K> {
 
 impl<K: LiveKeeper> LiveSite<K> {
     ghost use Rattle.std.specs.Prelude.{◌≡◌, ℕ, ◌<◌, length, true, false, string_bytes};
-    ghost use Rattle.seat_rows.specs.Seats.{inside_of};
+    ghost use Rattle.merge_core.specs.Seats.{inside_of};
     ghost use Rattle.merge_core.specs.Book.{seats_at};
     ghost use Rattle.admission_model.specs.Account.{Account, inside};
     ghost use Rattle.admission_core.specs.Core.{IsCore, Stands};

@@ -1,7 +1,7 @@
 //! Laws of the definitions in specs/: functions that do nothing, whose contracts are the laws.
 ghost use Rattle.std.specs.Prelude.{◌≡◌, ◌∷◌, [], ℕ, ◌<◌, ◌≤◌, Bool, true, false, List, Some, length};
 ghost use Rattle.merge_core.specs.Delta.{DeltaState};
-ghost use Rattle.grow_counters.specs.Counts.{counter_limit};
+ghost use Rattle.merge_core.specs.Counts.{counter_limit};
 ghost use Rattle.merge_core.specs.declared.cell.Cell.{Cell};
 ghost use Rattle.merge_core.specs.Layout.{LayoutState, Shape, shape_of, at_sites};
 ghost use Rattle.admission_model.specs.Account.{begin, phase_of};

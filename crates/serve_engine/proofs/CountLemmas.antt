@@ -1,8 +1,8 @@
 -- What a core shows of a record.
 use Rattle.std.proofs.Common.{◌≡◌, ℕ, ◌<◌, length, sym, ap, subst, ◌∙◌, arith}
 use Rattle.merge_core.specs.Book.{seats_at, notices_at}
-use Rattle.seat_rows.specs.Seats.{inside_of, seat_rights}
-use Rattle.writer_notices.specs.Notices.{open_count}
+use Rattle.merge_core.specs.Seats.{inside_of, seat_rights}
+use Rattle.merge_core.specs.Notices.{open_count}
 use Rattle.admission_model.specs.Account.{Account, inside, writers_here}
 use Rattle.admission_model.specs.View.{View, view_of, rights_of}
 use Rattle.admission_model.proofs.BookLemmas.{inside_there, open_here}

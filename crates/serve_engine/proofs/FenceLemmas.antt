@@ -14,7 +14,7 @@ use Rattle.admission_model.specs.Account.{Account, layout_of, seats_in}
 use Rattle.admission_model.specs.View.{view_of, rights_of}
 use Rattle.admission_model.specs.Serving.{reason}
 use Rattle.admission_model.specs.Replies.{first_reason, holder_limit, is_not_announced, is_writer, line}
-use Rattle.grow_counters.specs.Counts.{counter_limit}
+use Rattle.merge_core.specs.Counts.{counter_limit}
 use Rattle.merge_core.specs.declared.cell.Cell.TheVariants.{Taken}
 use Rattle.admission_core.specs.Core.{Core, Stands}
 use Rattle.serve_engine.specs.Fencing.{fence_reason, inside_or_not, is_not_inside}

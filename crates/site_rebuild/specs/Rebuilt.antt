@@ -1,7 +1,7 @@
 -- The answer to deltas of which a lost site is to be built again.
 use Rattle.std.specs.Prelude.{◌≡◌, ◌≢◌, ◌==◌, Bool, true, false, if◌then◌else◌, ℕ, ◌<◌, ◌≤◌, List, [], ◌∷◌, All, length, get_or, Result, Ok, Err}
 use Rattle.std.specs.List.{list_any}
-use Rattle.grow_counters.specs.Counts.{counter_limit}
+use Rattle.merge_core.specs.Counts.{counter_limit}
 use Rattle.merge_core.specs.Delta.{DeltaState}
 use Rattle.merge_core.specs.Layout.{LayoutState, Shape, shape_of}
 use Rattle.merge_core.specs.declared.cell.Cell.{Cell}

@@ -1,6 +1,6 @@
 //! A site's core from deltas of the others.
 ghost use Rattle.std.specs.Prelude.{◌≡◌, ◌==◌, ◌↔◌, true, false, ℕ, ◌<◌, ◌≤◌, length, get_or, List, All, IsTrue, MatchOption};
-ghost use Rattle.grow_counters.specs.Counts.{counter_limit};
+ghost use Rattle.merge_core.specs.Counts.{counter_limit};
 ghost use Rattle.std.specs.List.{list_any};
 ghost use Rattle.merge_core.specs.Book.{book_shape, counter_of};
 ghost use Rattle.merge_core.specs.Check.{IsChecked};

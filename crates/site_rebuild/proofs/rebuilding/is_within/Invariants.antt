@@ -1,5 +1,5 @@
 use Rattle.std.proofs.Common.{◌≡◌, true, ℕ, ◌<◌, ◌≤◌}
-use Rattle.grow_counters.specs.Counts.{counter_limit}
+use Rattle.merge_core.specs.Counts.{counter_limit}
 use Rattle.merge_core.specs.Book.{counter_of}
 use Rattle.merge_core.specs.Layout.{shape_of}
 use Rattle.rebuild_laws.specs.Settling.{lacking}

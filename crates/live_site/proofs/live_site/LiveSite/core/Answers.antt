@@ -1,5 +1,5 @@
 use Rattle.std.proofs.Common.{◌≡◌, ℕ, sym, subst}
-use Rattle.seat_rows.specs.Seats.{inside_of}
+use Rattle.merge_core.specs.Seats.{inside_of}
 use Rattle.merge_core.specs.Book.{seats_at}
 use Rattle.admission_model.specs.Account.{inside}
 use Rattle.admission_model.proofs.BookLemmas.{inside_there}
