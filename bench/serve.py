@@ -1,16 +1,18 @@
 #!/usr/bin/env python3
 """Measures a call of `serve` through two pipes, beside three other ways to take and free a lock that survives a crash.
 
-Run it from anywhere, once ./seat_cli has built the program: python3 bench/serve.py [--calls N] [--core C] [--program PATH] [--folder F]
+Run it from anywhere, once ./seat_cli has built the program:
+    python3 bench/serve.py [--calls N] [--core C] [--program PATH] [--against PATH] [--folder F] [--runs N]
 Each way makes N calls, half of them taking and half freeing, one after the other from one client, on one core; the middle
-of five runs is shown. All write to FOLDER's disk before they answer:
+of five runs (--runs) is shown. All write to FOLDER's disk before they answer:
   serve       `read a 7` and `leave a 7` at a site over its store
   serve --log the same with a log
   Redis       SET NX and DEL with appendfsync always (redis-server, over its Unix socket)
   PostgreSQL  pg_try_advisory_lock and a row inserted in one transaction, then the row deleted and the lock freed
   sqlite3     Python's module: a row inserted or deleted, with journal_mode WAL and synchronous FULL
 Those whose program is missing are left out. The program is Debian's package of that name. Then `fence a 7`, of a reader inside, and an empty
-line, which changes nothing either, are asked in turns, 50 at a time: the middle of each.
+line, which changes nothing either, are asked in turns, 50 at a time: the middle of each. With --against nothing but `serve` is measured, by
+two programs in turns, so that both meet whatever else the machine does meanwhile.
 """
 
 import argparse
@@ -43,8 +45,8 @@ class Lines:
 
 
 class Serve:
-    def __init__(self, options, folder, log=()):
-        words = [options.program, "serve", "--site", "0", "--store", "site_0.db", "--create", *log]
+    def __init__(self, options, folder, log=(), program=None):
+        words = [program or options.program, "serve", "--site", "0", "--store", "site_0.db", "--create", *log]
         self.lines = Lines(words, folder)
 
     def take(self):
@@ -174,7 +176,9 @@ def main():
     parser.add_argument("--calls", type=int, default=4_000)
     parser.add_argument("--core", type=int, help="the core that all runs are held to")
     parser.add_argument("--program", default=str(TOP / "seat_cli"))
+    parser.add_argument("--against", metavar="PROGRAM", help="another program, whose runs come in between")
     parser.add_argument("--folder", help="where the files are written")
+    parser.add_argument("--runs", type=int, default=5)
     options = parser.parse_args()
     if options.core is not None:
         os.sched_setaffinity(0, {options.core})
@@ -185,15 +189,19 @@ def main():
         "PostgreSQL": PostgreSQL if shutil.which("psql") else None,
         "sqlite3": Sqlite,
     }
+    if options.against:
+        ways = {"serve": Serve, f"serve of {options.against}": lambda options, folder: Serve(options, folder, program=options.against)}
     runs = {name: [] for name, make in ways.items() if make}
-    for _ in range(5):
-        for name in runs:
+    for turn in range(options.runs):
+        for name in runs if turn % 2 == 0 else reversed(runs):
             runs[name].append(measured(ways[name], options))
     print("| Way | Median | 99th percentile | Calls a second |")
     print("|---|---|---|---|")
     for name, all_runs in runs.items():
-        middle = sorted(all_runs)[2]
+        middle = sorted(all_runs)[len(all_runs) // 2]
         print(f"| {name} | {middle[0]:.0f} us | {middle[1]:.0f} us | {middle[2]:.0f} |")
+    if options.against:
+        return
     pairs = sorted((looked_at(options) for _ in range(5)), key=lambda pair: pair[0] - pair[1])
     print("fence, and an empty line: {:.1f} and {:.1f} us; the difference in five runs: ".format(*pairs[2])
           + ", ".join(f"{fence - empty:.1f}" for fence, empty in pairs))
