@@ -37,13 +37,26 @@ def sources(crate, part, ending):
     return sorted((TOP / "crates" / crate / part).rglob(f"*{ending}"))
 
 
+def passed_on():
+    """The modules of specs/ that a crate passes on: crate and module, and the crate and the module that they are of."""
+    found = {}
+    for crate in (TOP / "crates").iterdir():
+        file = crate / "specs" / "Lib.antt"
+        for owner, module in re.findall(r"^pub use Rattle\.(\w+)\.specs\.([\w.]+)$", file.read_text(encoding="utf-8") if file.exists() else "", re.M):
+            found[crate.name, module.split(".")[-1]] = owner, module
+    return found
+
+
 def cited():
-    """The definitions that contracts name: crate, module and name."""
-    found = set()
+    """The definitions that contracts name: the crate that they are of, its module, and the name."""
+    found, passed = set(), passed_on()
     for crate in (TOP / "crates").iterdir():
         for file in sources(crate.name, "src", ".rt"):
             for use in re.findall(r"ghost use Rattle\.(\w+)\.specs\.([\w.]+)\.\{([^}]*)\}", file.read_text(encoding="utf-8")):
-                found |= {(use[0], use[1], name.split(" as ")[0].strip()) for name in use[2].split(",")}
+                at = use[0], use[1]
+                while at in passed:
+                    at = passed[at]
+                found |= {(*at, name.split(" as ")[0].strip()) for name in use[2].split(",")}
     return found
 
 

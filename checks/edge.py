@@ -5,7 +5,8 @@ Usage: checks/edge.py [--program PATH] [--only CASE ..]
 
 Layout files that differ; a file that is moved without its -wal, one that vanishes while a start waits for it, and an old copy; two
 starts that make one store; a line that a broken connection cuts; databases of other programs; stores beside other tables; files
-that are no log, the store as its own log, a log for two; a file that is taken away while its site is served; layouts with more
+that are no log, the store as its own log, a log for two; a file that is taken away while its site is served,
+or replaced while its log is read; layouts with more
 sites; damaged deltas, and deltas with and without marks; names that no group can have; a folder that is not there. Of each slip
 it says what was answered. The answer has to be the refusal that the documents promise, files that it promises to leave are compared byte for byte, the store is served afterwards,
 and a writer who was inside is so still, alone. Prints a line for each thing tried, then `N passed, M failed`, and ends with 1 where one failed.
@@ -618,6 +619,26 @@ def link_that_turns(place):
     tell(place.is_kept(store) and place.is_kept(other), "both stores are as they were")
 
 
+def replaced_while_its_log_is_read(place):
+    """Another store comes to the path of a new one, whose log is refused behind that: it stays. The log is a terminal, so that it ends when it is told to."""
+    other, new = place.store("other.db"), place.folder / "new.db"
+    kept = files(other)
+    ours, theirs = os.openpty()
+    start = place.start("ask", new, "--create", "--log", os.ttyname(theirs), "show", "a")
+    late = time.monotonic() + 20
+    while not (wal(new).exists() and wal(new).stat().st_size > 0) and start.poll() is None and time.monotonic() < late:
+        time.sleep(0.01)
+    time.sleep(0.5)
+    is_read = start.poll() is None
+    other.replace(new)
+    os.write(ours, b"a letter to a friend\n\x04")
+    said = answer(start)
+    os.close(theirs)
+    os.close(ours)
+    tell(is_read and said == "log refused NotALog 8" and files(new) == kept, "another store at the path of a new one whose log is refused", f"{said}, {'as it was' if files(new) == kept else 'changed'}")
+    tell(place.is_kept(new), "that store is served", place.ask(new, "sessions", "a"))
+
+
 def taken_away_with_a_log(place):
     """The log has no entry of a line that was not carried out."""
     store, log = place.folder / "s.db", place.folder / "s.log"
@@ -634,7 +655,7 @@ def taken_away_with_a_log(place):
     tell(said == (KEPT, "0"), "the store and the log go together again", ", ".join(said))
 
 
-CASES = (layouts, other_layouts, client_layouts, moved, vanished, taken_away, link_that_turns, taken_away_with_a_log, restored, created_twice, missing_folder, cut_lines, foreign, older_tables,
+CASES = (layouts, other_layouts, client_layouts, moved, vanished, taken_away, link_that_turns, taken_away_with_a_log, replaced_while_its_log_is_read, restored, created_twice, missing_folder, cut_lines, foreign, older_tables,
          newer_tables, first_version, text_as_log, fronts_of_logs, log_is_store, log_of_two, new_log_of_two, wider, damaged, plain, groups)
 
 

@@ -3,9 +3,9 @@ use Rattle.std.proofs.Common.{◌≡◌, inl, inr, ℕ, Bool, true, false, ◌==
 use Rattle.std.specs.List.{AllByRecursion}
 use Rattle.std.proofs.lemmas.Bool.{cases_Bool, cond_both}
 use Rattle.std.proofs.lemmas.Bool.Decides.{nat_tests}
-use Rattle.admission_model.specs.declared.durable.DurableCell.{DurableCell}
-use Rattle.admission_model.specs.Durable.{AreRising, is_before, is_same_place, put_cell, put_cells}
-use Rattle.admission_model.specs.Restoring.{stored_at}
+use Rattle.admission_core.specs.DurableCell.{DurableCell}
+use Rattle.admission_core.specs.Durable.{AreRising, is_before, is_same_place, put_cell, put_cells}
+use Rattle.admission_core.specs.Restoring.{stored_at}
 
 -- the first of two values that is there
 abbrev pub or_else : Option ℕ → Option ℕ → Option ℕ

@@ -5,8 +5,8 @@ use Rattle.std.proofs.Math.Seq.{drop-cons}
 use Rattle.std.proofs.lemmas.Bool.{cases_lt}
 use Rattle.std.proofs.lemmas.List.{get_or_default}
 use Rattle.std.proofs.lemmas.Bool.Decides.{nat_tests}
-use Rattle.admission_model.specs.declared.durable.DurableCell.{DurableCell}
-use Rattle.admission_model.specs.Durable.{AreRising, is_before, is_same_place, put_cell, put_cells}
+use Rattle.admission_core.specs.DurableCell.{DurableCell}
+use Rattle.admission_core.specs.Durable.{AreRising, is_before, is_same_place, put_cell, put_cells}
 use Rattle.durable_keeper.specs.Placing.{IsPlaceOf}
 use Rattle.durable_keeper.proofs.CellLists.{before_through}
 use Rattle.durable_keeper.proofs.MergeLemmas.{behind_apart}

@@ -3,7 +3,7 @@ use Rattle.std.specs.Prelude.{◌≤◌, ◌++◌, List, [], ◌∷◌, Option, 
 use Rattle.merge_core.specs.Layout.{LayoutState}
 use Rattle.session_list.specs.declared.session.Session.{Session}
 use Rattle.session_list.specs.Sessions.{phase_in, with_phase, without}
-use Rattle.admission_model.specs.Durable.{AreRising, put_cells}
+use Rattle.admission_core.specs.Durable.{AreRising, put_cells}
 use Rattle.admission_core.specs.declared.change.SessionChange.{SessionChange}
 use Rattle.admission_core.specs.declared.change.SessionChange.TheVariants.{Put, Removed}
 use Rattle.admission_core.specs.Kept.{DurableState, ChangeState}

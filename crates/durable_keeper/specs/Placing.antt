@@ -1,7 +1,7 @@
 -- Where a cell belongs among others that rise. For private clauses.
 use Rattle.std.specs.Prelude.{◌≡◌, ℕ, ◌<◌, ◌≤◌, false, List, length, slice_index_or, IsTrue}
-use Rattle.admission_model.specs.declared.durable.DurableCell.{DurableCell}
-use Rattle.admission_model.specs.Durable.{is_before}
+use Rattle.admission_core.specs.DurableCell.{DurableCell}
+use Rattle.admission_core.specs.Durable.{is_before}
 
 -- so many of the cells stand before this one, and the next does not
 pub record IsPlaceOf (c : DurableCell) (ds : List DurableCell) (n : ℕ) : Type 0 where

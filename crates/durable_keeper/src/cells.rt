@@ -1,6 +1,6 @@
 //! Counters in their order, and some put among others.
 ghost use Rattle.std.specs.Prelude.{◌≡◌, ◌+◌, ◌<◌, ◌≤◌, length, vec_len, vec_capacity, IfOk, MatchOption};
-ghost use Rattle.admission_model.specs.Durable.{AreRising, is_same_place, put_cell, put_cells};
+ghost use Rattle.admission_core.specs.Durable.{AreRising, is_same_place, put_cell, put_cells};
 ghost use Rattle.durable_keeper.specs.Placing.{IsPlaceOf};
 
 use admission_core::DurableCell;

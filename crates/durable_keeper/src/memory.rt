@@ -60,7 +60,7 @@ impl Drop for MemoryKeeper {
 
 // Contracts see what it was made for and what it keeps. The counters rise by record and slot.
 impl Model for MemoryKeeper {
-    ghost use Rattle.admission_model.specs.Durable.{AreRising};
+    ghost use Rattle.admission_core.specs.Durable.{AreRising};
     ghost use Rattle.durable_keeper.specs.Memory.{MemoryState};
 
     ghost Value = { MemoryState };

@@ -19,7 +19,7 @@ use Rattle.exchange_threads.specs.declared.report.InReport.{InReport}
 use Rattle.exchange_threads.specs.declared.turn.Turn.{Turn}
 use Rattle.exchange_threads.specs.declared.turn.Turn.TheVariants.{GoesOn, IsOver, EndsRun}
 use Rattle.exchange_threads.specs.Names.{unread_name, merge_name}
-use Rattle.desk_log.specs.Following.{most_raised}
+use Rattle.session_book.specs.Following.{most_raised}
 use Rattle.exchange_threads.specs.Counts.{count_name, count_names, count_total}
 use Rattle.exchange_threads.specs.Turns.{turn_after, stops_at, lacks_at, IsMarked}
 use Rattle.exchange_threads.specs.Inbox.{Fate, heard, unread, lacking, Taken, IsTaken, is_lacking, receipts_from, texts_from, names_from, name_list, raise_of, raised_by, IsInReason, HearsText, HasHeard, IsInAt, CountsTurn, TellsMerge, TellsUnread}

@@ -6,8 +6,8 @@ use Rattle.admission_model.specs.declared.reply.Reply.{Reply}
 use Rattle.admission_model.specs.declared.reply.Reply.TheVariants.{Admitted, Announced, Left, Given, Gave, Merged, Snapshot, Refused}
 use Rattle.admission_model.specs.declared.ask.Call.TheVariants.{Merge}
 use Rattle.merge_core.specs.Delta.{DeltaState}
-use Rattle.desk_log.specs.Log.{is_logged}
-use Rattle.desk_log.specs.Following.{CanFollow, RefusesSnapshot, most_raised}
+use Rattle.session_book.specs.Log.{is_logged}
+use Rattle.session_book.specs.Following.{CanFollow, RefusesSnapshot, most_raised}
 use Rattle.session_book.specs.Passes.{is_frozen_reply, is_full_reply}
 use Rattle.exchange_threads.specs.Turns.{turn_after}
 use Rattle.exchange_threads.specs.Inbox.{raise_of}

@@ -11,8 +11,8 @@ use Rattle.admission_model.specs.declared.reply.Refusal.{Refusal}
 use Rattle.admission_model.specs.declared.reply.Refusal.TheVariants.{Memory, Frozen, LogFull}
 use Rattle.admission_model.specs.declared.reply.Reply.{Reply}
 use Rattle.admission_model.specs.declared.reply.Reply.TheVariants.{Snapshot, Refused}
-use Rattle.desk_log.specs.Log.{is_logged}
-use Rattle.desk_log.specs.Following.{CanFollow}
+use Rattle.session_book.specs.Log.{is_logged}
+use Rattle.session_book.specs.Following.{CanFollow}
 use Rattle.session_book.specs.declared.pass.Receipt.{Receipt}
 use Rattle.session_book.specs.Passes.{PassState, pass_after}
 use Rattle.exchange_threads.specs.declared.report.OutReport.{OutReport}

@@ -7,8 +7,8 @@ use Rattle.admission_model.specs.declared.reply.Reply.TheVariants.{Merged}
 use Rattle.delta_codec.specs.declared.fault.DecodeError.{DecodeError}
 use Rattle.delta_codec.specs.DeltaText.{delta_text}
 use Rattle.delta_codec.specs.Decodes.{Decodes}
-use Rattle.desk_log.specs.Log.{is_logged}
-use Rattle.desk_log.specs.Following.{CanFollow, most_raised}
+use Rattle.session_book.specs.Log.{is_logged}
+use Rattle.session_book.specs.Following.{CanFollow, most_raised}
 use Rattle.session_book.specs.declared.pass.Receipt.{Receipt}
 use Rattle.session_book.specs.Passes.{PassState, pass_after}
 use Rattle.exchange_threads.specs.declared.names.RefusalName.{RefusalName}

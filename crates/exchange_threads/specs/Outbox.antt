@@ -11,7 +11,7 @@ use Rattle.admission_model.specs.declared.reply.Reply.{Reply}
 use Rattle.admission_model.specs.declared.reply.Reply.TheVariants.{Gave, Snapshot as SnapshotReply}
 use Rattle.delta_codec.specs.DeltaText.{delta_text}
 use Rattle.session_book.specs.declared.pass.Receipt.{Receipt}
-use Rattle.desk_log.specs.Following.{CanFollow}
+use Rattle.session_book.specs.Following.{CanFollow}
 use Rattle.session_book.specs.Passes.{PassState, pass_after}
 use Rattle.exchange_threads.specs.Turns.{turn_after, lacks_at, IsMarked}
 use Rattle.exchange_threads.specs.declared.turn.Turn.{Turn}

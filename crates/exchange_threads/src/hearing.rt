@@ -10,7 +10,7 @@ use std::alloc::Global;
 
 impl InReport {
     ghost use Rattle.std.specs.Prelude.{◌≡◌, ◌+◌, ◌^◌, ◌<◌, ◌≤◌, []};
-    ghost use Rattle.desk_log.specs.Following.{most_raised};
+    ghost use Rattle.session_book.specs.Following.{most_raised};
     ghost use Rattle.exchange_threads.specs.Counts.{count_names, count_total};
     ghost use Rattle.exchange_threads.specs.Turns.{turn_after};
     ghost use Rattle.exchange_threads.specs.Inbox.{CanNote, TellsMerge, TellsUnread, name_list, raise_of};

@@ -1,17 +1,21 @@
 -- A move or a rebuild that gives no text ends as one that is told so.
-use Rattle.std.proofs.Common.{◌≡◌, ◌⊎◌, inl, inr, ℕ, Bool, true, false, List, Result, Ok, Err, refl, sym, subst}
+use Rattle.std.proofs.Common.{◌≡◌, ◌⊎◌, inl, inr, ℕ, ◌<◌, Bool, true, false, List, Result, Ok, Err, refl, sym, subst}
 use Rattle.sqlite_trees.specs.declared.store.Store.{Ghosts as Device}
 use Rattle.sqlite_disk.specs.declared.Disk as disk
 use Rattle.sqlite_wal.specs.Recovery.{Image}
 use Rattle.sqlite.specs.Files.{over_files}
 use Rattle.sqlite.specs.Held.{Held}
 use Rattle.merge_core.specs.Layout.{LayoutState}
+use Rattle.admission_model.specs.declared.durable.DurableCell.{DurableCell}
+use Rattle.admission_core.specs.Core.{Core}
+use Rattle.admission_core.specs.Kept.{DurableState}
+use Rattle.admission_core.specs.Restored.{IsRestored}
+use Rattle.rebuild_engine.specs.Parts.{IsBuiltOf}
 use Rattle.admission_core.specs.declared.restoring.RestoreError.{RestoreError}
 use Rattle.admission_core.specs.declared.restoring.RestoreError.TheVariants as restoring
 use Rattle.durable_keeper.specs.declared.error.KeeperError.{KeeperError}
 use Rattle.durable_keeper.specs.declared.error.KeeperError.TheVariants as keeping
 use Rattle.exit_status.specs.declared.status.Status.TheVariants.{Done, Usage, NoLayout, NoStore, Fault, Refused, Memory, Io}
-use Rattle.exit_status.specs.declared.store_refusal.StoreRefusal.TheVariants as store
 use Rattle.store_tables.specs.declared.error.TableError.{TableError}
 use Rattle.store_tables.specs.declared.error.TableError.TheVariants as tables
 use Rattle.site_store.specs.declared.error.ServedError.{ServedError}
@@ -22,88 +26,117 @@ use Rattle.live_databases.specs.declared.rebuilding.RebuildEnd.TheVariants as re
 use Rattle.live_databases.specs.declared.service_end.ServiceEnd.{ServiceEnd}
 use Rattle.live_databases.specs.declared.service_end.ServiceEnd.TheVariants.{Ended, Absent, NoLog, LogIsStore, Unlogged, Outdated}
 use Rattle.live_databases.specs.Endings.{refused_store}
-use Rattle.live_databases.specs.LiveMoves.{EndsUntold, MovesSome, RebuildsNone, RebuildsSome}
-use Rattle.live_databases.specs.LiveStores.{IsUnserved, unloaded_end}
+use Rattle.live_databases.specs.LiveMoves.{EndsUnmade, EndsUntold, MovesSome, RebuildsNone, RebuildsSome}
+use Rattle.live_databases.specs.LiveStores.{IsUnopened, unloaded_end}
 use Rattle.live_databases.specs.Moves.{EndsRefused, EndsUnmoved, FindsMoved, IsNotMoved, TellsNone, foreign_end, unfit_end}
-use Rattle.live_databases.specs.Rebuilds.{EndsNotRebuilt, FindsRebuilt}
+use Rattle.live_databases.specs.Rebuilds.{EndsNotRebuilt, FindsRebuilt, HasNotMadeAnew}
 
-pub untold_unserved : (e : ServiceEnd) → IsUnserved e → EndsUntold e
-untold_unserved (Ended Memory) is = tt
-untold_unserved (Ended (NoStore store.StoreFault)) is = tt
-untold_unserved (Absent a) is = tt
-untold_unserved LogIsStore is = tt
-untold_unserved (Ended Done) is = absurd is
-untold_unserved (Ended Usage) is = absurd is
-untold_unserved (Ended (NoLayout fault)) is = absurd is
-untold_unserved (Ended (NoStore store.BadStore)) is = absurd is
-untold_unserved (Ended (NoStore store.WrongSite)) is = absurd is
-untold_unserved (Ended (NoStore store.WrongLayout)) is = absurd is
-untold_unserved (Ended (NoStore store.WrongCounters)) is = absurd is
-untold_unserved (Ended (NoStore store.WrongSessions)) is = absurd is
-untold_unserved (Ended Fault) is = absurd is
-untold_unserved (Ended Refused) is = absurd is
-untold_unserved (Ended Io) is = absurd is
-untold_unserved (NoLog refusal) is = absurd is
-untold_unserved Unlogged is = absurd is
-untold_unserved Outdated is = absurd is
+module _ (layout : LayoutState) (i : ℕ) (there : i < layout.sites) where
+  untold_unopened : (create : Bool) (e : ServiceEnd) → IsUnopened create e → EndsUntold layout i e
+  untold_unopened create (Ended Memory) is = there
+  untold_unopened create (Ended (NoStore refusal)) is = there
+  untold_unopened create (Absent a) is = there
+  untold_unopened create LogIsStore is = absurd is
+  untold_unopened create (Ended Done) is = absurd is
+  untold_unopened create (Ended Usage) is = absurd is
+  untold_unopened create (Ended (NoLayout fault)) is = absurd is
+  untold_unopened create (Ended Fault) is = absurd is
+  untold_unopened create (Ended Refused) is = absurd is
+  untold_unopened create (Ended Io) is = absurd is
+  untold_unopened create (NoLog refusal) is = absurd is
+  untold_unopened create Unlogged is = absurd is
+  untold_unopened create Outdated is = absurd is
 
-untold_store : (e : ServedError) → EndsUntold (refused_store e)
-untold_store opening.NotAStore = tt
-untold_store opening.NoStore = tt
-untold_store opening.Exists = tt
-untold_store opening.BadStore = tt
-untold_store opening.WrongSite = tt
-untold_store opening.WrongGroup = tt
-untold_store opening.Outdated = tt
-untold_store opening.WrongLayout = tt
-untold_store opening.StoreFault = tt
-untold_store opening.Memory = tt
+  untold_store : (e : ServedError) → EndsUntold layout i (refused_store e)
+  untold_store opening.NotAStore = there
+  untold_store opening.NoStore = there
+  untold_store opening.Exists = there
+  untold_store opening.BadStore = there
+  untold_store opening.WrongSite = there
+  untold_store opening.WrongGroup = there
+  untold_store opening.Outdated = there
+  untold_store opening.WrongLayout = there
+  untold_store opening.StoreFault = there
+  untold_store opening.Memory = there
 
-untold_foreign : (found : Result Bool TableError) → EndsUntold (foreign_end found)
-untold_foreign (Ok true) = tt
-untold_foreign (Ok false) = tt
-untold_foreign (Err tables.BadStore) = tt
-untold_foreign (Err tables.Memory) = tt
-untold_foreign (Err tables.StoreFault) = tt
+  untold_foreign : (found : Result Bool TableError) → EndsUntold layout i (foreign_end found)
+  untold_foreign (Ok true) = there
+  untold_foreign (Ok false) = there
+  untold_foreign (Err tables.BadStore) = there
+  untold_foreign (Err tables.Memory) = there
+  untold_foreign (Err tables.StoreFault) = there
 
-untold_unloaded : (e : KeeperError) → EndsUntold (unloaded_end e)
-untold_unloaded keeping.Memory = tt
-untold_unloaded keeping.StoreFault = tt
+  untold_unloaded : (e : KeeperError) → EndsUntold layout i (unloaded_end e)
+  untold_unloaded keeping.Memory = there
+  untold_unloaded keeping.StoreFault = there
 
-untold_unfit : (e : RestoreError) → EndsUntold (unfit_end e)
-untold_unfit restoring.BadSite = refl
-untold_unfit restoring.WrongCounters = tt
-untold_unfit restoring.WrongSessions = tt
-untold_unfit restoring.Memory = tt
+  -- a durable part begins no site, though the layout has it
+  untold_unfit : (d : DurableState) (e : RestoreError) → IsRestored layout i d (Err e) → EndsUntold layout i (unfit_end e)
+  untold_unfit d restoring.BadSite none = absurd (none there)
+  untold_unfit d restoring.WrongCounters unfit = there
+  untold_unfit d restoring.WrongSessions unfit = there
+  untold_unfit d restoring.Memory unfit = there
 
--- an end that is one of these
-is_untold : (e f : ServiceEnd) → e ≡ f → EndsUntold f → EndsUntold e
-is_untold e f is untold = subst EndsUntold (sym is) untold
+  -- an end that is one of these
+  is_untold : (e f : ServiceEnd) → e ≡ f → EndsUntold layout i f → EndsUntold layout i e
+  is_untold e f is untold = subst (λ (x : ServiceEnd). EndsUntold layout i x) (sym is) untold
 
-module _ {S : Type 0} (g : Device S) (i : ℕ) (left after : Held S) (ended : ServiceEnd) where
-  untold_refused : (e : ServedError) → EndsRefused g i e left after ended → EndsUntold ended
-  untold_refused opening.WrongGroup ends = let foreign = ends.foreign refl in is_untold ended (foreign_end foreign.found) foreign.is_ended (untold_foreign foreign.found)
-  untold_refused opening.NotAStore ends = is_untold ended _ (ends.other (λ is. cc)).0 (untold_store opening.NotAStore)
-  untold_refused opening.NoStore ends = is_untold ended _ (ends.other (λ is. cc)).0 (untold_store opening.NoStore)
-  untold_refused opening.Exists ends = is_untold ended _ (ends.other (λ is. cc)).0 (untold_store opening.Exists)
-  untold_refused opening.BadStore ends = is_untold ended _ (ends.other (λ is. cc)).0 (untold_store opening.BadStore)
-  untold_refused opening.WrongSite ends = is_untold ended _ (ends.other (λ is. cc)).0 (untold_store opening.WrongSite)
-  untold_refused opening.Outdated ends = is_untold ended _ (ends.other (λ is. cc)).0 (untold_store opening.Outdated)
-  untold_refused opening.WrongLayout ends = is_untold ended _ (ends.other (λ is. cc)).0 (untold_store opening.WrongLayout)
-  untold_refused opening.StoreFault ends = is_untold ended _ (ends.other (λ is. cc)).0 (untold_store opening.StoreFault)
-  untold_refused opening.Memory ends = is_untold ended _ (ends.other (λ is. cc)).0 (untold_store opening.Memory)
+  untold_refused : {S : Type 0} (g : Device S) (left after : Held S) (ended : ServiceEnd) (e : ServedError) → EndsRefused g i e left after ended → EndsUntold layout i ended
+  untold_refused g left after ended opening.WrongGroup ends =
+      let foreign = ends.foreign refl in is_untold ended (foreign_end foreign.found) foreign.is_ended (untold_foreign foreign.found)
+  untold_refused g left after ended opening.NotAStore ends = is_untold ended _ (ends.other (λ is. cc)).0 (untold_store opening.NotAStore)
+  untold_refused g left after ended opening.NoStore ends = is_untold ended _ (ends.other (λ is. cc)).0 (untold_store opening.NoStore)
+  untold_refused g left after ended opening.Exists ends = is_untold ended _ (ends.other (λ is. cc)).0 (untold_store opening.Exists)
+  untold_refused g left after ended opening.BadStore ends = is_untold ended _ (ends.other (λ is. cc)).0 (untold_store opening.BadStore)
+  untold_refused g left after ended opening.WrongSite ends = is_untold ended _ (ends.other (λ is. cc)).0 (untold_store opening.WrongSite)
+  untold_refused g left after ended opening.Outdated ends = is_untold ended _ (ends.other (λ is. cc)).0 (untold_store opening.Outdated)
+  untold_refused g left after ended opening.WrongLayout ends = is_untold ended _ (ends.other (λ is. cc)).0 (untold_store opening.WrongLayout)
+  untold_refused g left after ended opening.StoreFault ends = is_untold ended _ (ends.other (λ is. cc)).0 (untold_store opening.StoreFault)
+  untold_refused g left after ended opening.Memory ends = is_untold ended _ (ends.other (λ is. cc)).0 (untold_store opening.Memory)
 
-untold_why : {S : Type 0} {g : Device S} (layout : LayoutState) (i : ℕ) (k m : SqlKeeper S g) (ended : ServiceEnd) → TellsNone layout i k m ended → EndsUntold ended
-untold_why layout i k m ended (inl loads) = is_untold ended _ loads.is_ended (untold_unloaded loads.error)
-untold_why layout i k m ended (inr begins) = is_untold ended _ begins.is_ended (untold_unfit begins.error)
+  untold_why : {S : Type 0} {g : Device S} (k m : SqlKeeper S g) (ended : ServiceEnd) → TellsNone layout i k m ended → EndsUntold layout i ended
+  untold_why k m ended (inl loads) = is_untold ended _ loads.is_ended (untold_unloaded loads.error)
+  untold_why k m ended (inr begins) = is_untold ended _ begins.is_ended (untold_unfit begins.first begins.error begins.unfit)
 
-pub untold_move : {S : Type 0} (g : Device S) (layout : LayoutState) (i : ℕ) (group : List ℕ) (c after : Held S) (ended : ServiceEnd)
-    → IsNotMoved g layout i group c after ended → EndsUntold ended
-untold_move g layout i group c after ended (inl (same, inl (bad, is))) = is_untold ended _ is tt
-untold_move g layout i group c after ended (inl (same, inr (inl (none, is)))) = is_untold ended _ is tt
-untold_move g layout i group c after ended (inl (same, inr (inr is))) = is_untold ended _ is tt
-untold_move g layout i group c after ended (inr (inl refuses)) = untold_refused g i refuses.left after ended refuses.error refuses.ends
-untold_move g layout i group c after ended (inr (inr found)) = untold_why layout i found.keeper found.left ended found.moves_not.why
+  pub untold_move : {S : Type 0} (g : Device S) (group : List ℕ) (c after : Held S) (ended : ServiceEnd)
+      → IsNotMoved g layout i group c after ended → EndsUntold layout i ended
+  untold_move g group c after ended (inl (same, inl (bad, is))) = is_untold ended _ is there
+  untold_move g group c after ended (inl (same, inr (inl (none, is)))) = is_untold ended _ is there
+  untold_move g group c after ended (inl (same, inr (inr is))) = is_untold ended _ is there
+  untold_move g group c after ended (inr (inl refuses)) = untold_refused g refuses.left after ended refuses.error refuses.ends
+  untold_move g group c after ended (inr (inr found)) = untold_why found.keeper found.left ended found.moves_not.why
+
+  pub untold_unmoved : {D : Type 0} (d : disk.Ghosts D) (group : List ℕ) (image : Image) (ended : ServiceEnd) → EndsUnmoved d layout i group image ended → EndsUntold layout i ended
+  untold_unmoved d group image ended (inl unopened) = untold_unopened false ended unopened
+  untold_unmoved d group image ended (inr found) = untold_move over_files group found.c found.after ended found.unmoved
+
+  -- the same of a site that was built again
+  unmade_unopened : (create : Bool) (e : ServiceEnd) → IsUnopened create e → EndsUnmade layout i e
+  unmade_unopened create (Ended Memory) is = tt
+  unmade_unopened create (Ended (NoStore refusal)) is = there
+  unmade_unopened create (Absent a) is = there
+  unmade_unopened create LogIsStore is = absurd is
+  unmade_unopened create (Ended Done) is = absurd is
+  unmade_unopened create (Ended Usage) is = absurd is
+  unmade_unopened create (Ended (NoLayout fault)) is = absurd is
+  unmade_unopened create (Ended Fault) is = absurd is
+  unmade_unopened create (Ended Refused) is = absurd is
+  unmade_unopened create (Ended Io) is = absurd is
+  unmade_unopened create (NoLog refusal) is = absurd is
+  unmade_unopened create Unlogged is = absurd is
+  unmade_unopened create Outdated is = absurd is
+
+  unmade_store : (e : ServedError) → EndsUnmade layout i (refused_store e)
+  unmade_store opening.NotAStore = there
+  unmade_store opening.NoStore = there
+  unmade_store opening.Exists = there
+  unmade_store opening.BadStore = there
+  unmade_store opening.WrongSite = there
+  unmade_store opening.WrongGroup = there
+  unmade_store opening.Outdated = there
+  unmade_store opening.WrongLayout = there
+  unmade_store opening.StoreFault = there
+  unmade_store opening.Memory = tt
 
 module _ {D : Type 0} (d : disk.Ghosts D) (layout : LayoutState) (i : ℕ) (group : List ℕ) (image : Image) where
   pub moves_some : (text : List ℕ) → FindsMoved d layout i group image text → MovesSome layout i group text
@@ -112,15 +145,22 @@ module _ {D : Type 0} (d : disk.Ghosts D) (layout : LayoutState) (i : ℕ) (grou
       let tells = has.moves.tells in
       record { name = has.name; is_next = has.is_next; first = tells.first; cells = tells.cells; sessions = tells.sessions; is_text = tells.is_text }
 
-  pub untold_unmoved : (ended : ServiceEnd) → EndsUnmoved d layout i group image ended → EndsUntold ended
-  untold_unmoved ended (inl unserved) = untold_unserved ended unserved
-  untold_unmoved ended (inr found) = untold_move over_files layout i group found.c found.after ended found.unmoved
+module _ (layout : LayoutState) (i : ℕ) (lost name bytes : List ℕ) where
+  -- a site that was built again is one of the layout
+  pub built_there : (core : Core) (cells : List DurableCell) (text : List ℕ) → IsBuiltOf layout i lost name bytes core cells text → i < layout.sites
+  built_there core cells text built = built.rebuilt.0.there
 
-module _ {D : Type 0} (d : disk.Ghosts D) (layout : LayoutState) (i : ℕ) (lost name bytes : List ℕ) (image : Image) where
-  pub rebuilds_some : (text : List ℕ) → FindsRebuilt d layout i lost name bytes image text → RebuildsSome layout i lost name bytes text
-  rebuilds_some text found = record { core = found.core; cells = found.cells; built = found.built }
+  pub unmade_over : {S : Type 0} (g : Device S) (core : Core) (cells : List DurableCell) (text : List ℕ) (c after : Held S) (ended : ServiceEnd)
+      → IsBuiltOf layout i lost name bytes core cells text → HasNotMadeAnew g core.layout i name cells c after ended → EndsUnmade layout i ended
+  unmade_over g core cells text c after ended built refused =
+      subst (λ (e : ServiceEnd). EndsUnmade layout i e) (sym refused.is_ended) (unmade_store layout i (built_there core cells text built) refused.error)
 
-  pub rebuilds_none : (ended : RebuildEnd) → EndsNotRebuilt d layout i lost name bytes image ended → RebuildsNone layout i lost name bytes ended
-  rebuilds_none (rebuilding.Unbuilt stop) is = is
-  rebuilds_none (rebuilding.Ended ended) (inl unserved) = untold_unserved ended unserved
-  rebuilds_none (rebuilding.Ended ended) (inr found) = is_untold ended _ found.refused.is_ended (untold_store found.refused.error)
+  pub rebuilds_some : {D : Type 0} (d : disk.Ghosts D) (image : Image) (text : List ℕ) → FindsRebuilt d layout i lost name bytes image text → RebuildsSome layout i lost name bytes text
+  rebuilds_some d image text found = record { core = found.core; cells = found.cells; built = found.built }
+
+  pub rebuilds_none : {D : Type 0} (d : disk.Ghosts D) (image : Image) (ended : RebuildEnd) → EndsNotRebuilt d layout i lost name bytes image ended → RebuildsNone layout i lost name bytes ended
+  rebuilds_none d image (rebuilding.Unbuilt stop) is = is
+  rebuilds_none d image (rebuilding.Ended ended) (inl none) =
+      unmade_unopened layout i (built_there none.core none.cells none.text none.built) true ended none.unopened
+  rebuilds_none d image (rebuilding.Ended ended) (inr found) =
+      unmade_over over_files found.core found.cells found.text found.c found.after ended found.built found.refused

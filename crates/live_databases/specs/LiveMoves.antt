@@ -1,6 +1,6 @@
 -- What the program does with a move of the store at a path, and with a rebuild (the project's own). Which files stand at a path,
 -- and what they hold, no contract can say.
-use Rattle.std.specs.Prelude.{◌≡◌, ℕ, List, Some}
+use Rattle.std.specs.Prelude.{◌≡◌, ℕ, ◌<◌, List, Some}
 use Rattle.merge_core.specs.Layout.{LayoutState}
 use Rattle.admission_model.specs.declared.durable.DurableCell.{DurableCell}
 use Rattle.admission_model.specs.Restoring.{AreCells, AreSessions}
@@ -25,15 +25,22 @@ pub record MovesSome (layout : LayoutState) (i : ℕ) (group text : List ℕ) : 
   pub sessions : AreSessions layout i first.cells first.sessions
   pub is_text : text ≡ whole_text layout i name first
 
--- No text is given: the store is refused, or its file; the layout has no such site; or memory ran out. After a fault of the device
--- the store may have moved, or be made.
-abbrev pub EndsUntold : ServiceEnd → Type 0
-EndsUntold (ends.Ended Memory) = Unit {0}
-EndsUntold (ends.Ended (NoStore refusal)) = Unit {0}
-EndsUntold (ends.Ended (NoLayout fault)) = fault ≡ NoSite
-EndsUntold (ends.Absent absence) = Unit {0}
-EndsUntold ends.LogIsStore = Unit {0}
-EndsUntold ended = ⊥
+-- No text is given: the layout has no such site; or it has one, and the store is refused, or its file, or memory ran out. After a
+-- fault of the device the store may have moved.
+abbrev pub EndsUntold : LayoutState → ℕ → ServiceEnd → Type 0
+EndsUntold layout i (ends.Ended (NoLayout fault)) = (fault ≡ NoSite) × (¬ (i < layout.sites))
+EndsUntold layout i (ends.Ended Memory) = i < layout.sites
+EndsUntold layout i (ends.Ended (NoStore refusal)) = i < layout.sites
+EndsUntold layout i (ends.Absent absence) = i < layout.sites
+EndsUntold layout i ended = ⊥
+
+-- No store is made of a site that was built again: the store is refused, or its file, or memory ran out. After a fault of the device
+-- it may be made.
+abbrev pub EndsUnmade : LayoutState → ℕ → ServiceEnd → Type 0
+EndsUnmade layout i (ends.Ended Memory) = Unit {0}
+EndsUnmade layout i (ends.Ended (NoStore refusal)) = i < layout.sites
+EndsUnmade layout i (ends.Absent absence) = i < layout.sites
+EndsUnmade layout i ended = ⊥
 
 -- a site was built again of the lines of the bytes, its store made, and the text shows it
 pub record RebuildsSome (layout : LayoutState) (i : ℕ) (lost name bytes text : List ℕ) : Type 0 where
@@ -44,4 +51,4 @@ pub record RebuildsSome (layout : LayoutState) (i : ℕ) (lost name bytes text :
 -- none was, or its store was not made
 abbrev pub RebuildsNone : LayoutState → ℕ → List ℕ → List ℕ → List ℕ → RebuildEnd → Type 0
 RebuildsNone layout i lost name bytes (Unbuilt stop) = IsUnbuilt layout i lost name bytes stop
-RebuildsNone layout i lost name bytes (Ended ended) = EndsUntold ended
+RebuildsNone layout i lost name bytes (Ended ended) = EndsUnmade layout i ended

@@ -1,5 +1,5 @@
 -- What is done with a service over a database.
-use Rattle.std.specs.Prelude.{◌≡◌, ℕ, ◌⊎◌, Bool, false, List, Option, Ok, Err}
+use Rattle.std.specs.Prelude.{◌≡◌, ℕ, ◌⊎◌, Bool, false, List, Option, IsSome, Ok, Err}
 use Rattle.sqlite_trees.specs.declared.store.Store.{Ghosts as Device}
 use Rattle.sqlite.specs.Held.{Held}
 use Rattle.merge_core.specs.Layout.{LayoutState}
@@ -23,6 +23,7 @@ use Rattle.exit_status.specs.declared.status.Status.{Status}
 use Rattle.exit_status.specs.declared.status.Status.TheVariants.{Memory, NoStore}
 use Rattle.exit_status.specs.declared.store_refusal.StoreRefusal.TheVariants.{StoreFault}
 use Rattle.serve_engine.specs.Ending.{EndsServing}
+use Rattle.live_databases.specs.declared.service_end.Absence.TheVariants as absence
 use Rattle.live_databases.specs.declared.service_end.ServiceEnd.{ServiceEnd}
 use Rattle.live_databases.specs.declared.service_end.ServiceEnd.TheVariants.{Ended, Absent, NoLog, LogIsStore, Unlogged}
 use Rattle.live_databases.specs.Endings.{refused_store}
@@ -56,13 +57,20 @@ module _ {S C L : Type 0} (g : Device S) where
       ServesOpened k t h layout s c after talk talk_after log log_after ended
       ⊎ RefusesStore layout s c after talk talk_after log log_after ended
 
--- No database was opened: it is not served, it failed, or memory ran out.
-abbrev pub IsUnserved : ServiceEnd → Type 0
-IsUnserved (Ended Memory) = Unit {0}
-IsUnserved (Ended (NoStore StoreFault)) = Unit {0}
-IsUnserved (Absent absence) = Unit {0}
-IsUnserved LogIsStore = Unit {0}
-IsUnserved ended = ⊥
+-- No file was opened: none is there, and none was to be made; its folder is missing; another process has it open; it is no
+-- database; it failed, or memory ran out.
+abbrev pub IsUnopened : Bool → ServiceEnd → Type 0
+IsUnopened create (Ended Memory) = Unit {0}
+IsUnopened create (Ended (NoStore StoreFault)) = Unit {0}
+IsUnopened create (Absent absence.NoStore) = create ≡ false
+IsUnopened create (Absent absence.NoFolder) = Unit {0}
+IsUnopened create (Absent absence.InUse) = Unit {0}
+IsUnopened create (Absent absence.NotAStore) = Unit {0}
+IsUnopened create ended = ⊥
+
+-- .. or the file that is named for the log is the store itself
+abbrev pub IsUnserved : Option (List ℕ) → Bool → ServiceEnd → Type 0
+IsUnserved log create ended = IsUnopened create ended ⊎ (IsSome log × (ended ≡ LogIsStore))
 
 -- how a service ends whose store gives nothing back
 abbrev pub unloaded_end : KeeperError → ServiceEnd

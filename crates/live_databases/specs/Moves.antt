@@ -28,7 +28,7 @@ use Rattle.exit_status.specs.declared.store_refusal.StoreRefusal.TheVariants.{Wr
 use Rattle.store_rows.specs.Rows.{Stored}
 use Rattle.store_rows.specs.Holding.{Keeps, KeepsBeside, KeepsEither}
 use Rattle.store_tables.specs.Transacts.{with_site}
-use Rattle.store_content.specs.Content.{durable_in}
+use Rattle.site_store.specs.Content.{durable_in}
 use Rattle.store_tables.specs.declared.error.TableError.{TableError}
 use Rattle.serve_engine.specs.declared.marks.Marking.TheVariants.{Marked}
 use Rattle.serve_engine.specs.Moved.{moved_text}
@@ -45,7 +45,7 @@ use Rattle.live_databases.specs.declared.service_end.ServiceEnd.TheVariants.{Abs
 use Rattle.live_databases.specs.Services.{Served}
 use Rattle.live_databases.specs.ServedStores.{OpensServed}
 use Rattle.live_databases.specs.Endings.{refused_store}
-use Rattle.live_databases.specs.LiveStores.{IsUnserved, unloaded_end}
+use Rattle.live_databases.specs.LiveStores.{IsUnopened, unloaded_end}
 use Rattle.live_databases.specs.LiveFound.{FindsFiles}
 
 -- the opening for a move: the site of the group, whose store is there and as wide as the layout
@@ -194,4 +194,4 @@ module _ {D : Type 0} (d : disk.Ghosts D) where
 
   -- .. or no file was opened
   abbrev pub EndsUnmoved : LayoutState → ℕ → List ℕ → Image → ServiceEnd → Type 0
-  EndsUnmoved layout i group image ended = IsUnserved ended ⊎ FindsUnmoved layout i group image ended
+  EndsUnmoved layout i group image ended = IsUnopened false ended ⊎ FindsUnmoved layout i group image ended

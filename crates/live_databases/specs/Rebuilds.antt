@@ -1,5 +1,5 @@
 -- A site that lost its store is built again, and its store made (the project's own).
-use Rattle.std.specs.Prelude.{◌≡◌, ◌≢◌, ◌⊎◌, ℕ, List, Some}
+use Rattle.std.specs.Prelude.{◌≡◌, ◌≢◌, ◌⊎◌, ℕ, true, List, Some}
 use Rattle.sqlite_disk.specs.declared.Disk as disk
 use Rattle.sqlite_wal.specs.Recovery.{Image}
 use Rattle.sqlite_store.specs.declared.store.FileStore.{FileStore}
@@ -23,7 +23,7 @@ use Rattle.live_databases.specs.declared.rebuilding.RebuildEnd.TheVariants.{Ende
 use Rattle.live_databases.specs.declared.service_end.ServiceEnd.{ServiceEnd}
 use Rattle.live_databases.specs.Endings.{refused_store}
 use Rattle.live_databases.specs.LiveFound.{FindsFiles}
-use Rattle.live_databases.specs.LiveStores.{IsUnserved}
+use Rattle.live_databases.specs.LiveStores.{IsUnopened}
 
 module _ {S : Type 0} (g : Device S) where
   -- Where nothing was kept the store of a site of the group was made, with these counters. None was made where anything was there.
@@ -42,6 +42,14 @@ module _ {S : Type 0} (g : Device S) where
     pub left : KeepsNothing g c → IsLeftNew g layout i (Some name) cells after error
     pub cause : HasCleanDisk (state g after) → IsDenied to_make (state g c).now.schema error
     pub judged : error ≢ StoreFault → error ≢ Memory → CommitsNothing g c after
+
+-- the site was built again of the lines of the bytes, and no file could be opened for its store
+pub record FindsNoFile (layout : LayoutState) (i : ℕ) (lost name bytes : List ℕ) (ended : ServiceEnd) : Type 0 where
+  pub core : Core
+  pub cells : List DurableCell
+  pub text : List ℕ
+  pub built : IsBuiltOf layout i lost name bytes core cells text
+  pub unopened : IsUnopened true ended
 
 module _ {D : Type 0} (d : disk.Ghosts D) where
   -- The site was built again of the lines of the bytes, and its store made over files that held this; the text shows the site.
@@ -69,4 +77,4 @@ module _ {D : Type 0} (d : disk.Ghosts D) where
   -- opened; or the store was refused
   abbrev pub EndsNotRebuilt : LayoutState → ℕ → List ℕ → List ℕ → List ℕ → Image → RebuildEnd → Type 0
   EndsNotRebuilt layout i lost name bytes image (Unbuilt stop) = IsUnbuilt layout i lost name bytes stop
-  EndsNotRebuilt layout i lost name bytes image (Ended ended) = IsUnserved ended ⊎ FindsRefused layout i lost name bytes image ended
+  EndsNotRebuilt layout i lost name bytes image (Ended ended) = FindsNoFile layout i lost name bytes ended ⊎ FindsRefused layout i lost name bytes image ended

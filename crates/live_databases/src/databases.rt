@@ -1,10 +1,10 @@
 //! The database at a path, of a runtime that has some.
-ghost use Rattle.std.specs.Prelude.{◌≡◌, ◌<◌, true, false, string_bytes, IfErr, IfOk, MatchResult, option_copied};
+ghost use Rattle.std.specs.Prelude.{◌≡◌, ◌<◌, Bool, true, false, string_bytes, IfErr, IfOk, MatchResult, option_copied, option_map};
 ghost use Rattle.sqlite_wal.specs.Files.{image_at};
 ghost use Rattle.live_databases.specs.LiveDatabases.{EndsLive};
 ghost use Rattle.live_databases.specs.LiveFound.{EndsFound, FindsFiles, RunsOver};
 ghost use Rattle.live_databases.specs.LiveMoves.{EndsUntold, MovesSome, RebuildsNone, RebuildsSome};
-ghost use Rattle.live_databases.specs.LiveStores.{IsUnserved};
+ghost use Rattle.live_databases.specs.LiveStores.{IsUnopened};
 ghost use Rattle.live_databases.specs.Services.{served_by};
 ghost use Rattle.live_databases.specs.Endings.{is_unlogged, unopened_end};
 
@@ -49,7 +49,7 @@ pub trait LiveDatabases {
         conversation: &mut C,
     ) -> ServiceEnd
         requires { opening.service.site < layout.sites }
-        ensures { EndsLive C.Conversation layout opening.entry.service.site (option_copied opening.entry.service.group) opening.entry.service.marking
+        ensures { EndsLive C.Conversation layout opening.entry.service.site (option_copied opening.entry.service.group) opening.entry.service.marking (option_map (λ path. path.now) opening.entry.log)
             conversation.old conversation.new result };
 
     /// Moves the store of a site of the layout at a path to the next generation of its group, and gives the text to print: the
@@ -62,7 +62,7 @@ pub trait LiveDatabases {
         group: &str,
     ) -> Result<String, ServiceEnd>
         requires { site < layout.sites }
-        ensures { MatchResult result (λ text. MovesSome layout site group.now (string_bytes text)) EndsUntold };
+        ensures { MatchResult result (λ text. MovesSome layout site group.now (string_bytes text)) (EndsUntold layout site) };
 
     /// Builds a site of the group of this name again, which lost its store with these others, of the bytes of an input, makes
     /// its store at a path where none is, and gives what is printed of the site.
@@ -133,7 +133,8 @@ impl Beginning for Unknown {
 ///
 /// At the end the log beside the file is copied into it; where that fails, the next opening reads it there. A store that this
 /// call made and then did not serve, as its log is refused, is removed before the database is closed, so that the same
-/// command can be repeated and no other process has used it meanwhile.
+/// command can be repeated and no other process has used it meanwhile. Where another file stands at the path by then, that
+/// one stays, and nothing is removed; only a file that comes there in the very moment of the removal is lost.
 pub fn serve_found<S: Beginning, C: Conversation>(
     rt: &HostRuntime,
     opening: Opening<'_>,
@@ -141,14 +142,16 @@ pub fn serve_found<S: Beginning, C: Conversation>(
     conversation: &mut C,
 ) -> ServiceEnd
     requires { opening.service.site < layout.sites }
-    ensures live { EndsLive C.Conversation layout opening.entry.service.site (option_copied opening.entry.service.group) opening.entry.service.marking
+    ensures live { EndsLive C.Conversation layout opening.entry.service.site (option_copied opening.entry.service.group) opening.entry.service.marking (option_map (λ path. path.now) opening.entry.log)
         conversation.old conversation.new result }
     ensures found { EndsFound ⟦<SqlKeeper<FileStore<FileFrom<S>>> as Keeper>⟧ ⟦<std::fs::File as ExclusiveFile>⟧ ⟦<std::fs::File as Read>⟧.remaining ⟦<std::fs::File as Write>⟧.contents C.Conversation
         ⟦<NoLog as CallLog>⟧ ⟦<FileLog<SystemFile<std::fs::File>> as CallLog>⟧ layout (served_by opening.entry.service)
-        (image_at S.Start) conversation.old conversation.new result }
+        (option_map (λ path. path.now) opening.entry.log) (image_at S.Start) conversation.old conversation.new result }
 {
-    if opening.log == Some(opening.path) {
-        return ServiceEnd::LogIsStore;
+    if let Some(log) = opening.log {
+        if log == opening.path {
+            return ServiceEnd::LogIsStore;
+        }
     }
     let (connection, place) = match open_in_time::<S>(rt, opening) {
         Ok(opened) => opened,
@@ -168,7 +171,7 @@ pub fn serve_found<S: Beginning, C: Conversation>(
         &store,
     );
     if made && is_unlogged(ended) {
-        remove_made(rt, opening.path, &connection, made, ended);
+        remove_made(&store, &connection, made, ended);
     }
     let _ = connection.close(); // what was answered is in the log, if not in the file
     ended
@@ -187,7 +190,7 @@ fn serve_open<S: Beginning, C: Conversation>(
     requires idle { connection.in_transaction ≡ false }
     ensures { RunsOver ⟦<SqlKeeper<FileStore<FileFrom<S>>> as Keeper>⟧ ⟦<std::fs::File as ExclusiveFile>⟧ ⟦<std::fs::File as Read>⟧.remaining ⟦<std::fs::File as Write>⟧.contents C.Conversation
         ⟦<NoLog as CallLog>⟧ ⟦<FileLog<SystemFile<std::fs::File>> as CallLog>⟧ layout (served_by opening.entry.service)
-        connection result.2 conversation.old conversation.new result.1 result.0 }
+        (option_map (λ path. path.now) opening.entry.log) connection result.2 conversation.old conversation.new result.1 result.0 }
 {
     let Some(log) = opening.log else {
         let (ended, connection) = serve_live_over(
@@ -217,11 +220,11 @@ fn serve_open<S: Beginning, C: Conversation>(
     )
 }
 
-// Removes the store that this start made, where nothing was served for want of a log that can be used. No other store is
-// ever removed, and none that another process can have used: it is still locked, as the open connection shows.
+// Removes the store that this start made, where nothing was served for want of a log that can be used. No process can have used
+// it: it is still locked, as the open connection shows. Another file at its path stays, unless it comes there between the look
+// and the removal.
 fn remove_made<S: Beginning>(
-    rt: &HostRuntime,
-    path: &str,
+    store: &StoreFile<'_>,
     _locked: &Connection<FileStore<FileFrom<S>>>,
     made: bool,
     ended: ServiceEnd,
@@ -230,7 +233,9 @@ fn remove_made<S: Beginning>(
     requires unlogged { is_unlogged ended ≡ true }
 {
     let _ = (made, ended);
-    let _ = fs::remove_file(rt, path);
+    if is_at(store.rt, store.path, store.place) {
+        let _ = fs::remove_file(store.rt, store.path);
+    }
 }
 
 // Whether nothing was served, for want of a log that can be used.
@@ -250,7 +255,7 @@ fn open_in_time<S: Beginning>(
 ) -> Result<(Connection<FileStore<FileFrom<S>>>, Place), ServiceEnd>
     ensures opened { IfOk result (λ x. FindsFiles (image_at S.Start) x.0) }
     ensures idle { IfOk result (λ x. x.0.in_transaction ≡ false) }
-    ensures unserved { IfErr result IsUnserved }
+    ensures unopened { IfErr result (IsUnopened opening.entry.service.permission.create) }
 {
     let create = opening.service.permission.create;
     for _ in 0..u64::from(opening.wait) * 100 {
@@ -274,7 +279,7 @@ pub(crate) fn open_once<S: Beginning>(
 ) -> Result<(Connection<FileStore<FileFrom<S>>>, Place), ServiceEnd>
     ensures opened { IfOk result (λ x. FindsFiles (image_at S.Start) x.0) }
     ensures idle { IfOk result (λ x. x.0.in_transaction ≡ false) }
-    ensures unserved { IfErr result IsUnserved }
+    ensures unopened { IfErr result (IsUnopened create) }
 {
     let place = match find_file(rt, path, create) {
         Ok(place) => place,
@@ -293,7 +298,7 @@ pub(crate) fn open_once<S: Beginning>(
 
 // How a service ends whose database could not be opened.
 fn unopened(error: Error) -> ServiceEnd
-    ensures unserved { IsUnserved result }
+    ensures unopened { (create : Bool) → IsUnopened create result }
     ensures ended { result ≡ unopened_end error }
 {
     match error {
@@ -312,7 +317,7 @@ pub fn move_live<R: LiveDatabases>(
     site: u16,
     group: &str,
 ) -> Result<String, ServiceEnd>
-    ensures { MatchResult result (λ text. MovesSome layout site group.now (string_bytes text)) EndsUntold }
+    ensures { MatchResult result (λ text. MovesSome layout site group.now (string_bytes text)) (EndsUntold layout site) }
 {
     if site >= layout.sites() {
         return Err(ServiceEnd::Ended(Status::NoLayout(LayoutFault::NoSite)));
@@ -327,7 +332,7 @@ pub fn serve_live<R: LiveDatabases, C: Conversation>(
     layout: Layout,
     conversation: &mut C,
 ) -> ServiceEnd
-    ensures { EndsLive C.Conversation layout opening.entry.service.site (option_copied opening.entry.service.group) opening.entry.service.marking
+    ensures { EndsLive C.Conversation layout opening.entry.service.site (option_copied opening.entry.service.group) opening.entry.service.marking (option_map (λ path. path.now) opening.entry.log)
         conversation.old conversation.new result }
 {
     if opening.service.site >= layout.sites() {

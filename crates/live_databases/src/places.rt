@@ -1,6 +1,8 @@
 //! Which files stand at paths, by their device and number. No contract can say what is at a path.
-ghost use Rattle.std.specs.Prelude.{◌≡◌, IfErr};
-ghost use Rattle.live_databases.specs.LiveStores.{IsUnserved};
+ghost use Rattle.std.specs.Prelude.{◌≡◌, Bool, IfErr};
+ghost use Rattle.exit_status.specs.declared.status.Status.TheVariants.{Memory as NoRoom};
+ghost use Rattle.live_databases.specs.LiveStores.{IsUnopened};
+ghost use Rattle.live_databases.specs.declared.service_end.ServiceEnd.TheVariants.{Ended};
 
 use crate::service_end::{Absence, ServiceEnd};
 use exit_status::{Status, StoreRefusal};
@@ -30,7 +32,7 @@ fn place_of(found: &Metadata) -> Place {
 /// The file at a path, or where a link at it leads. An empty one is made where none is there and a store is to be made;
 /// else the service ends, which the end tells.
 pub(crate) fn find_file(rt: &HostRuntime, path: &str, create: bool) -> Result<Place, ServiceEnd>
-    ensures { IfErr result IsUnserved }
+    ensures { IfErr result (IsUnopened create) }
 {
     match fs::metadata(rt, path) {
         Ok(found) => return Ok(place_of(&found)),
@@ -64,7 +66,7 @@ fn make_file(rt: &HostRuntime, path: &str) -> Result<(), Error> {
 
 // How a service ends where a file can't be looked at.
 fn unreadable(error: &Error) -> ServiceEnd
-    ensures { IsUnserved result }
+    ensures { (create : Bool) → IsUnopened create result }
 {
     if error.kind() == ErrorKind::OutOfMemory {
         return ServiceEnd::Ended(Status::Memory);
@@ -74,7 +76,7 @@ fn unreadable(error: &Error) -> ServiceEnd
 
 // Whether the folder of a path is there.
 fn is_folder_there(rt: &HostRuntime, path: &str) -> Result<bool, ServiceEnd>
-    ensures { IfErr result IsUnserved }
+    ensures { IfErr result (λ ended. ended ≡ Ended NoRoom) }
 {
     let Ok(mut folder) = PathBuf::from_str(rt.alloc(), path) else {
         return Err(ServiceEnd::Ended(Status::Memory));

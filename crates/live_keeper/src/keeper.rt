@@ -1,6 +1,6 @@
 //! A keeper with a mark, as its users see it.
 ghost use Rattle.std.specs.Prelude.{◌≡◌, ◌≢◌, Err, OnOk};
-ghost use Rattle.admission_core.specs.Kept.{DurableState};
+ghost use Rattle.durable_keeper.specs.Kept.{DurableState};
 ghost use Rattle.durable_keeper.specs.declared.error.KeeperError.TheVariants.{StoreFault};
 
 use durable_keeper::{Keeper, KeeperError, MemoryKeeper};

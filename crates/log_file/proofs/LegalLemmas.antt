@@ -14,7 +14,7 @@ use Rattle.transcript_reader.proofs.ReadingLemmas.{length_below, transcript_at}
 use Rattle.log_judge.specs.declared.verdict.Verdict.{Verdict}
 use Rattle.log_judge.specs.declared.verdict.Verdict.TheVariants.{Consistent}
 use Rattle.log_judge.specs.Cut.{no_transcript, runs_at}
-use Rattle.log_replay.specs.Legal.{start_account, AreLegal}
+use Rattle.log_judge.specs.Legal.{start_account, AreLegal}
 use Rattle.log_judge.specs.Verdict.{AreOfSites, IsCut, IsLegalSite, IsVerdict}
 use Rattle.log_judge.proofs.UniqueLemmas.{one_verdict}
 use Rattle.log_file.specs.Runs.{Fits, IsOnlyOf, with_new}

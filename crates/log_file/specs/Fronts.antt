@@ -5,7 +5,7 @@ use Rattle.text_input.specs.Lines.{HasNoLf}
 use Rattle.desk_log.specs.declared.transcript.Run.{Run}
 use Rattle.transcript_reader.specs.declared.openings.Opening.{Opening}
 use Rattle.transcript_reader.specs.Reading.{BeginsRun}
-use Rattle.log_replay.specs.Legal.{start_account, AreLegal}
+use Rattle.log_judge.specs.Legal.{start_account, AreLegal}
 
 -- the run that begins so, without an entry yet
 abbrev pub bare_run : Opening → Run

@@ -8,7 +8,7 @@ use Rattle.desk_log.specs.declared.entry.Entry.{Entry}
 use Rattle.desk_log.specs.declared.transcript.Run.{Run}
 use Rattle.desk_log.specs.declared.transcript.Transcript.{Transcript}
 use Rattle.log_judge.specs.Cut.{runs_at}
-use Rattle.log_replay.specs.Legal.{start_account, AreLegal}
+use Rattle.log_judge.specs.Legal.{start_account, AreLegal}
 use Rattle.transcript_text.specs.Texts.{MayBegin}
 
 -- no other site than i has a run

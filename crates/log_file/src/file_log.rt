@@ -99,7 +99,7 @@ fn write_line(
 }
 
 impl<F: LogFile> CallLog for FileLog<F> {
-    ghost use Rattle.std.specs.Prelude.{List, [], ◌∷◌, ◌++◌, true, OnOk, Err};
+    ghost use Rattle.std.specs.Prelude.{List, [], ◌∷◌, ◌++◌, ◌⊎◌, true, None, OnOk, Err};
     ghost use Rattle.desk_log.specs.declared.entry.Entry.{Entry as EntryThere};
     ghost use Rattle.live_site.specs.declared.call_log.LogFault.TheVariants.{Memory as OutOfMemory, Failed};
     ghost use Rattle.log_file.specs.Logged.{HasFailed, HasLogged, LogState};
@@ -118,6 +118,8 @@ impl<F: LogFile> CallLog for FileLog<F> {
         ensures memory { (first : LogState F) (before : List EntryThere) → HasLogged F.LogFile first before self.old
             → result ≡ Err OutOfMemory → HasLogged F.LogFile first before self.new }
         ensures failed { result ≡ Err Failed → HasFailed F.LogFile self.new }
+        ensures reason { result ≡ Err Failed → (self.old.failed ≡ true) ⊎ F.has_failed self.new.file }
+        ensures last { OnOk result (self.new.last ≡ Some self.old.length) }
         ensures stays { self.old.failed ≡ true → (result ≡ Err Failed) × (self.new ≡ self.old) }
     {
         let _ = layout;
@@ -144,6 +146,7 @@ impl<F: LogFile> CallLog for FileLog<F> {
         ensures taken { (first : LogState F) (before : List EntryThere) (last : EntryThere) → HasLogged F.LogFile first (before ++ last ∷ []) self.old
             → result ≡ true → HasLogged F.LogFile first before self.new }
         ensures failed { result ≡ false → HasFailed F.LogFile self.new }
+        ensures reason { result ≡ false → (self.old.failed ≡ true) ⊎ (F.has_failed self.new.file ⊎ (self.old.last ≡ None)) }
         ensures stays { self.old.failed ≡ true → (result ≡ false) × (self.new ≡ self.old) }
     {
         if self.failed {

@@ -3,3 +3,5 @@ pub mod Verdict
 pub mod Excess
 pub mod Judging
 pub mod Table
+-- What a legal log is.
+pub use Rattle.log_replay.specs.Legal

@@ -14,7 +14,6 @@ pub mod Start
 pub mod Joined
 pub mod Kept
 pub mod Marked
-
 -- What the crates above cite of the counters that a book is made of.
 pub use Rattle.grow_counters.specs.Counts
 pub use Rattle.rights_matrix.specs.Matrix

@@ -15,7 +15,7 @@ use Rattle.rebuild_engine.specs.Refusals.{EndsStop}
 use Rattle.live_databases.specs.declared.service_end.ServiceEnd.{ServiceEnd}
 use Rattle.live_databases.specs.declared.service_end.ServiceEnd.TheVariants.{Ended}
 use Rattle.live_databases.specs.Endings.{EndsServiceWith}
-use Rattle.live_databases.specs.LiveMoves.{EndsUntold, MovesSome, RebuildsSome}
+use Rattle.live_databases.specs.LiveMoves.{EndsUnmade, EndsUntold, MovesSome, RebuildsSome}
 
 -- a text was written, or a write failed
 abbrev pub EndsWriting : List ℕ → SinkState → SinkState → ServiceEnd → Type 0
@@ -34,7 +34,7 @@ pub record TellsMove (layout : LayoutState) (i : ℕ) (group : List ℕ) (sink s
 -- what `regroup` did: that, or no text is told
 abbrev pub Regroups : LayoutState → ℕ → List ℕ → SinkState → SinkState → ServiceEnd → Type 0
 Regroups layout i group sink sink_after ended =
-    TellsMove layout i group sink sink_after ended ⊎ (EndsUntold ended × (sink_after ≡ sink))
+    TellsMove layout i group sink sink_after ended ⊎ (EndsUntold layout i ended × (sink_after ≡ sink))
 
 -- the command `regroup`
 abbrev pub EndsRegroup : LayoutState → ℕ → List ℕ → SinkState → SinkState → SinkState → SinkState → ℕ → Type 0
@@ -60,7 +60,7 @@ abbrev pub AnswersInput : LayoutState → ℕ → List ℕ → List ℕ → List
 AnswersInput layout i lost name bytes sink sink_after ended =
     ShowsRebuilt layout i lost name bytes sink sink_after ended
     ⊎ (TellsStop layout i lost name bytes sink sink_after ended
-    ⊎ (EndsUntold ended × (sink_after ≡ sink)))
+    ⊎ (EndsUnmade layout i ended × (sink_after ≡ sink)))
 
 -- how `rebuild` ends where its input was not read: it is too long, which is written; or memory or a read failed
 abbrev pub EndsUnreadInput : InputError → SinkState → SinkState → ServiceEnd → Type 0

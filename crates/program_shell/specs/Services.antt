@@ -31,11 +31,11 @@ stream_between group marking source sink = record {
 }
 
 -- `serve` answered the lines of a source into a sink
-pub record ServesLines (t : Ghosts (NotedState StreamState)) (layout : LayoutState) (i : ℕ) (group : Option Text) (marking : Marking) (source source_after : SourceState)
+pub record ServesLines (t : Ghosts (NotedState StreamState)) (layout : LayoutState) (i : ℕ) (group : Option Text) (marking : Marking) (log : Option Text) (source source_after : SourceState)
     (sink sink_after errors errors_after : SinkState) (code : ℕ) : Type 0 where
   pub after : NotedState StreamState
   pub ended : ServiceEnd
-  pub served : EndsLive t layout i group marking (stream_between group marking source sink) after ended
+  pub served : EndsLive t layout i group marking log (stream_between group marking source sink) after ended
   pub source_left : source_after ≡ after.talk.source
   pub sink_left : sink_after ≡ after.talk.sink
   pub told : EndsServiceWith (with_note ended after.outdated) errors errors_after code
@@ -47,9 +47,9 @@ pub record ServesNone (source source_after : SourceState) (sink sink_after error
   pub told : EndsWith Memory errors errors_after code
 
 -- the command `serve`
-abbrev pub EndsServe : Ghosts (NotedState StreamState) → LayoutState → ℕ → Option Text → Marking → SourceState → SourceState → SinkState → SinkState → SinkState → SinkState → ℕ → Type 0
-EndsServe t layout i group marking source source_after sink sink_after errors errors_after code =
-    ServesLines t layout i group marking source source_after sink sink_after errors errors_after code
+abbrev pub EndsServe : Ghosts (NotedState StreamState) → LayoutState → ℕ → Option Text → Marking → Option Text → SourceState → SourceState → SinkState → SinkState → SinkState → SinkState → ℕ → Type 0
+EndsServe t layout i group marking log source source_after sink sink_after errors errors_after code =
+    ServesLines t layout i group marking log source source_after sink sink_after errors errors_after code
     ⊎ ServesNone source source_after sink sink_after errors errors_after code
 
 -- the words behind the first one, each behind a blank
@@ -72,11 +72,11 @@ abbrev pub call_code : ℕ → Bool → ℕ
 call_code code refused = if (code == 0) && refused then 1 else code
 
 -- `ask` made its call
-pub record MakesCall (t : Ghosts (NotedState OneLineState)) (layout : LayoutState) (i : ℕ) (group : Option Text) (marking : Marking) (words : List (Option Text))
+pub record MakesCall (t : Ghosts (NotedState OneLineState)) (layout : LayoutState) (i : ℕ) (group : Option Text) (marking : Marking) (log : Option Text) (words : List (Option Text))
     (sink sink_after errors errors_after : SinkState) (code : ℕ) : Type 0 where
   pub after : NotedState OneLineState
   pub ended : ServiceEnd
-  pub served : EndsLive t layout i group marking (one_line (spoken words) sink) after ended
+  pub served : EndsLive t layout i group marking log (one_line (spoken words) sink) after ended
   pub sink_left : sink_after ≡ after.talk.sink
   pub status : code ≡ call_code (service_code (with_note ended after.outdated)) after.refused
   pub said : Says errors errors_after (service_line (with_note ended after.outdated))
@@ -87,7 +87,7 @@ pub record MakesNone (sink sink_after errors errors_after : SinkState) (code : �
   pub told : EndsWith Memory errors errors_after code
 
 -- the command `ask`
-abbrev pub EndsAsk : Ghosts (NotedState OneLineState) → LayoutState → ℕ → Option Text → Marking → List (Option Text) → SinkState → SinkState → SinkState → SinkState → ℕ → Type 0
-EndsAsk t layout i group marking words sink sink_after errors errors_after code =
-    MakesCall t layout i group marking words sink sink_after errors errors_after code
+abbrev pub EndsAsk : Ghosts (NotedState OneLineState) → LayoutState → ℕ → Option Text → Marking → Option Text → List (Option Text) → SinkState → SinkState → SinkState → SinkState → ℕ → Type 0
+EndsAsk t layout i group marking log words sink sink_after errors errors_after code =
+    MakesCall t layout i group marking log words sink sink_after errors errors_after code
     ⊎ MakesNone sink sink_after errors errors_after code

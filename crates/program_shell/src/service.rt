@@ -23,7 +23,7 @@ pub(crate) fn serve_lines<R: LiveDatabases + AllocGlobal, I: Read, O: Write, E: 
     sink: Sink<O>,
     errors: &mut Sink<E>,
 ) -> (u8, Source<I>, Sink<O>)
-    ensures { EndsServe ⟦<Noted<StreamConversation<I, O>> as Conversation>⟧ layout opening.entry.service.site (option_copied opening.entry.service.group) opening.entry.service.marking source result.1 sink result.2 errors.old errors.new result.0 }
+    ensures { EndsServe ⟦<Noted<StreamConversation<I, O>> as Conversation>⟧ layout opening.entry.service.site (option_copied opening.entry.service.group) opening.entry.service.marking (option_map (λ path. path.now) opening.entry.log) source result.1 sink result.2 errors.old errors.new result.0 }
 {
     let talk = match StreamConversation::new(
         rt.alloc(),
@@ -50,7 +50,7 @@ pub(crate) fn ask_once<R: LiveDatabases + AllocGlobal, O: Write, E: Write>(
     sink: Sink<O>,
     errors: &mut Sink<E>,
 ) -> (u8, Sink<O>)
-    ensures { EndsAsk ⟦<Noted<OneLine<'static, O>> as Conversation>⟧ layout opening.entry.service.site (option_copied opening.entry.service.group) opening.entry.service.marking (words_of words.now) sink result.1 errors.old errors.new result.0 }
+    ensures { EndsAsk ⟦<Noted<OneLine<'static, O>> as Conversation>⟧ layout opening.entry.service.site (option_copied opening.entry.service.group) opening.entry.service.marking (option_map (λ path. path.now) opening.entry.log) (words_of words.now) sink result.1 errors.old errors.new result.0 }
 {
     let Ok(line) = line_of(rt.alloc(), words) else {
         return (Status::Memory.end(errors), sink);

@@ -128,7 +128,7 @@ fn carry_out<
     errors: &mut Sink<E>,
 ) -> (u8, Source<I>, Sink<O>)
     ensures { EndsCommand ⟦<Noted<StreamConversation<I, O>> as Conversation>⟧ ⟦<Noted<OneLine<'static, O>> as Conversation>⟧ asked.now.command cut.now
-        (option_map (λ path. path.now) asked.now.out) (option_copied asked.now.group) asked.now.lost.items (words_of asked.now.words) layout source result.1 sink result.2 errors.old errors.new result.0 }
+        (option_map (λ path. path.now) asked.now.out) (option_map (λ path. path.now) asked.now.log) (option_copied asked.now.group) asked.now.lost.items (words_of asked.now.words) layout source result.1 sink result.2 errors.old errors.new result.0 }
 {
     let mut source = source;
     let mut sink = sink;
@@ -213,6 +213,9 @@ fn opening<'a>(asked: &Request<'a>, serving: Serving) -> Opening<'a>
     ensures marking { result.service.marking ≡ marking_of serving.plain }
     ensures create { result.service.permission.create ≡ serving.create }
     ensures grow { result.service.permission.grow ≡ serving.grow }
+    ensures path { result.path.now ≡ unwrap_or (option_copied asked.now.store) [] }
+    ensures wait { result.wait ≡ serving.wait }
+    ensures log { result.log ≡ asked.now.log }
 {
     Opening {
         path: asked.store.unwrap_or(""),

@@ -8,3 +8,5 @@ pub mod Looks
 pub mod Exchanges
 pub mod Ending
 pub mod Steps
+-- How a site begins, which its clauses cite.
+pub use Rattle.site_engine.specs.Sites

@@ -4,7 +4,7 @@ use Rattle.std.proofs.lemmas.Bool.{cases_Bool}
 use Rattle.merge_core.specs.declared.layout.RecordSpec.{RecordSpec}
 use Rattle.merge_core.specs.Layout.{LayoutState}
 use Rattle.admission_model.specs.Account.{Account}
-use Rattle.admission_core.specs.Kept.{DurableState, durable_of}
+use Rattle.durable_keeper.specs.Kept.{DurableState, durable_of}
 use Rattle.durable_keeper.specs.declared.keeper.Keeper.{Ghosts}
 use Rattle.desk_log.specs.Log.{begun}
 use Rattle.desk_log.specs.Desk.{DeskState, IsFresh, KeepsOn, Leaves, account_of, account_if_kept, is_frozen}

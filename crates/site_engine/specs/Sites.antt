@@ -3,7 +3,7 @@ use Rattle.std.specs.Prelude.{◌≡◌, ℕ, ◌<◌, ◌+◌, ◌⊎◌, ◌++
 use Rattle.merge_core.specs.Layout.{LayoutState}
 use Rattle.admission_model.specs.Account.{Account}
 use Rattle.admission_model.specs.Restoring.{AreCells, AreSessions}
-use Rattle.admission_core.specs.Kept.{DurableState, durable_of}
+use Rattle.durable_keeper.specs.Kept.{DurableState, durable_of}
 use Rattle.durable_keeper.specs.declared.keeper.Keeper.{Ghosts}
 use Rattle.desk_log.specs.Log.{begun}
 use Rattle.desk_log.specs.Desk.{Finds, KeepsOn}

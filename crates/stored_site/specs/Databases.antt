@@ -4,8 +4,8 @@ use Rattle.merge_core.specs.Layout.{LayoutState}
 use Rattle.admission_model.specs.Account.{Account}
 use Rattle.admission_model.specs.Restoring.{AreCells, AreSessions}
 use Rattle.admission_core.specs.Kept.{DurableState}
-use Rattle.desk_log.specs.Log.{begun}
-use Rattle.site_script.specs.Served.{Serves, Stops}
+use Rattle.site_engine.specs.Log.{begun}
+use Rattle.site_engine.specs.Served.{Serves, Stops}
 use Rattle.text_input.specs.declared.input.InputError.TheVariants.{TooLong}
 use Rattle.text_input.specs.Input.{ReadsInput, LosesSome, input_limit}
 use Rattle.text_input.specs.Lines.{lines_of}

@@ -30,7 +30,7 @@ fn wrong_arguments_of_a_move_are_told_and_nothing_is_read(rt: HostRuntime) {
 }
 
 // Arguments and input, and what `regroup` does: no input is read.
-static REGROUPED: [Carried; 9] = [
+static REGROUPED: [Carried; 10] = [
     (
         &[
             b"seat_cli",
@@ -43,6 +43,22 @@ static REGROUPED: [Carried; 9] = [
         (
             0,
             "east.2:moved d6a41a2b6edb4b8d 49d0174c {\"from\":0,\"rows\":[],\"v\":1}\n",
+            "",
+            "old.db\n",
+        ),
+    ),
+    (
+        &[
+            b"seat_cli",
+            b"regroup",
+            b"--site=1",
+            b"--store=old.db",
+            b"--group=east",
+        ],
+        "",
+        (
+            0,
+            "east.2:moved d6a41a2b6edb4b8d 974d99c4 {\"from\":1,\"rows\":[],\"v\":1}\n",
             "",
             "old.db\n",
         ),

@@ -319,7 +319,7 @@ impl LiveDatabases for Fake {
         layout: Layout,
         conversation: &mut C,
     ) -> ServiceEnd {
-        if kept(&self.opened, opening.path).is_err() || kept(&self.opened, "\n").is_err() {
+        if self.note_opening(opening).is_err() {
             return ServiceEnd::Ended(Status::Memory);
         }
         if opening.path == "used.db" {
@@ -370,6 +370,7 @@ impl LiveDatabases for Fake {
     }
 
     // No store is at one path, and one is at another.
+    #[tactic(auto, using(live_databases::proofs::UntoldLemmas::built_there, live_databases::proofs::UntoldLemmas::unmade_over))]
     fn rebuild_store(
         &self,
         path: &str,
@@ -401,6 +402,22 @@ impl LiveDatabases for Fake {
 }
 
 impl Fake {
+    // Notes the store that is to be opened for a service, and behind it the file for the site's log and how long to wait, if
+    // these are named.
+    fn note_opening(&self, opening: Opening<'_>) -> io::Result<()> {
+        kept(&self.opened, opening.path)?;
+        kept(&self.opened, "\n")?;
+        if let Some(log) = opening.log {
+            kept(&self.opened, "log ")?;
+            kept(&self.opened, log)?;
+            kept(&self.opened, "\n")?;
+        }
+        if opening.wait > 0 {
+            kept(&self.opened, format_args!("wait {}\n", opening.wait))?;
+        }
+        Ok(())
+    }
+
     // A database with a new store of the site in the group `east`, at one path, and none at another.
     fn moved_database(
         &self,

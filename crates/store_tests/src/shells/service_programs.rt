@@ -54,7 +54,7 @@ fn wrong_arguments_of_a_service_are_told_and_nothing_is_read(rt: HostRuntime) {
 }
 
 // Arguments and input, and what `serve` does: each line is answered, one that can't be read too.
-static SERVED: [Carried; 7] = [
+static SERVED: [Carried; 8] = [
     (
         &[
             b"seat_cli",
@@ -132,10 +132,23 @@ static SERVED: [Carried; 7] = [
             b"serve",
             b"--site=0",
             b"--store=used.db",
-            b"--wait=1",
+            b"--wait=300",
         ],
         "read a 7\n",
-        (5, "", "store refused InUse\n", "used.db\n"),
+        (5, "", "store refused InUse\n", "used.db\nwait 300\n"),
+    ),
+    (
+        &[
+            b"seat_cli",
+            b"serve",
+            b"--site=0",
+            b"--store=new.db",
+            b"--create",
+            b"--log",
+            b"site.log",
+        ],
+        "read a 7\n",
+        (0, "admitted\n", "", "new.db\nlog site.log\n"),
     ),
     (
         &[

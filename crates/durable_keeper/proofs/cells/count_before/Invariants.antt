@@ -1,6 +1,6 @@
 use Rattle.std.proofs.Common.{◌≡◌, ℕ, ◌-◌, ◌<◌, ◌≤◌, false, length, slice_index_or, IsTrue}
-use Rattle.admission_model.specs.declared.durable.DurableCell.{DurableCell}
-use Rattle.admission_model.specs.Durable.{is_before}
+use Rattle.admission_core.specs.DurableCell.{DurableCell}
+use Rattle.admission_core.specs.Durable.{is_before}
 use Rattle.durable_keeper.proofs.cells.count_before.Given as goal
 
 abbrev pub invariant-cells : goal.invariant-cells

@@ -1,5 +1,5 @@
 use Rattle.std.proofs.Common.{ℕ, ◌∙◌, ◌-◌, sym, ap, drop, subst, arith}
-use Rattle.admission_model.specs.Durable.{AreRising, put_cell, put_cells}
+use Rattle.admission_core.specs.Durable.{AreRising, put_cell, put_cells}
 use Rattle.durable_keeper.proofs.CellLists.{put_rises}
 use Rattle.durable_keeper.proofs.PlacingLemmas.{puts_one}
 use Rattle.durable_keeper.proofs.cells.put_all_reserved.Goals as goal

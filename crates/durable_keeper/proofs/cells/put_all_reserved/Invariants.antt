@@ -1,5 +1,5 @@
 use Rattle.std.proofs.Common.{◌≡◌, ◌+◌, ◌≤◌, length, drop, vec_len, vec_capacity}
-use Rattle.admission_model.specs.Durable.{AreRising, put_cells}
+use Rattle.admission_core.specs.Durable.{AreRising, put_cells}
 use Rattle.durable_keeper.proofs.cells.put_all_reserved.Given as goal
 
 abbrev pub invariant-cells : goal.invariant-cells

@@ -1,6 +1,6 @@
 -- The first of the two cells goes next, and of two at one place the one that is put.
 use Rattle.std.proofs.Common.{sym, ◌∙◌, arith}
-use Rattle.admission_model.specs.declared.durable.DurableCell.{DurableCell}
+use Rattle.admission_core.specs.DurableCell.{DurableCell}
 use Rattle.durable_keeper.proofs.MergeLemmas.{merge_kept, merge_put, merge_both, left_over, right_over, finish}
 use Rattle.durable_keeper.proofs.cells.put_cells.Goals as goal
 use Rattle.durable_keeper.proofs.cells.put_cells.Goals.{then-cells-test+else-j-kept, else-cells-test}

@@ -1,6 +1,6 @@
 -- The cells so far, with what is left of both lists, are all.
 use Rattle.std.proofs.Common.{◌≡◌, ◌+◌, ◌-◌, ◌≤◌, ◌++◌, length, drop}
-use Rattle.admission_model.specs.Durable.{AreRising, put_cells}
+use Rattle.admission_core.specs.Durable.{AreRising, put_cells}
 use Rattle.durable_keeper.proofs.cells.put_cells.Given as goal
 
 abbrev pub invariant-cells : goal.invariant-cells

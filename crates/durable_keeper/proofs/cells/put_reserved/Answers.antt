@@ -1,7 +1,7 @@
 use Rattle.std.proofs.Common.{◌≡◌, ◌<◌, false, length, get_or, ◌∙◌, sym, ap, subst, List, arith}
 use Rattle.std.proofs.lemmas.List.{get_or_default}
-use Rattle.admission_model.specs.declared.durable.DurableCell.{DurableCell}
-use Rattle.admission_model.specs.Durable.{is_same_place}
+use Rattle.admission_core.specs.DurableCell.{DurableCell}
+use Rattle.admission_core.specs.Durable.{is_same_place}
 use Rattle.durable_keeper.specs.Placing.{IsPlaceOf}
 use Rattle.durable_keeper.proofs.PlacingLemmas.{put_same, put_new}
 use Rattle.durable_keeper.proofs.cells.put_reserved.Goals as goal

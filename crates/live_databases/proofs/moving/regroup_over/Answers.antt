@@ -3,7 +3,7 @@ use Rattle.std.specs.Prelude.{option_map, string_bytes}
 use Rattle.group_names.specs.Names.{next_name}
 use Rattle.live_databases.specs.declared.service_end.ServiceEnd.{ServiceEnd}
 use Rattle.admission_core.specs.Kept.{DurableState}
-use Rattle.store_content.specs.Content.{durable_in}
+use Rattle.site_store.specs.Content.{durable_in}
 use Rattle.live_databases.specs.Moves.{HasMoved, IsNotMoved, Moves, MovesNot, moving, whole_text}
 use Rattle.live_databases.specs.ServedStores.{OpensServed}
 use Rattle.live_databases.proofs.MoveLemmas.{matched}

@@ -7,7 +7,15 @@ pub make_rebuilt_over-made-requires-clause-cells : goal.make_rebuilt_over-made-r
 make_rebuilt_over-made-requires-clause-cells g c = c.in-Ok.ensures.is_change
 
 pub returns-in-Err-open_once : goal.returns-in-Err-open_once
-returns-in-Err-open_once g c = inl c.in-Err-open_once.ensures.unserved
+returns-in-Err-open_once g c =
+    let rebuilt = c.in-Ok.rebuilt in
+    inl (record {
+      core = rebuilt.core;
+      cells = rebuilt.cells.items;
+      text = string_bytes rebuilt.shown;
+      built = c.in-Ok.ensures;
+      unopened = c.in-Err-open_once.ensures.unopened;
+    })
 
 pub returns-in-Ok-made : goal.returns-in-Ok-made
 returns-in-Ok-made g c =

@@ -3,7 +3,7 @@ use Rattle.live_databases.proofs.MoveLemmas.{matched}
 use Rattle.live_databases.proofs.regrouping.regroup_found.Goals as goal
 
 pub returns-in-Err : goal.returns-in-Err
-returns-in-Err g c = inl c.in-Err.ensures.unserved
+returns-in-Err g c = inl c.in-Err.ensures.unopened
 
 pub returns : goal.returns
 returns g c =

@@ -23,6 +23,6 @@ returns g c =
       group_fits = search rules;
       layout = Ok c.in-Ok-layout_at.layout;
       found = search rules;
-      carried_out = carried_by _ _ _ _ _ _ _ _ _ _ _ _ _ _ _ _ _ _ _ _ _ c.in-Ok.ensures.command c.in-Ok.ensures.out c.in-Ok.ensures.group c.in-Ok.ensures.lost
+      carried_out = carried_by _ _ _ _ _ _ _ _ _ _ _ _ _ _ _ _ _ _ _ _ _ _ _ c.in-Ok.ensures.command c.in-Ok.ensures.out c.in-Ok.ensures.log c.in-Ok.ensures.group c.in-Ok.ensures.lost
           c.in-Ok.ensures.words c.carry_out.ensures;
     })

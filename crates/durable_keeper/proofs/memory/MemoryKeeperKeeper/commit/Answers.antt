@@ -1,6 +1,6 @@
 -- The counters of a change are put at their places, and still rise.
 use Rattle.std.proofs.Common.{sym, subst}
-use Rattle.admission_model.specs.Durable.{AreRising}
+use Rattle.admission_core.specs.Durable.{AreRising}
 use Rattle.durable_keeper.proofs.CellLists.{puts_rise}
 use Rattle.durable_keeper.proofs.memory.MemoryKeeperKeeper.commit.Goals as goal
 

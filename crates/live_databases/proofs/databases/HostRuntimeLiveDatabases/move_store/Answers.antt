@@ -6,4 +6,4 @@ use Rattle.live_databases.proofs.databases.HostRuntimeLiveDatabases.move_store.G
 pub returns : goal.returns
 returns c =
     matched _ _ _ _ c.regroup_found.result (λ text found. moves_some _ c.args.layout c.args.site c.args.group.now _ _ found)
-    (λ ended unmoved. untold_unmoved _ c.args.layout c.args.site c.args.group.now _ ended unmoved) c.regroup_found.ensures
+    (λ ended unmoved. untold_unmoved c.args.layout c.args.site c.requires _ c.args.group.now _ ended unmoved) c.regroup_found.ensures

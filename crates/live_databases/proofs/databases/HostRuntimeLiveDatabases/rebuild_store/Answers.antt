@@ -4,5 +4,5 @@ use Rattle.live_databases.proofs.databases.HostRuntimeLiveDatabases.rebuild_stor
 
 pub returns : goal.returns
 returns c =
-    matched _ _ _ _ c.rebuild_found.result (λ text found. rebuilds_some _ c.args.layout c.args.site c.args.lost.now c.args.name.now c.args.bytes.now _ _ found)
-    (λ ended none. rebuilds_none _ c.args.layout c.args.site c.args.lost.now c.args.name.now c.args.bytes.now _ ended none) c.rebuild_found.ensures
+    matched _ _ _ _ c.rebuild_found.result (λ text found. rebuilds_some c.args.layout c.args.site c.args.lost.now c.args.name.now c.args.bytes.now _ _ _ found)
+    (λ ended none. rebuilds_none c.args.layout c.args.site c.args.lost.now c.args.name.now c.args.bytes.now _ _ ended none) c.rebuild_found.ensures

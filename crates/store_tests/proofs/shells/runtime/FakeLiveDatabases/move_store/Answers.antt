@@ -13,4 +13,4 @@ returns c =
       sessions = has.moves.tells.sessions;
       is_text = has.moves.tells.is_text;
     })
-    (λ ended unmoved. untold_move _ c.args.layout c.args.site c.args.group.now _ _ ended unmoved) c.regroup_over-told.ensures
+    (λ ended unmoved. untold_move c.args.layout c.args.site c.requires _ c.args.group.now _ _ ended unmoved) c.regroup_over-told.ensures

@@ -3,5 +3,5 @@ use Rattle.store_tests.proofs.shells.runtime.FakeLiveDatabases.serve_conversatio
 
 pub returns : goal.returns
 returns g c =
-    ends_live _ _ _ _ c.args.layout _ _ _ c.args.conversation.now c.serve_live_over-ended.new.conversation _ _ c.serve_live_over-ended.result.0
-    c.requires c.serve_live_over-ended.ensures
+    ends_live _ _ _ _ c.args.layout _ _ _ _ c.args.conversation.now c.serve_live_over-ended.new.conversation _ _ c.serve_live_over-ended.result.0
+    c.requires (λ failed. absurd failed) c.serve_live_over-ended.ensures
