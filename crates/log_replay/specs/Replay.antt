@@ -11,7 +11,7 @@ use Rattle.admission_core.specs.Core.{Core, Stands}
 use Rattle.admission_core.specs.Kept.{DurableState, durable_of}
 use Rattle.desk_log.specs.declared.entry.Entry.{Entry}
 use Rattle.desk_log.specs.declared.transcript.Run.{Run}
-use Rattle.desk_log.specs.Log.{IsInDoubt, IsLegal}
+use Rattle.desk_log.specs.Log.{is_fault, IsInDoubt, IsLegal}
 use Rattle.log_replay.specs.declared.replay.Replayed.{Replayed}
 use Rattle.log_replay.specs.declared.replay.Replayed.TheVariants.{Legal, BadJoint, BadReply}
 use Rattle.log_replay.specs.declared.replay.RunEnd.{RunEnd}
@@ -31,12 +31,18 @@ abbrev pub IsStop : Account → List Entry → Type 0
 IsStop b [] = Unit {0}
 IsStop b (e ∷ later) = ¬ (e.reply ≡ reply_of (view_of b) e.call)
 
--- a core has followed the first n entries, as far as their replies are the model's
+-- nothing is left, or the first entry has the store's fault for a reply, so that it was not carried out
+abbrev pub IsEndable : List Entry → Type 0
+IsEndable [] = Unit {0}
+IsEndable (e ∷ later) = is_fault e.reply ≡ true
+
+-- A core has followed the first n entries, as far as their replies are the model's. Where the next one was carried out, it
+-- may be any core.
 pub record IsFollowed (a : Account) (es : List Entry) (n : ℕ) (c : Core) : Type 0 where
   pub reached : Account
   pub left : List Entry
   pub way : IsWay a es n reached left
-  pub stands : Stands reached c
+  pub stands : IsEndable left → Stands reached c
   pub stop : IsStop reached left
 
 -- what is left of a run's entries may end it: nothing, or one call in doubt

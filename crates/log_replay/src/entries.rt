@@ -1,5 +1,5 @@
 //! The entries of one run, replayed at a core.
-ghost use Rattle.std.specs.Prelude.{◌≡◌, ◌↔◌, ◌<◌, ◌≤◌, ◌+◌, ◌-◌, IfOk, IsSome, IsTrue, None, Some, if◌then◌else◌, length, take, List};
+ghost use Rattle.std.specs.Prelude.{◌≡◌, ◌↔◌, ◌<◌, ◌≤◌, ◌+◌, ◌-◌, IfOk, IsSome, IsTrue, None, Some, false, if◌then◌else◌, length, take, List};
 ghost use Rattle.merge_core.specs.declared.delta.Row.{Row};
 ghost use Rattle.admission_model.specs.Account.{Account};
 ghost use Rattle.admission_model.specs.View.{view_of};
@@ -7,7 +7,7 @@ ghost use Rattle.admission_model.specs.Serving.{after, reply_of};
 ghost use Rattle.admission_model.specs.Durable.{change_between, IsEmpty};
 ghost use Rattle.admission_core.specs.Core.{SameContent, Stands, is_memory};
 ghost use Rattle.desk_log.specs.Log.{is_fault, account_after};
-ghost use Rattle.log_replay.specs.Replay.{IsFollowed, IsEnd, TellsOwn};
+ghost use Rattle.log_replay.specs.Replay.{IsFollowed, IsEnd, IsEndable, TellsOwn};
 
 use crate::own::{OwnRows, own_rows};
 use admission_core::{Call, Refusal, Reply, SiteCore, is_memory};
@@ -29,20 +29,39 @@ pub(crate) fn is_fault(reply: &Reply) -> bool
     matches!(reply, Reply::Refused(Refusal::StoreFault))
 }
 
-// Replays an entry: whether its reply is the model's. If it is not, the core is as it was, its room aside.
-fn follow_one(core: &mut SiteCore, entry: &Entry) -> Result<bool, AllocError>
-    ensures same { IfOk result (λ ok. (a : Account) → Stands a core.old → IsTrue ok ↔ (entry.now.reply ≡ reply_of (view_of a) entry.now.call)) }
-    ensures stands { IfOk result (λ ok. (a : Account) → Stands a core.old → Stands (if ok then after a entry.now.call else a) core.new) }
+// The reply, unless it is want of memory.
+fn unless_memory(reply: Reply) -> Result<Reply, AllocError>
+    ensures { IfOk result (λ it. (it ≡ reply) × (is_memory reply ≡ false)) }
 {
-    let prepared = core.prepare(&entry.call);
-    if is_memory(prepared.reply()) {
+    if is_memory(&reply) {
         return Err(AllocError);
     }
-    if !same_reply(&entry.reply, prepared.reply()) {
+    Ok(reply)
+}
+
+// Carries a call out, and answers what the model answers.
+fn answered(core: &mut SiteCore, call: &Call) -> Result<Reply, AllocError>
+    ensures reply { IfOk result (λ reply. (a : Account) → Stands a core.old → reply ≡ reply_of (view_of a) call.now) }
+    ensures stands { IfOk result (λ reply. (a : Account) → Stands a core.old → Stands (after a call.now) core.new) }
+{
+    match call {
+        Call::Ask(ask) => unless_memory(core.ask(*ask)),
+        Call::Merge(delta) => unless_memory(core.merge(delta)),
+        Call::Snapshot => Ok(Reply::Snapshot(core.snapshot()?)),
+    }
+}
+
+// Replays an entry: whether its reply is the model's. No call of the model is answered by a fault of the store; any other
+// entry is carried out, whether its reply is the model's or not.
+fn follow_one(core: &mut SiteCore, entry: &Entry) -> Result<bool, AllocError>
+    ensures same { IfOk result (λ ok. (a : Account) → Stands a core.old → IsTrue ok ↔ (entry.now.reply ≡ reply_of (view_of a) entry.now.call)) }
+    ensures stands { IfOk result (λ ok. (a : Account) → Stands a core.old → Stands (if is_fault entry.now.reply then a else after a entry.now.call) core.new) }
+{
+    if is_fault(&entry.reply) {
         return Ok(false);
     }
-    let _ = core.apply(prepared);
-    Ok(true)
+    let reply = answered(core, &entry.call)?;
+    Ok(same_reply(&entry.reply, &reply))
 }
 
 /// Replays entries at a core, up to the first whose reply is not the model's: how many come before it.
@@ -108,10 +127,10 @@ fn changes(core: &mut SiteCore, call: &Call) -> Result<bool, AllocError>
 }
 
 /// Whether what is left of a run's entries may end it: nothing, or one call in doubt. The core is as it was, its room
-/// aside.
+/// aside. Where something else is left, it may be any core.
 pub(crate) fn may_end(core: &mut SiteCore, left: &[Entry]) -> Result<bool, AllocError>
     ensures content { SameContent core.old core.new }
-    ensures answer { IfOk result (λ b. (a : Account) → Stands a core.old → IsTrue b ↔ IsEnd a left.now) }
+    ensures answer { IfOk result (λ b. (a : Account) → (IsEndable left.now → Stands a core.old) → IsTrue b ↔ IsEnd a left.now) }
 {
     let [entry, later @ ..] = left else {
         return Ok(true);

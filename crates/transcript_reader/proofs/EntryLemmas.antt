@@ -1,8 +1,6 @@
--- The line of an entry is taken apart again.
-use Rattle.std.proofs.Common.{◌≡◌, ℕ, ◌<◌, ◌^◌, cond, ◌==◌, List, [], ◌∷◌, ◌++◌, length, Option, Some, None, codes, decimal, Result, Ok, Err, refl, sym, ap, ◌∙◌, ◌⊎◌, inl, inr}
-use Rattle.std.proofs.lemmas.Bool.{eqb-true}
-use Rattle.std.proofs.lemmas.List.{nil_from_length}
-use Rattle.std.proofs.lemmas.Option.{none-some, same_Some}
+-- The line of an entry is read from left to right.
+use Rattle.std.proofs.Common.{◌≡◌, ◌≢◌, ℕ, ◌<◌, ◌^◌, List, ◌++◌, Option, Some, None, codes, decimal, Result, Ok, Err, refl, sym, ap, ◌∙◌, ◌⊎◌, inl, inr}
+use Rattle.std.proofs.lemmas.Option.{none-some, some_pair_parts, same_Some}
 use Rattle.text_parts.specs.declared.unread.Unread.{Unread}
 use Rattle.text_parts.specs.declared.unread.Unread.TheVariants.{Refused, Memory as NoRoom}
 use Rattle.admission_model.specs.declared.ask.Call.{Call}
@@ -11,98 +9,148 @@ use Rattle.merge_core.specs.declared.layout.RecordSpec.{RecordSpec}
 use Rattle.desk_log.specs.declared.entry.Entry.{Entry}
 use Rattle.script_text.specs.Replies.{reply_text}
 use Rattle.text_parts.specs.Readers.{◌>>=◌, Fails, after, short_at}
-use Rattle.text_parts.proofs.LiteralLaws.{cond_taken, bind_some, after_takes, after_again}
+use Rattle.text_parts.proofs.LiteralLaws.{bind_some, after_takes, after_again}
 use Rattle.text_parts.proofs.NumberLaws.{short_takes, short_again}
-use Rattle.transcript_text.specs.Quoted.{escaped}
 use Rattle.transcript_text.specs.Texts.{call_text, entry_text}
-use Rattle.transcript_reader.specs.Readers.{EntryParts, quoted_behind, entry_parts}
-use Rattle.transcript_reader.proofs.QuotedLemmas.{quoted_again, quoted_takes}
-
-abbrev Quoted : Type 0
-Quoted = List ℕ × List ℕ
+use Rattle.transcript_reader.specs.Fits.{FitsCall, FitsReply}
+use Rattle.transcript_reader.specs.Quoted.{quoted, Refuses}
+use Rattle.transcript_reader.specs.Readers.{pass_behind}
+use Rattle.transcript_reader.specs.Reading.{IsNoEntry}
+use Rattle.transcript_reader.proofs.EscapedLemmas.{quoted_once}
 
 abbrev Read : Type 0
 Read = ℕ × List ℕ
 
+-- ---- the pass
+
+-- the pass of an entry, and what follows it
+abbrev pub pass_text : ℕ → List ℕ → List ℕ
+pass_text pass rest = codes ",\"pass\":" ++ (decimal pass ++ (codes ",\"reply\":\"" ++ rest))
+
 -- the reading from each of its parts on
-abbrev with_reply : Quoted → Read → Quoted → Option EntryParts
-with_reply call pass reply =
-    after (codes "}") reply.1 >>= λ rest. cond (length rest == 0) (Some (record { call = call.0; pass = pass.0; reply = reply.0 })) None
+abbrev with_pass : Read → Option Read
+with_pass pass = after (codes ",\"reply\":\"") pass.1 >>= λ rest. Some (pass.0, rest)
 
-abbrev with_pass : Quoted → Read → Option EntryParts
-with_pass call pass = quoted_behind (codes ",\"reply\":\"") pass.1 >>= with_reply call pass
+abbrev with_front : List ℕ → Option Read
+with_front front = short_at front >>= with_pass
 
-abbrev with_behind : Quoted → List ℕ → Option EntryParts
-with_behind call behind = short_at behind >>= with_pass call
+pub pass_again : (pass : ℕ) (rest : List ℕ) → pass < 2 ^ 16 → pass_behind (pass_text pass rest) ≡ Some (pass, rest)
+unfolding pass_behind
+pass_again pass rest fits =
+    let t1 = codes ",\"reply\":\"" ++ rest in
+    ap (λ (o : Option (List ℕ)). o >>= with_front) (after_again (codes ",\"pass\":") (decimal pass ++ t1))
+    ∙ (ap (λ (o : Option Read). o >>= with_pass) (short_again pass t1 fits refl)
+    ∙ ap (λ (o : Option (List ℕ)). o >>= λ (t : List ℕ). Some (pass, t)) (after_again (codes ",\"reply\":\"") rest))
 
-abbrev with_call : Quoted → Option EntryParts
-with_call call = after (codes ",\"pass\":") call.1 >>= with_behind call
+pass_takes : (bytes : List ℕ) (pass : ℕ) (rest : List ℕ) → pass_behind bytes ≡ Some (pass, rest) → bytes ≡ pass_text pass rest
+unfolding pass_behind
+pass_takes bytes pass rest e =
+    let front = bind_some (after (codes ",\"pass\":") bytes) with_front (pass, rest) e in
+    let read = bind_some (short_at front.0) with_pass (pass, rest) front.2 in
+    let last = bind_some (after (codes ",\"reply\":\"") read.0.1) (λ (t : List ℕ). Some (read.0.0, t)) (pass, rest) read.2 in
+    let same = some_pair_parts read.0.0 pass last.0 rest last.2 in
+    after_takes (codes ",\"pass\":") bytes front.0 front.1
+    ∙ (ap (λ (t : List ℕ). codes ",\"pass\":" ++ t)
+    (short_takes front.0 read.0.0 read.0.1 read.1 ∙ ap (λ (t : List ℕ). decimal read.0.0 ++ t) (after_takes (codes ",\"reply\":\"") read.0.1 last.0 last.1))
+    ∙ (ap (λ (n : ℕ). pass_text n last.0) same.0 ∙ ap (pass_text pass) same.1))
 
-pub entry_again : (records : List RecordSpec) (e : Entry) → e.pass < 2 ^ 16
-    → entry_parts (entry_text records e) ≡ Some (record { call = call_text records e.call; pass = e.pass; reply = reply_text e.reply })
-unfolding entry_parts entry_text
-entry_again records e fits =
-    let c = call_text records e.call in
-    let r = reply_text e.reply in
-    let t3 = codes "}" in
-    let t2 = codes ",\"reply\":\"" ++ (escaped r ++ 34 ∷ t3) in
-    let t1 = decimal e.pass ++ t2 in
-    let t0 = codes ",\"pass\":" ++ t1 in
-    ap (λ (o : Option Quoted). o >>= with_call) (quoted_again (codes "{\"call\":\"") c t0)
-    ∙ (ap (λ (o : Option (List ℕ)). o >>= with_behind (c, t0)) (after_again (codes ",\"pass\":") t1)
-    ∙ (ap (λ (o : Option Read). o >>= with_pass (c, t0)) (short_again e.pass t2 fits refl)
-    ∙ ap (λ (o : Option Quoted). o >>= with_reply (c, t0) (e.pass, t2)) (quoted_again (codes ",\"reply\":\"") r t3)))
+pub passes_same : (pass other : ℕ) (rest behind : List ℕ) → pass < 2 ^ 16 → other < 2 ^ 16 → pass_text pass rest ≡ pass_text other behind → (pass ≡ other) × (rest ≡ behind)
+passes_same pass other rest behind fits fits2 same =
+    some_pair_parts pass other rest behind (sym (pass_again pass rest fits) ∙ (ap pass_behind same ∙ pass_again other behind fits2))
 
--- what was read of the line of an entry
-pub parts_of : (records : List RecordSpec) (line : List ℕ) (p : EntryParts) (e : Entry) → entry_parts line ≡ Some p → line ≡ entry_text records e → e.pass < 2 ^ 16
-    → p ≡ record { call = call_text records e.call; pass = e.pass; reply = reply_text e.reply }
-parts_of records line p e read same fits =
-    same_Some p (record { call = call_text records e.call; pass = e.pass; reply = reply_text e.reply }) (sym read ∙ (ap entry_parts same ∙ entry_again records e fits))
+-- ---- the line
+
+-- what stands behind the call of an entry
+abbrev pub tail_text : Entry → List ℕ
+tail_text e = pass_text e.pass (quoted (reply_text e.reply) (codes "}"))
+
+line_is : (records : List RecordSpec) (e : Entry) → entry_text records e ≡ codes "{\"call\":\"" ++ quoted (call_text records e.call) (tail_text e)
+unfolding entry_text
+line_is records e = refl
+
+-- what stands behind its first quote
+front_is : (records : List RecordSpec) (line bytes : List ℕ) (e : Entry) → after (codes "{\"call\":\"") line ≡ Some bytes → line ≡ entry_text records e
+    → bytes ≡ quoted (call_text records e.call) (tail_text e)
+front_is records line bytes e taken same =
+    same_Some bytes (quoted (call_text records e.call) (tail_text e))
+    (sym taken ∙ (ap (after (codes "{\"call\":\"")) (same ∙ line_is records e) ∙ after_again (codes "{\"call\":\"") (quoted (call_text records e.call) (tail_text e))))
+
+pub front_same : (records : List RecordSpec) (e f : Entry) → entry_text records e ≡ entry_text records f
+    → quoted (call_text records e.call) (tail_text e) ≡ quoted (call_text records f.call) (tail_text f)
+front_same records e f same =
+    front_is records (entry_text records e) (quoted (call_text records e.call) (tail_text e)) f
+    (ap (after (codes "{\"call\":\"")) (line_is records e) ∙ after_again (codes "{\"call\":\"") (quoted (call_text records e.call) (tail_text e))) same
 
 pub entry_same : (e : Entry) (pass : ℕ) (call : Call) (reply : Reply) → pass ≡ e.pass → call ≡ e.call → reply ≡ e.reply → record { pass = pass; call = call; reply = reply } ≡ e
 entry_same e pass call reply p c r = λ k. record { pass = p k; call = c k; reply = r k }
 
--- ---- only the line of an entry is taken apart
+-- the line of what was read
+pub entry_sound : (records : List RecordSpec) (line bytes : List ℕ) (call : Call) (front : List ℕ) (pass : ℕ) (behind : List ℕ) (reply : Reply) (rest : List ℕ)
+    → after (codes "{\"call\":\"") line ≡ Some bytes → bytes ≡ quoted (call_text records call) front → pass_behind front ≡ Some (pass, behind)
+    → behind ≡ quoted (reply_text reply) rest → rest ≡ codes "}" → line ≡ entry_text records (record { pass = pass; call = call; reply = reply })
+entry_sound records line bytes call front pass behind reply rest head is_call is_pass is_reply end =
+    let tail : front ≡ pass_text pass (quoted (reply_text reply) (codes "}")) =
+    pass_takes front pass behind is_pass ∙ ap (pass_text pass) (is_reply ∙ ap (quoted (reply_text reply)) end) in
+    after_takes (codes "{\"call\":\"") line bytes head
+    ∙ (ap (λ (t : List ℕ). codes "{\"call\":\"" ++ t) (is_call ∙ ap (quoted (call_text records call)) tail)
+    ∙ sym (line_is records (record { pass = pass; call = call; reply = reply })))
 
--- the line that has these parts
-abbrev parts_text : EntryParts → List ℕ
-parts_text p =
-    codes "{\"call\":\"" ++ (escaped p.call
-    ++ (codes "\",\"pass\":" ++ (decimal p.pass ++ (codes ",\"reply\":\"" ++ (escaped p.reply ++ codes "\"}")))))
+-- ---- where a line is refused
 
-ends_there : (call : Quoted) (pass : Read) (reply : Quoted) (p : EntryParts) → with_reply call pass reply ≡ Some p
-    → (reply.1 ≡ codes "}") × (record { call = call.0; pass = pass.0; reply = reply.0 } ≡ p)
-ends_there call pass reply p read =
-    let rest = bind_some (after (codes "}") reply.1) (λ rest. cond (length rest == 0) (Some (record { call = call.0; pass = pass.0; reply = reply.0 })) None) p read in
-    let last = cond_taken (length rest.0 == 0) (Some (record { call = call.0; pass = pass.0; reply = reply.0 })) p rest.2 in
-    let none : rest.0 ≡ [] = nil_from_length rest.0 (eqb-true (length rest.0) 0 last.0) in (
-      after_takes (codes "}") reply.1 rest.0 rest.1 ∙ ap (λ (x : List ℕ). codes "}" ++ x) none,
-      same_Some (record { call = call.0; pass = pass.0; reply = reply.0 }) p last.1,
-    )
+refuses_so : (e : Unread) (N : Type 0) → Refuses e N → e ≡ Refused → N
+refuses_so Refused N none same = none
+refuses_so NoRoom N none same = absurd cc
 
-line_of : (call reply : List ℕ) (pass : ℕ) (p : EntryParts) (line behind front rest last : List ℕ) → line ≡ codes "{\"call\":\"" ++ (escaped call ++ 34 ∷ behind)
-    → behind ≡ codes ",\"pass\":" ++ front → front ≡ decimal pass ++ rest → rest ≡ codes ",\"reply\":\"" ++ (escaped reply ++ 34 ∷ last) → last ≡ codes "}"
-    → record { call = call; pass = pass; reply = reply } ≡ p → line ≡ parts_text p
-line_of call reply pass p line behind front rest last e0 e1 e2 e3 e4 is = rw (← is, e0, e1, e2, e3, e4) refl
+fails_so : {Y : Type 0} (e : Unread) (read : Option Y) → Fails e read → e ≡ Refused → read ≡ None
+fails_so Refused read none same = none
+fails_so NoRoom read none same = absurd cc
 
-parts_takes : (line : List ℕ) (p : EntryParts) → entry_parts line ≡ Some p → line ≡ parts_text p
-unfolding entry_parts
-parts_takes line p read =
-    let call = bind_some (quoted_behind (codes "{\"call\":\"") line) with_call p read in
-    let front = bind_some (after (codes ",\"pass\":") call.0.1) (with_behind call.0) p call.2 in
-    let pass = bind_some (short_at front.0) (with_pass call.0) p front.2 in
-    let reply = bind_some (quoted_behind (codes ",\"reply\":\"") pass.0.1) (with_reply call.0 pass.0) p pass.2 in
-    let last = ends_there call.0 pass.0 reply.0 p reply.2 in
-    line_of call.0.0 reply.0.0 pass.0.0 p line call.0.1 front.0 pass.0.1 reply.0.1
-    (quoted_takes (codes "{\"call\":\"") line call.0.0 call.0.1 call.1) (after_takes (codes ",\"pass\":") call.0.1 front.0 front.1)
-    (short_takes front.0 pass.0.0 pass.0.1 pass.1) (quoted_takes (codes ",\"reply\":\"") pass.0.1 reply.0.0 reply.0.1 reply.1) last.0 last.1
+pub no_head : (records : List RecordSpec) (e : Unread) (line : List ℕ) → Fails e (after (codes "{\"call\":\"") line) → e ≡ Refused → IsNoEntry records line
+no_head records e line fails refused = λ entry fits same.
+    let front = quoted (call_text records entry.call) (tail_text entry) in
+    none-some front (sym (fails_so e (after (codes "{\"call\":\"") line) fails refused) ∙ (ap (after (codes "{\"call\":\"")) (same ∙ line_is records entry) ∙ after_again (codes "{\"call\":\"") front))
 
--- an entry whose parts these are has the line
-pub entry_sound : (records : List RecordSpec) (line : List ℕ) (p : EntryParts) (call : Call) (reply : Reply) → entry_parts line ≡ Some p
-    → p.call ≡ call_text records call → p.reply ≡ reply_text reply → line ≡ entry_text records (record { pass = p.pass; call = call; reply = reply })
-unfolding entry_text
-entry_sound records line p call reply read is_call is_reply =
-    parts_takes line p read ∙ ap parts_text (λ k. record { call = is_call k; pass = p.pass; reply = is_reply k })
+abbrev NoCall : List RecordSpec → List ℕ → Type 0
+NoCall records bytes = (call : Call) → (rest : List ℕ) → FitsCall call → bytes ≢ quoted (call_text records call) rest
+
+abbrev NoReply : List ℕ → Type 0
+NoReply bytes = (reply : Reply) → (rest : List ℕ) → FitsReply reply → bytes ≢ quoted (reply_text reply) rest
+
+pub no_call : (records : List RecordSpec) (e : Unread) (line bytes : List ℕ) → after (codes "{\"call\":\"") line ≡ Some bytes → Refuses e (NoCall records bytes) → e ≡ Refused → IsNoEntry records line
+no_call records e line bytes head none refused = λ entry fits same.
+    refuses_so e (NoCall records bytes) none refused entry.call (tail_text entry) fits.call (front_is records line bytes entry head same)
+
+-- what stands behind the call
+behind_call : (records : List RecordSpec) (line bytes : List ℕ) (call : Call) (front : List ℕ) (entry : Entry) → after (codes "{\"call\":\"") line ≡ Some bytes
+    → bytes ≡ quoted (call_text records call) front → line ≡ entry_text records entry → front ≡ tail_text entry
+behind_call records line bytes call front entry head is_call same =
+    (quoted_once (call_text records call) front (call_text records entry.call) (tail_text entry) (sym is_call ∙ front_is records line bytes entry head same)).1
+
+pub no_pass : (records : List RecordSpec) (e : Unread) (line bytes : List ℕ) (call : Call) (front : List ℕ) → after (codes "{\"call\":\"") line ≡ Some bytes
+    → bytes ≡ quoted (call_text records call) front → Fails e (pass_behind front) → e ≡ Refused → IsNoEntry records line
+no_pass records e line bytes call front head is_call fails refused = λ entry fits same.
+    let behind = quoted (reply_text entry.reply) (codes "}") in
+    none-some (entry.pass, behind)
+    (sym (fails_so e (pass_behind front) fails refused) ∙ (ap pass_behind (behind_call records line bytes call front entry head is_call same) ∙ pass_again entry.pass behind fits.pass))
+
+-- what stands behind the pass
+behind_pass : (front : List ℕ) (pass : ℕ) (behind : List ℕ) (entry : Entry) → pass_behind front ≡ Some (pass, behind) → front ≡ tail_text entry → entry.pass < 2 ^ 16
+    → behind ≡ quoted (reply_text entry.reply) (codes "}")
+behind_pass front pass behind entry is_pass tail fits =
+    let last = quoted (reply_text entry.reply) (codes "}") in
+    (some_pair_parts pass entry.pass behind last (sym is_pass ∙ (ap pass_behind tail ∙ pass_again entry.pass last fits))).1
+
+pub no_reply : (records : List RecordSpec) (e : Unread) (line bytes : List ℕ) (call : Call) (front : List ℕ) (pass : ℕ) (behind : List ℕ) → after (codes "{\"call\":\"") line ≡ Some bytes
+    → bytes ≡ quoted (call_text records call) front → pass_behind front ≡ Some (pass, behind) → Refuses e (NoReply behind) → e ≡ Refused → IsNoEntry records line
+no_reply records e line bytes call front pass behind head is_call is_pass none refused = λ entry fits same.
+    refuses_so e (NoReply behind) none refused entry.reply (codes "}") fits.reply
+    (behind_pass front pass behind entry is_pass (behind_call records line bytes call front entry head is_call same) fits.pass)
+
+pub no_end : (records : List RecordSpec) (line bytes : List ℕ) (call : Call) (front : List ℕ) (pass : ℕ) (behind : List ℕ) (reply : Reply) (rest : List ℕ) → after (codes "{\"call\":\"") line ≡ Some bytes
+    → bytes ≡ quoted (call_text records call) front → pass_behind front ≡ Some (pass, behind) → behind ≡ quoted (reply_text reply) rest → (rest ≡ codes "}" → ⊥) → IsNoEntry records line
+no_end records line bytes call front pass behind reply rest head is_call is_pass is_reply other = λ entry fits same.
+    let last = behind_pass front pass behind entry is_pass (behind_call records line bytes call front entry head is_call same) fits.pass in
+    other (quoted_once (reply_text reply) rest (reply_text entry.reply) (codes "}") (sym is_reply ∙ last)).1
 
 -- ---- what a reader may answer
 

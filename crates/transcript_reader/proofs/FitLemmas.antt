@@ -6,11 +6,8 @@ use Rattle.std.proofs.lemmas.Bool.{ltb-true}
 use Rattle.std.proofs.lemmas.List.Quantifiers.{position-Some}
 use Rattle.std.proofs.lemmas.Option.{same_Some, none-some}
 use Rattle.merge_core.specs.Layout.{LayoutState, IsLayout, is_record_name}
-use Rattle.admission_model.specs.declared.ask.Ask.{Ask}
 use Rattle.admission_model.specs.declared.ask.Ask.TheVariants.{Read, Announce, Quill, Leave, Give, Help}
-use Rattle.admission_model.specs.declared.reply.Refusal.{Refusal}
 use Rattle.admission_model.specs.declared.reply.Refusal.TheVariants.{NoRecord, BadHolder, AlreadyHere, CounterFull, WriterAnnounced, NoSeat, TooManyWriters, NotAnnounced, AlreadyInside, MissingSeats, NotHere, NoSite, ToSelf, ZeroSeats, TooFewRights, NoPlan, OtherLayout, BadRow, OwnRowAhead, Memory, Frozen, LogFull, StoreFault}
-use Rattle.admission_model.specs.declared.reply.Reply.{Reply}
 use Rattle.admission_model.specs.declared.reply.Reply.TheVariants.{Admitted, Announced, Left, Given, Gave, Merged, Refused}
 use Rattle.session_list.specs.declared.session.Phase.TheVariants.{Reader, Writer, Waiting}
 use Rattle.text_parts.specs.Readers.{◌>>=◌, number_at, short_at}
@@ -20,7 +17,7 @@ use Rattle.transcript_text.specs.Texts.{nameless}
 use Rattle.transcript_reader.specs.declared.numbers.Numbers.{Numbers}
 use Rattle.transcript_reader.specs.declared.numbers.Numbers.TheVariants.{NoNumber, OneNumber, TwoNumbers}
 use Rattle.transcript_reader.specs.Fits.{FitsAsk, FitsRefusal, FitsReply}
-use Rattle.transcript_reader.specs.Words.{numbers_in, below, logged_record, held_ask, ask_with, ask_in, plain_refusal, other_plain_refusal, first_of, refusal_with, refusal_of, counted_reply, left_reply, refused_reply, reply_in}
+use Rattle.transcript_reader.specs.Words.{numbers_in, below, record_named, record_numbered, logged_record, held_ask, ask_with, ask_in, plain_refusal, other_plain_refusal, first_of, refusal_with, refusal_of, counted_reply, left_reply, refused_reply, reply_in}
 
 -- P holds of what is there
 abbrev pub Holds : {A : Type 0} → (A → Type 0) → Option A → Type 0
@@ -35,7 +32,7 @@ if_holds : {A : Type 0} (P : A → Type 0) (b : Bool) (o p : Option A) → Holds
 if_holds P true o p one other = one
 if_holds P false o p one other = other
 
-then_holds : {A B : Type 0} (Q : A → Type 0) (P : B → Type 0) (o : Option A) (f : A → Option B) → Holds Q o → ((x : A) → Q x → Holds P (f x)) → Holds P (o >>= f)
+pub then_holds : {A B : Type 0} (Q : A → Type 0) (P : B → Type 0) (o : Option A) (f : A → Option B) → Holds Q o → ((x : A) → Q x → Holds P (f x)) → Holds P (o >>= f)
 then_holds Q P None f holds each = tt
 then_holds Q P (Some x) f holds each = each x holds
 
@@ -94,9 +91,20 @@ record_holds layout is word = at (position (has_this_name word) layout.records) 
     at None e = if_holds (λ r. r < 2 ^ 16) (is_record_name word) (Some no_record) None (omega arith) tt
     at (Some r) e = omega (arith, is.few_records, (position-Some (has_this_name word) layout.records r nameless e).0)
 
+named_holds : (layout : LayoutState) → IsLayout layout → (word : List ℕ) → Holds (λ r. r < 2 ^ 16) (record_named layout.records word)
+named_holds layout is word =
+    then_holds (λ (r : ℕ). r < 2 ^ 16) (λ (r : ℕ). r < 2 ^ 16) (record_word layout.records word) (λ r. cond (ltb r (length layout.records)) (Some r) None) (record_holds layout is word)
+    (λ r low. if_holds (λ k. k < 2 ^ 16) (ltb r (length layout.records)) (Some r) None low tt)
+
+numbered_holds : (layout : LayoutState) (digits : List ℕ) → Holds (λ r. r < 2 ^ 16) (record_numbered layout.records digits)
+numbered_holds layout digits =
+    then_holds (λ (r : ℕ). r < 2 ^ 16) (λ (r : ℕ). r < 2 ^ 16) (short_word digits) (λ r. cond (ltb r (length layout.records)) None (Some r)) (short_holds digits)
+    (λ r low. if_holds (λ k. k < 2 ^ 16) (ltb r (length layout.records)) None (Some r) tt low)
+
 logged_holds : (layout : LayoutState) → IsLayout layout → (word : List ℕ) → Holds (λ r. r < 2 ^ 16) (logged_record layout.records word)
-logged_holds layout is [] = record_holds layout is []
-logged_holds layout is (b ∷ bs) = if_holds (λ r. r < 2 ^ 16) (eqb b 63) (short_word bs) (record_word layout.records (b ∷ bs)) (short_holds bs) (record_holds layout is (b ∷ bs))
+logged_holds layout is [] = named_holds layout is []
+logged_holds layout is (b ∷ bs) =
+    if_holds (λ r. r < 2 ^ 16) (eqb b 63) (record_numbered layout.records bs) (record_named layout.records (b ∷ bs)) (numbered_holds layout bs) (named_holds layout is (b ∷ bs))
 
 held_holds : (verb : List ℕ) (r h : ℕ) → r < 2 ^ 16 → h < 2 ^ 64 → Holds FitsAsk (held_ask verb r h)
 held_holds verb r h low low2 =

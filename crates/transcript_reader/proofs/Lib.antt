@@ -1,11 +1,14 @@
 pub mod QuotedLemmas
+pub mod EscapedLemmas
+pub mod DeltaLemmas
 pub mod NumberLemmas
-pub mod SessionLemmas
+pub mod CutLemmas
 pub mod WordLemmas
 pub mod EntryLemmas
 pub mod CallLemmas
 pub mod ReplyLemmas
 pub mod FitLemmas
+pub mod StrictLemmas
 pub mod ReadingLemmas
 pub mod OpeningLemmas
 pub mod PartLemmas

@@ -1,10 +1,9 @@
 -- A text has one reading at most: a line is that of one entry, or begins one run, and not both.
-use Rattle.std.proofs.Common.{◌≡◌, ℕ, ◌<◌, List, [], ◌∷◌, ◌++◌, get_or, drop, Option, Some, None, codes, unwrap_or, refl, sym, ap, subst, ◌∙◌, ◌⊎◌, inl, inr, arith}
+use Rattle.std.proofs.Common.{◌≡◌, ℕ, List, get_or, drop, Some, codes, unwrap_or, refl, sym, ap, subst, ◌∙◌, ◌⊎◌, inl, inr, arith}
 use Rattle.std.proofs.lemmas.Option.{none-some, same_Some}
 use Rattle.merge_core.specs.Layout.{LayoutState, IsLayout, at_sites, shape_of}
 use Rattle.merge_core.specs.Rows.{start_counter}
-use Rattle.merge_core.specs.Delta.{DeltaState, IsDelta}
-use Rattle.merge_core.specs.declared.delta.Row.{Row}
+use Rattle.merge_core.specs.Delta.{DeltaState}
 use Rattle.merge_core.specs.Naming.{shown_by}
 use Rattle.admission_model.specs.declared.ask.Ask.{Ask}
 use Rattle.admission_model.specs.declared.ask.Call.{Call}
@@ -22,13 +21,15 @@ use Rattle.transcript_text.specs.Texts.{ask_text, call_text, entry_text, front_t
 use Rattle.transcript_reader.specs.declared.openings.Opening.{Opening}
 use Rattle.transcript_reader.specs.Fits.{FitsAsk, FitsCall, FitsReply, FitsEntry}
 use Rattle.transcript_reader.specs.Words.{ask_in, reply_in}
-use Rattle.transcript_reader.specs.Readers.{EntryParts, OpeningParts, entry_parts}
+use Rattle.transcript_reader.specs.Quoted.{quoted}
+use Rattle.transcript_reader.specs.Readers.{OpeningParts}
 use Rattle.transcript_reader.specs.Reading.{BeginsRun}
 use Rattle.transcript_reader.proofs.CallLemmas.{ask_again, take_asks_nothing}
 use Rattle.transcript_reader.proofs.ReplyLemmas.{IsTold, reply_again}
-use Rattle.transcript_reader.proofs.EntryLemmas.{entry_again, entry_same}
+use Rattle.transcript_reader.proofs.EscapedLemmas.{quoted_once}
+use Rattle.transcript_reader.proofs.EntryLemmas.{tail_text, front_same, passes_same, entry_same}
 use Rattle.transcript_reader.proofs.PartLemmas.{told_delta, cells_told}
-use Rattle.transcript_reader.proofs.BeginLemmas.{IsSpelled, spelled_so, layout_there, opening_same}
+use Rattle.transcript_reader.proofs.BeginLemmas.{spelled_so, layout_there, opening_same}
 
 -- ---- entries
 
@@ -69,12 +70,10 @@ one_reply r q fits fits2 same = at (reply_again r fits) (reply_again q fits2)
 pub one_entry : (layout : LayoutState) → IsLayout layout → (e f : Entry) → FitsEntry e → FitsEntry f → entry_text layout.records e ≡ entry_text layout.records f → e ≡ f
 one_entry layout is e f fits fits2 same =
     let records = layout.records in
-    let p : EntryParts = record { call = call_text records e.call; pass = e.pass; reply = reply_text e.reply } in
-    let q : EntryParts = record { call = call_text records f.call; pass = f.pass; reply = reply_text f.reply } in
-    let parts : p ≡ q = same_Some p q (sym (entry_again records e fits.pass) ∙ (ap entry_parts same ∙ entry_again records f fits2.pass)) in
-    entry_same f e.pass e.call e.reply (ap (λ (x : EntryParts). x.pass) parts)
-    (one_call layout is e.call f.call fits.call fits2.call (ap (λ (x : EntryParts). x.call) parts))
-    (one_reply e.reply f.reply fits.reply fits2.reply (ap (λ (x : EntryParts). x.reply) parts))
+    let calls = quoted_once (call_text records e.call) (tail_text e) (call_text records f.call) (tail_text f) (front_same records e f same) in
+    let passes = passes_same e.pass f.pass (quoted (reply_text e.reply) (codes "}")) (quoted (reply_text f.reply) (codes "}")) fits.pass fits2.pass calls.1 in
+    let replies = quoted_once (reply_text e.reply) (codes "}") (reply_text f.reply) (codes "}") passes.1 in
+    entry_same f e.pass e.call e.reply passes.0 (one_call layout is e.call f.call fits.call fits2.call calls.0) (one_reply e.reply f.reply fits.reply fits2.reply replies.0)
 
 -- ---- openings
 

@@ -18,7 +18,7 @@ use Rattle.script_text.specs.Words.{found_or_unknown, record_word}
 use Rattle.script_text.specs.Replies.{phase_word}
 use Rattle.transcript_text.specs.Quoted.{escaped}
 use Rattle.transcript_text.specs.Texts.{nameless, record_text, session_text, front_text, sites_text}
-use Rattle.transcript_reader.specs.Readers.{OpeningParts, word_at, phase_at, session_at, sessions_at, sites_at, opening_parts}
+use Rattle.transcript_reader.specs.Readers.{OpeningParts, cut_at, phase_at, session_at, sessions_at, sites_at, opening_parts}
 use Rattle.transcript_reader.proofs.QuotedLemmas.{quoted_again}
 use Rattle.transcript_reader.proofs.WordLemmas.{IsWord}
 use Rattle.transcript_reader.proofs.CallLemmas.{name_again}
@@ -32,7 +32,7 @@ Read = ℕ × List ℕ
 
 -- ---- sessions
 
-word_again : (w rest : List ℕ) → IsWord w → word_at (w ++ 32 ∷ rest) ≡ Some (w, rest)
+word_again : (w rest : List ℕ) → IsWord w → cut_at 32 (w ++ 32 ∷ rest) ≡ Some (w, rest)
 word_again [] rest is = refl
 word_again (b ∷ bs) rest is = rw is.0 (ap (onto b) (word_again bs rest is.1))
 
@@ -64,7 +64,7 @@ abbrev with_name : List RecordSpec → Quoted → Option (Session × List ℕ)
 with_name records name = record_word records name.0 >>= with_record name.1
 
 abbrev with_quote : List RecordSpec → List ℕ → Option (Session × List ℕ)
-with_quote records front = word_at front >>= with_name records
+with_quote records front = cut_at 32 front >>= with_name records
 
 session_regroup : (a b c d e f g rest : List ℕ) → (a ++ (b ++ (c ++ (d ++ (e ++ (f ++ g)))))) ++ rest ≡ a ++ (b ++ (c ++ (d ++ (e ++ (f ++ (g ++ rest))))))
 session_regroup a b c d e f g rest = simp append_assoc

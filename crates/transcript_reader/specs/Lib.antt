@@ -1,4 +1,6 @@
 pub mod Unquoted
+pub mod Quoted
+pub mod Deltas
 pub mod Fits
 pub mod Words
 pub mod Readers

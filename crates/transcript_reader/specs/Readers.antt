@@ -1,4 +1,4 @@
--- The reading of lines from left to right, whatever stands between the quotes of an entry. For private clauses: that each
+-- The reading of lines from left to right, whatever stands between the quotes. For private clauses: that each
 -- text is read as what it was written for is proved in proofs/.
 use Rattle.std.specs.Prelude.{ℕ, ◌==◌, false, List, [], ◌∷◌, length, codes, if◌then◌else◌, Option, Some, None}
 use Rattle.merge_core.specs.declared.layout.RecordSpec.{RecordSpec}
@@ -13,25 +13,18 @@ use Rattle.transcript_reader.specs.Unquoted.{unescaped}
 unfoldable pub quoted_behind : List ℕ → List ℕ → Option (List ℕ × List ℕ)
 quoted_behind literal bytes = after literal bytes >>= unescaped false
 
--- what an entry has between its quotes, and its pass
-pub record EntryParts : Type 0 where
-  pub call : List ℕ
-  pub pass : ℕ
-  pub reply : List ℕ
-
-unfoldable pub entry_parts : List ℕ → Option EntryParts
-entry_parts bytes = do
-  call ← quoted_behind (codes "{\"call\":\"") bytes
-  front ← after (codes ",\"pass\":") call.1
+-- the pass of an entry, and the bytes from the reply on
+unfoldable pub pass_behind : List ℕ → Option (ℕ × List ℕ)
+pass_behind bytes = do
+  front ← after (codes ",\"pass\":") bytes
   pass ← short_at front
-  reply ← quoted_behind (codes ",\"reply\":\"") pass.1
-  rest ← after (codes "}") reply.1
-  if length rest == 0 then Some (record { call = call.0; pass = pass.0; reply = reply.0 }) else None
+  rest ← after (codes ",\"reply\":\"") pass.1
+  Some (pass.0, rest)
 
--- the bytes up to a blank, and those behind it
-abbrev pub word_at : List ℕ → Option (List ℕ × List ℕ)
-word_at [] = None
-word_at (b ∷ bs) = if b == 32 then Some ([], bs) else onto b (word_at bs)
+-- the bytes up to the first of a kind, and those behind it
+abbrev pub cut_at : ℕ → List ℕ → Option (List ℕ × List ℕ)
+cut_at k [] = None
+cut_at k (b ∷ bs) = if b == k then Some ([], bs) else onto b (cut_at k bs)
 
 -- what a session is doing, up to the closing quote
 abbrev pub first_at : {A : Type 0} → Option A → Option A → Option A
@@ -49,7 +42,7 @@ phase_at bytes =
 unfoldable pub session_at : List RecordSpec → List ℕ → Option (Session × List ℕ)
 session_at records bytes = do
   front ← after (codes "\"") bytes
-  name ← word_at front
+  name ← cut_at 32 front
   r ← record_word records name.0
   h ← number_at name.1
   blank ← after (codes " ") h.1

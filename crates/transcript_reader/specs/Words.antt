@@ -1,20 +1,19 @@
 -- What the words of a call and of a reply say. For private clauses: that each text is read as what it was written for is
 -- proved in proofs/.
-use Rattle.std.specs.Prelude.{◌≡◌, ℕ, ◌^◌, ◌==◌, nat_lt, List, [], ◌∷◌, codes, if◌then◌else◌, Option, Some, None}
+use Rattle.std.specs.Prelude.{ℕ, ◌^◌, ◌==◌, nat_lt, List, [], ◌∷◌, length, codes, if◌then◌else◌, Option, Some, None}
 use Rattle.std.specs.Str.{bytes_eq}
 use Rattle.merge_core.specs.declared.layout.RecordSpec.{RecordSpec}
 use Rattle.session_list.specs.declared.session.Phase.TheVariants.{Reader, Writer, Waiting}
 use Rattle.admission_model.specs.declared.ask.Ask.{Ask}
 use Rattle.admission_model.specs.declared.ask.Ask.TheVariants.{Read, Announce, Quill, Leave, Give, Help}
 use Rattle.admission_model.specs.declared.ask.Call.{Call}
-use Rattle.admission_model.specs.declared.ask.Call.TheVariants.{Ask as AskCall, Merge, Snapshot}
+use Rattle.admission_model.specs.declared.ask.Call.TheVariants.{Ask as AskCall, Snapshot}
 use Rattle.admission_model.specs.declared.reply.Refusal.{Refusal}
 use Rattle.admission_model.specs.declared.reply.Refusal.TheVariants.{NoRecord, BadHolder, AlreadyHere, CounterFull, WriterAnnounced, NoSeat, TooManyWriters, NotAnnounced, AlreadyInside, MissingSeats, NotHere, NoSite, ToSelf, ZeroSeats, TooFewRights, NoPlan, OtherLayout, BadRow, OwnRowAhead, Memory, Frozen, LogFull, StoreFault}
 use Rattle.admission_model.specs.declared.reply.Reply.{Reply}
 use Rattle.admission_model.specs.declared.reply.Reply.TheVariants.{Admitted, Announced, Left, Given, Gave, Merged, Refused}
 use Rattle.text_parts.specs.Readers.{◌>>=◌}
-use Rattle.script_text.specs.Words.{number_word, short_word, record_word}
-use Rattle.transcript_text.specs.Texts.{call_text}
+use Rattle.script_text.specs.Words.{words_of, number_word, short_word, record_word}
 use Rattle.transcript_reader.specs.declared.numbers.Numbers.{Numbers}
 use Rattle.transcript_reader.specs.declared.numbers.Numbers.TheVariants.{NoNumber, OneNumber, TwoNumbers}
 
@@ -32,10 +31,18 @@ numbers_in words = None
 abbrev pub below : ℕ → ℕ → Option ℕ
 below limit n = if nat_lt n limit then Some n else None
 
--- a record by its name, or `?` and its number
+-- the record of that name, if there is one
+abbrev pub record_named : List RecordSpec → List ℕ → Option ℕ
+record_named records name = record_word records name >>= λ r. if nat_lt r (length records) then Some r else None
+
+-- the number in these digits, if no record has it
+abbrev pub record_numbered : List RecordSpec → List ℕ → Option ℕ
+record_numbered records digits = short_word digits >>= λ r. if nat_lt r (length records) then None else Some r
+
+-- a record by its name, or `?` and a number that none has
 abbrev pub logged_record : List RecordSpec → List ℕ → Option ℕ
-logged_record records [] = record_word records []
-logged_record records (b ∷ bs) = if b == 63 then short_word bs else record_word records (b ∷ bs)
+logged_record records [] = record_named records []
+logged_record records (b ∷ bs) = if b == 63 then record_numbered records bs else record_named records (b ∷ bs)
 
 -- what a verb asks with a holder
 abbrev pub held_ask : List ℕ → ℕ → ℕ → Option Ask
@@ -58,11 +65,10 @@ ask_in records (verb ∷ record_name ∷ words) = do
   ask_with verb r numbers
 ask_in records words = None
 
--- any text may be read as an ask, and any other call is read from its own text alone
-abbrev pub IsReadAs : List RecordSpec → List ℕ → Call → Type 0
-IsReadAs records text (AskCall ask) = Unit {0}
-IsReadAs records text (Merge delta) = text ≡ call_text records (Merge delta)
-IsReadAs records text Snapshot = text ≡ call_text records Snapshot
+-- a call without a delta
+abbrev pub worded_call : List RecordSpec → List ℕ → Option Call
+worded_call records text =
+    if bytes_eq text (codes "send") then Some Snapshot else (ask_in records (words_of text) >>= λ ask. Some (AskCall ask))
 
 -- a refusal without numbers
 abbrev pub plain_refusal : List ℕ → Option Refusal

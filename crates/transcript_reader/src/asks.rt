@@ -1,31 +1,57 @@
 //! Calls of a site from their lines.
-ghost use Rattle.std.specs.Prelude.{◌≡◌, ◌≢◌, ◌++◌, ℕ, ◌⊎◌, ◌↔◌, IsTrue, List, Ok, Err, codes, MatchOption, IfOk};
+ghost use Rattle.std.specs.Prelude.{◌≡◌, ◌≢◌, ◌++◌, ℕ, List, codes, length, nat_lt, MatchOption};
 ghost use Rattle.merge_core.specs.declared.layout.RecordSpec.{RecordSpec};
-ghost use Rattle.merge_core.specs.Delta.{DeltaState, IsDelta};
-ghost use Rattle.delta_codec.specs.DeltaText.{delta_text};
-ghost use Rattle.admission_model.specs.declared.ask.Call.{Call as CallThere};
-ghost use Rattle.admission_model.specs.declared.ask.Call.TheVariants.{Merge, Snapshot};
 ghost use Rattle.script_text.specs.Words.{words_of};
 ghost use Rattle.transcript_text.specs.Texts.{call_text};
 ghost use Rattle.transcript_reader.specs.Fits.{FitsCall};
-ghost use Rattle.transcript_reader.specs.Words.{logged_record, held_ask, ask_with, ask_in, IsReadAs};
+ghost use Rattle.transcript_reader.specs.Quoted.{ReadsQuoted};
+ghost use Rattle.transcript_reader.specs.Words.{record_named, record_numbered, logged_record, held_ask, ask_with, ask_in, worded_call};
 
+use crate::deltas::told_at;
 use crate::numbers::{Numbers, numbers_in, short_of};
+use crate::quoted::cut_at;
 use admission_core::{Ask, Call};
-use delta_codec::{DecodeError, decode};
 use merge_core::Layout;
 use script_text::{cut_word, record_word, short_word};
-use std::alloc::{AllocError, Global};
+use std::alloc::Global;
 use text_parts::Unread;
-use transcript_text::push_call;
 
-// The record of a word.
+// Whether the layout has a record of that number.
+fn has_record(layout: &Layout, r: u16) -> bool
+    ensures { result ≡ nat_lt r (length layout.now.records) }
+{
+    usize::from(r) < layout.records().len()
+}
+
+// The record of that name, if there is one.
+fn record_named(layout: &Layout, name: &[u8]) -> Option<u16>
+    ensures { result ≡ record_named layout.now.records name.now }
+{
+    let r = record_word(layout, name)?;
+    if !has_record(layout, r) {
+        return None;
+    }
+    Some(r)
+}
+
+// The number in these digits, if no record has it.
+fn record_numbered(layout: &Layout, digits: &[u8]) -> Option<u16>
+    ensures { result ≡ record_numbered layout.now.records digits.now }
+{
+    let r = short_word(digits)?;
+    if has_record(layout, r) {
+        return None;
+    }
+    Some(r)
+}
+
+// The record of a word, which no other word stands for: its name, or `?` and a number that no record has.
 fn logged_record(layout: &Layout, word: &[u8]) -> Option<u16>
     ensures { result ≡ logged_record layout.now.records word.now }
 {
     match word {
-        [b'?', digits @ ..] => short_word(digits),
-        _ => record_word(layout, word),
+        [b'?', digits @ ..] => record_numbered(layout, digits),
+        _ => record_named(layout, word),
     }
 }
 
@@ -83,73 +109,52 @@ fn ask_in(layout: &Layout, line: &[u8]) -> Option<Ask>
     ask_with(verb, r, numbers)
 }
 
-// The call that takes the delta of a text, which need not be written again: just one text is read as a delta.
-fn merge_in(alloc: Global, bytes: &[u8]) -> Result<Call, Unread>
-    ensures sound { IfOk result (λ call. (records : List RecordSpec) → codes "take " ++ bytes.now ≡ call_text records call) }
-    ensures fits { IfOk result FitsCall }
-    ensures only { (d : DeltaState) → IsDelta d → bytes.now ≡ delta_text d → (result ≡ Ok (Merge d)) ⊎ (result ≡ Err Unread.Memory) }
-{
-    match decode(alloc, bytes) {
-        Ok(delta) => Ok(Call::Merge(delta)),
-        Err(DecodeError::Memory) => Err(Unread::Memory),
-        Err(_) => Err(Unread::Refused),
-    }
-}
-
-// The text that a line takes.
-fn taken_text(line: &[u8]) -> Option<&[u8]>
-    ensures { MatchOption result
-        ((text : List ℕ) → line.now ≢ codes "take " ++ text)
-        (λ text. line.now ≡ codes "take " ++ text.now) }
-{
-    line.strip_prefix(b"take ")
-}
-
-// The call for a snapshot.
-fn snapshot_in(text: &[u8]) -> Result<Call, Unread>
-    ensures sound { IfOk result (λ call. (records : List RecordSpec) → text.now ≡ call_text records call) }
-    ensures fits { IfOk result FitsCall }
-    ensures only { text.now ≡ codes "send" → result ≡ Ok Snapshot }
+// A call without a delta.
+fn worded_call(layout: &Layout, text: &[u8]) -> Option<Call>
+    ensures { result ≡ worded_call layout.now.records text.now }
 {
     if text == b"send".as_slice() {
-        return Ok(Call::Snapshot);
+        return Some(Call::Snapshot);
     }
-    Err(Unread::Refused)
+    let ask = ask_in(layout, text)?;
+    Some(Call::Ask(ask))
 }
 
-/// The call that a text is read as. Linear in the text, and an ask in the records, among which its name is looked up. A text
-/// that is that of no call may be read as an ask, which [`is_call_text`] tells.
-pub(crate) fn call_in(alloc: Global, layout: &Layout, text: &[u8]) -> Result<Call, Unread>
-    ensures sound { IfOk result (IsReadAs layout.now.records text.now) }
-    ensures fits { IfOk result FitsCall }
-    ensures only { (call : CallThere) → FitsCall call → text.now ≡ call_text layout.now.records call → (result ≡ Ok call) ⊎ (result ≡ Err Unread.Memory) }
+// The bytes behind the verb that takes a delta.
+fn taken_text(bytes: &[u8]) -> Option<&[u8]>
+    ensures { MatchOption result
+        ((text : List ℕ) → bytes.now ≢ codes "take " ++ text)
+        (λ text. bytes.now ≡ codes "take " ++ text.now) }
+{
+    bytes.strip_prefix(b"take ")
+}
+
+// The call that takes the delta whose text stands up to the closing quote, and the bytes behind it.
+fn merge_at(alloc: Global, bytes: &[u8]) -> Result<(Call, &[u8]), Unread>
+    ensures { (records : List RecordSpec) → ReadsQuoted (λ x. (x.0, x.1.now)) FitsCall (call_text records) (codes "take " ++ bytes.now) result }
+{
+    match told_at(alloc, bytes) {
+        Ok((delta, rest)) => Ok((Call::Merge(delta), rest)),
+        Err(e) => Err(e),
+    }
+}
+
+/// The call whose text stands up to the closing quote, and the bytes behind it. Linear in the text, and for an ask in the
+/// records, among which its name is looked up. Just one text is read as a call.
+pub(crate) fn call_at<'a>(
+    alloc: Global,
+    layout: &Layout,
+    bytes: &'a [u8],
+) -> Result<(Call, &'a [u8]), Unread>
+    ensures { ReadsQuoted (λ x. (x.0, x.1.now)) FitsCall (call_text layout.now.records) bytes.now result }
 {
     let _ = layout.sites(); // tells the invariant: no two records have one name
-    if let Some(delta) = taken_text(text) {
-        return merge_in(alloc, delta);
+    if let Some(delta) = taken_text(bytes) {
+        return merge_at(alloc, delta);
     }
-    if let Some(ask) = ask_in(layout, text) {
-        return Ok(Call::Ask(ask));
-    }
-    snapshot_in(text)
-}
-
-/// Whether the text is that of the call that it was read as. An ask is written into `written` to see it. Linear in the text.
-pub(crate) fn is_call_text(
-    written: &mut String,
-    layout: &Layout,
-    call: &Call,
-    text: &[u8],
-) -> Result<bool, AllocError>
-    requires { IsReadAs layout.now.records text.now call.now }
-    ensures { IfOk result (λ b. IsTrue b ↔ (text.now ≡ call_text layout.now.records call.now)) }
-{
-    match call {
-        Call::Ask(_) => {
-            written.clear();
-            push_call(written, layout, call)?;
-            Ok(written.as_bytes() == text)
-        }
-        Call::Merge(_) | Call::Snapshot => Ok(true),
+    let (text, rest) = cut_at(b'"', bytes)?;
+    match worded_call(layout, text) {
+        Some(call) => Ok((call, rest)),
+        None => Err(Unread::Refused),
     }
 }

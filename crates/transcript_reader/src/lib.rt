@@ -6,6 +6,7 @@ pub use reading::{ReadError, read_transcripts};
 pub use runs::SiteRun;
 
 mod asks;
+mod deltas;
 mod entries;
 pub mod laws;
 mod numbers;

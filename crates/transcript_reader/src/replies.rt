@@ -1,18 +1,16 @@
 //! Replies from their texts.
-ghost use Rattle.std.specs.Prelude.{◌≡◌, ◌⊎◌, Ok, Err, [], MatchOption, IfOk};
-ghost use Rattle.merge_core.specs.Delta.{DeltaState, IsDelta};
-ghost use Rattle.delta_codec.specs.DeltaText.{delta_text};
-ghost use Rattle.admission_model.specs.declared.reply.Reply.{Reply as ReplyThere};
-ghost use Rattle.admission_model.specs.declared.reply.Reply.TheVariants.{Snapshot};
+ghost use Rattle.std.specs.Prelude.{◌≡◌, ◌≢◌, ◌∷◌, [], ℕ, List, MatchOption};
 ghost use Rattle.script_text.specs.Words.{words_of};
 ghost use Rattle.script_text.specs.Replies.{reply_text};
 ghost use Rattle.transcript_reader.specs.Fits.{FitsReply};
+ghost use Rattle.transcript_reader.specs.Quoted.{ReadsQuoted};
 ghost use Rattle.transcript_reader.specs.Words.{plain_refusal, other_plain_refusal, refusal_with, refusal_of, counted_reply, left_reply, refused_reply, reply_in};
 
+use crate::deltas::told_at;
 use crate::numbers::{Numbers, middle_of, numbers_in, short_of};
+use crate::quoted::cut_at;
 use admission_core::{Phase, Refusal, Reply};
-use delta_codec::{DecodeError, decode};
-use script_text::{cut_word, push_reply};
+use script_text::cut_word;
 use std::alloc::Global;
 use text_parts::Unread;
 
@@ -209,42 +207,36 @@ fn worded_reply(text: &[u8]) -> Option<Reply>
     counted_reply(word, numbers)
 }
 
-// The reply, if the text is its text.
-fn written_reply(written: &mut String, reply: Reply, text: &[u8]) -> Result<Reply, Unread>
-    ensures sound { IfOk result (λ it. text.now ≡ reply_text it) }
-    ensures same { IfOk result (λ it. it ≡ reply) }
-    ensures only { text.now ≡ reply_text reply → (result ≡ Ok reply) ⊎ (result ≡ Err Unread.Memory) }
+// The bytes behind the brace with which the text of a delta begins, and that of no other reply.
+fn behind_brace(bytes: &[u8]) -> Option<&[u8]>
+    ensures { MatchOption result
+        ((behind : List ℕ) → bytes.now ≢ 123 ∷ behind)
+        (λ behind. bytes.now ≡ 123 ∷ behind.now) }
 {
-    written.clear();
-    push_reply(written, &reply)?;
-    if written.as_bytes() == text {
-        return Ok(reply);
-    }
-    Err(Unread::Refused)
+    bytes.strip_prefix(b"{")
 }
 
-// A snapshot, by its delta's text, which need not be written again: just one text is read as a delta.
-fn told_reply(alloc: Global, bytes: &[u8]) -> Result<Reply, Unread>
-    ensures sound { IfOk result (λ reply. bytes.now ≡ reply_text reply) }
-    ensures fits { IfOk result FitsReply }
-    ensures only { (d : DeltaState) → IsDelta d → bytes.now ≡ delta_text d → (result ≡ Ok (Snapshot d)) ⊎ (result ≡ Err Unread.Memory) }
+// A snapshot, by the text of its delta up to the closing quote, and the bytes behind it.
+fn snapshot_at(alloc: Global, bytes: &[u8]) -> Result<(Reply, &[u8]), Unread>
+    ensures { (behind : List ℕ) → bytes.now ≡ 123 ∷ behind → ReadsQuoted (λ x. (x.0, x.1.now)) FitsReply reply_text bytes.now result }
 {
-    match decode(alloc, bytes) {
-        Ok(delta) => Ok(Reply::Snapshot(delta)),
-        Err(DecodeError::Memory) => Err(Unread::Memory),
-        Err(_) => Err(Unread::Refused),
+    match told_at(alloc, bytes) {
+        Ok((delta, rest)) => Ok((Reply::Snapshot(delta), rest)),
+        Err(e) => Err(e),
     }
 }
 
-/// The reply whose text this is. What any reply but a snapshot is compared with is written into `written`. Linear in the
-/// text.
-pub(crate) fn reply_in(alloc: Global, written: &mut String, text: &[u8]) -> Result<Reply, Unread>
-    ensures sound { IfOk result (λ reply. text.now ≡ reply_text reply) }
-    ensures fits { IfOk result FitsReply }
-    ensures only { (reply : ReplyThere) → FitsReply reply → text.now ≡ reply_text reply → (result ≡ Ok reply) ⊎ (result ≡ Err Unread.Memory) }
+/// The reply whose text stands up to the closing quote, and the bytes behind it. Linear in the text. Just one text is read as
+/// a reply.
+pub(crate) fn reply_at(alloc: Global, bytes: &[u8]) -> Result<(Reply, &[u8]), Unread>
+    ensures { ReadsQuoted (λ x. (x.0, x.1.now)) FitsReply reply_text bytes.now result }
 {
+    if let Some(_) = behind_brace(bytes) {
+        return snapshot_at(alloc, bytes);
+    }
+    let (text, rest) = cut_at(b'"', bytes)?;
     match worded_reply(text) {
-        Some(reply) => written_reply(written, reply, text),
-        None => told_reply(alloc, text),
+        Some(reply) => Ok((reply, rest)),
+        None => Err(Unread::Refused),
     }
 }

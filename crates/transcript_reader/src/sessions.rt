@@ -2,24 +2,14 @@
 ghost use Rattle.std.specs.Prelude.{◌≡◌, length};
 ghost use Rattle.script_text.specs.Words.{record_word};
 ghost use Rattle.text_parts.specs.Readers.{Gives, joined_at};
-ghost use Rattle.transcript_reader.specs.Readers.{word_at, phase_after, phase_at, session_at, sessions_at};
+ghost use Rattle.transcript_reader.specs.Readers.{phase_after, phase_at, session_at, sessions_at};
 
+use crate::quoted::cut_at;
 use admission_core::{Phase, Session};
-use memchr::memchr;
 use merge_core::Layout;
 use script_text::record_word;
 use std::alloc::Global;
 use text_parts::{Unread, after, behind_comma, number_at};
-
-// The bytes up to a blank, and those behind it.
-fn word_at(bytes: &[u8]) -> Result<(&[u8], &[u8]), Unread>
-    ensures { Gives (λ x. (x.0.now, x.1.now)) result (word_at bytes.now) }
-{
-    match memchr(b' ', bytes) {
-        Some(end) => Ok((&bytes[..end], &bytes[end + 1..])),
-        None => Err(Unread::Refused),
-    }
-}
 
 // A phase behind its word.
 fn phase_after<'a>(
@@ -63,7 +53,7 @@ fn session_at<'a>(layout: &Layout, bytes: &'a [u8]) -> Result<(Session, &'a [u8]
     ensures { Gives (λ x. (x.0, x.1.now)) result (session_at layout.now.records bytes.now) }
 {
     let rest = after(b"\"", bytes)?;
-    let (name, rest) = word_at(rest)?;
+    let (name, rest) = cut_at(b' ', rest)?;
     let r = named_record(layout, name)?;
     let (h, rest) = number_at(rest)?;
     let rest = after(b" ", rest)?;

@@ -1,7 +1,14 @@
 use Rattle.std.proofs.Common.{◌≤◌, ◌+◌, length, refl, arith}
 use Rattle.std.proofs.lemmas.List.{length-take-le}
-use Rattle.log_replay.proofs.RunCode.{followed_less, followed_over, here_told}
+use Rattle.log_replay.proofs.RunCode.{first_stands, followed_less, followed_over, here_told}
 use Rattle.log_replay.proofs.entries.follow_past.Goals as goal
+
+pub own_rows-requires : goal.own_rows-requires
+own_rows-requires c =
+    let k = c.args.mark.now.left in
+    let fits : k ≤ length c.args.entries.now = omega (arith, c.if-mark-all.false) in
+    let followed = c.in_ok-n.ensures.followed c.requires.0 c.requires.1 in
+    (followed.reached, first_stands c.requires.0 c.args.entries.now k c.in_ok-n.n c.follow-2.new.core c.if-n-until.false (length-take-le k c.args.entries.now fits) followed)
 
 pub returns-then-n-until-clause-followed : goal.returns-then-n-until-clause-followed
 returns-then-n-until-clause-followed c =

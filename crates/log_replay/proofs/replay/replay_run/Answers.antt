@@ -3,7 +3,7 @@ use Rattle.std.proofs.lemmas.Result.{IfOk-weaker}
 use Rattle.merge_core.specs.Layout.{LayoutState}
 use Rattle.admission_core.specs.Core.{Core}
 use Rattle.log_replay.specs.Legal.{started}
-use Rattle.log_replay.proofs.RunCode.{followed_layout, run_bad, run_goes, run_mark}
+use Rattle.log_replay.proofs.RunCode.{followed_layout, run_bad, run_stands, run_goes, run_mark}
 use Rattle.log_replay.proofs.replay.replay_run.Goals as goal
 
 pub returns-then-not-branch-clause-end : goal.returns-then-not-branch-clause-end
@@ -13,10 +13,12 @@ returns-then-not-branch-clause-end c = λ a stands.
 
 pub next_core-requires : goal.next_core-requires
 next_core-requires c =
+    let a = c.requires.there.0 in
+    let es = c.as_slice-entries.result.now in
+    let followed = c.in_ok-n.ensures.followed a c.requires.there.1 in
+    let stands = run_stands a es c.in_ok-n.n c.follow_past.new.core c.in_ok-may_end.field-0 followed c.in_ok-may_end.ensures.answer c.if-not-branch.false in
     ap (λ (x : Core). x.layout.records) c.in_ok-may_end.ensures.content
-    ∙ (ap (λ (l : LayoutState). l.records)
-    (followed_layout c.requires.there.0 c.as_slice-entries.result.now c.in_ok-n.n c.args.core c.follow_past.new.core c.requires.there.1 (c.in_ok-n.ensures.followed c.requires.there.0 c.requires.there.1))
-    ∙ c.requires.records)
+    ∙ (ap (λ (l : LayoutState). l.records) (followed_layout a es c.in_ok-n.n c.args.core c.follow_past.new.core c.requires.there.1 followed stands) ∙ c.requires.records)
 
 pub returns-clause-end : goal.returns-clause-end
 returns-clause-end c =
