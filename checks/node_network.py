@@ -64,7 +64,8 @@ class PeersLinks:
 
     def __init__(self, folder, sites, insider):
         self.folder, self.sites = folder, range(sites)
-        ours, theirs = Authority(folder / "ours"), Authority(folder / "theirs")
+        self.ours = ours = Authority(folder / "ours")
+        theirs = Authority(folder / "theirs")
         self.authority = ours.certificate
         self.given = [ours.give(f"site-{site}.{GROUP}.zinduroi") for site in self.sites]
         self.other = (ours if insider else theirs).give(f"site-0.{GROUP}.zinduroi")

@@ -153,10 +153,11 @@ def moved(program, work):
     service.reads(10)
     for end in ("", "-wal"):
         os.rename(f"{work}/moved.db{end}", f"{work}/to.db{end}")
-    tell(service.reads(10, 10) is None, "a store that is moved while it is served: the service goes on in the moved file")
+    tell((service.call("read a 10"), service.call("read a 11")) == ("refused StoreFault", "refused Frozen"),
+         "a store that is moved while it is served: the next line is answered StoreFault, and the others Frozen")
     tell(kept(program, f"{work}/moved.db") == "store refused NoStore 5", "nothing is at the old path: NoStore")
     tell(kept(program, f"{work}/to.db") == "store refused InUse 5", "the moved store is in use")
-    tell(service.end() == "0" and kept(program, f"{work}/to.db") == service.admitted, "and has all that was answered")
+    tell(service.end() == "5" and kept(program, f"{work}/to.db") == service.admitted, "the status is 5, and the moved store has all that was answered")
 
 
 def removed(program, work):
@@ -164,8 +165,9 @@ def removed(program, work):
     service.reads(10)
     for end in ("", "-wal"):
         os.remove(f"{work}/removed.db{end}")
-    tell(service.reads(10, 10) is None and service.end() == "0", "a store that is removed while it is served: the service goes on, and ends with 0")
-    tell(kept(program, f"{work}/removed.db") == "store refused NoStore 5", "but nothing is kept: NoStore at the next start")
+    tell((service.call("read a 10"), service.call("read a 11"), service.end()) == ("refused StoreFault", "refused Frozen", "5"),
+         "a store that is removed while it is served: the next line is answered StoreFault, the others Frozen, and the status is 5")
+    tell(kept(program, f"{work}/removed.db") == "store refused NoStore 5", "nothing is kept: NoStore at the next start")
 
 
 def copied(program, work, rng):

@@ -87,7 +87,10 @@ class Store:
 
     def lock(self, wait):
         """Locks the file, which is made if it is not there."""
-        self.file = os.open(self.path, os.O_RDWR | os.O_CREAT, 0o644)
+        try:
+            self.file = os.open(self.path, os.O_RDWR | os.O_CREAT, 0o644)
+        except OSError:
+            raise Ends(5, "store refused StoreFault") from None
         end = time.monotonic() + wait
         while True:
             try:
@@ -102,8 +105,8 @@ class Store:
             self.base.execute("PRAGMA synchronous = OFF")
             return [name for name, in self.base.execute("SELECT name FROM sqlite_schema WHERE type = 'table'")]
         except sqlite3.DatabaseError as fault:
-            locked = isinstance(fault, sqlite3.OperationalError)
-            raise Ends(5, f"store refused {'InUse' if locked else 'NotAStore'}") from None
+            fails = "StoreFault" if isinstance(fault, sqlite3.OperationalError) else "NotAStore"
+            raise Ends(5, f"store refused {'InUse' if 'locked' in str(fault) else fails}") from None
 
     def is_there(self):
         """Opens the file, and says whether it has a store."""
@@ -193,6 +196,18 @@ class Store:
     # Lines
 
     def answer(self, line):
+        """The reply to a line: `StoreFault` where the store's file fails, or is no longer at its path."""
+        try:
+            here, there = os.fstat(self.file), os.stat(self.path)
+            if (here.st_dev, here.st_ino) == (there.st_dev, there.st_ino):
+                return self.carry_out(line)
+        except (OSError, sqlite3.Error):
+            if self.frozen:
+                return "refused Frozen"
+        self.frozen = True
+        return "refused StoreFault"
+
+    def carry_out(self, line):
         """The reply to a line, behind its commit."""
         if line.startswith(b"take "):
             return rules.reply(self.take, line[5:])
@@ -275,6 +290,7 @@ def serve(given):
     store.base.close()
     if store.outdated:
         raise Ends(5, "store refused Outdated")
+    return 5 if store.frozen else 0
 
 
 def ask(given, words):

@@ -694,8 +694,8 @@ class Restarts(NodeCase):
         time.sleep(2)
         os.kill(service, signal.SIGKILL)
         errors = second.communicate(timeout=30)[1]
-        # Where the first one was faster it has its store again.
-        self.assertIn(errors, (f"zinduroi: {self.folder}/0.db.sessions: database is locked\n", "zinduroi: store refused InUse\n"))
+        # Where the first one was faster it has its store again. On a busy machine the second one says first that it waits.
+        self.assertIn(f"{errors.splitlines()[-1]}\n", (f"zinduroi: {self.folder}/0.db.sessions: database is locked\n", "zinduroi: store refused InUse\n"))
         self.assertEqual(second.returncode, 1)
         self.says(client, ("sessions a", "1 x reader"))
 

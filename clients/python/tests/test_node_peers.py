@@ -128,6 +128,7 @@ class Faults(Nodes):
 
     def test_constructor(self):
         foreign = Authority(self.folder / "other").give(f"site-0.{GROUP}.zinduroi")
+        late = self.authority.give("late", f"site-0.{GROUP}.zinduroi", days=-1)
         none = self.folder / "none.pem"
         for kind, change, fault in (
                 (ConfigError, {"listen": "nowhere"}, ": 'nowhere' is no address of the form host:port"),
@@ -135,6 +136,7 @@ class Faults(Nodes):
                 (ConfigError, {"plain": True}, ": plain goes without certificates"),
                 (ConfigError, {"certificate": str(self.given[1][0]), "key": str(self.given[1][1])}, f": the certificate has no name site-0.{GROUP}.zinduroi"),
                 (ConfigError, {"certificate": str(foreign[0]), "key": str(foreign[1])}, ": the certificate: unable to get local issuer certificate"),
+                (TransportNotMade, {"certificate": str(late[0]), "key": str(late[1])}, ": the certificate: certificate has expired, by this machine's clock"),
                 (TransportNotMade, {"certificate": str(none)}, f": certificate {none} and key "),
                 (TransportNotMade, {"key": str(self.given[1][1])}, ": certificate "),
                 (TransportNotMade, {"authority": str(none)}, f": authority {none}: "),

@@ -53,11 +53,11 @@ class Authority:
 
 
 class Middle:
-    """Passes connections on to a port, until they are cut; counts the bytes."""
+    """Passes connections on to a port, until they are cut; counts the bytes. What is read waits for `pause` seconds."""
 
     def __init__(self, port):
         self.to = port
-        self.open, self.bytes = True, 0
+        self.open, self.bytes, self.pause = True, 0, 0.0
         self.pairs, self.all, self.threads = [], [], []
         self.listener = socket.create_server(("127.0.0.1", 0))
         self.port = self.listener.getsockname()[1]
@@ -90,6 +90,8 @@ class Middle:
     def _pass(self, source, sink):
         try:
             while data := source.recv(65_536):
+                if self.pause:
+                    time.sleep(self.pause)
                 sink.sendall(data)
                 self.bytes += len(data)
         except OSError:

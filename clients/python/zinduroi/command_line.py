@@ -12,7 +12,7 @@ from .errors import ZinduroiError
 from .node.client import DEFAULT_SOCKET, NodeClient, NodeGone
 from .node.lock import HELP, NO_NODE, run_lock
 from .recover import add_recover, run_recover
-from .watch import add_watch, rows_of, run_watch, table
+from .watch import add_watch, fault_lines, rows_of, run_watch, table
 
 # Exit statuses of sysexits.h: the configuration is wrong.
 BAD_CONFIG = 78
@@ -169,13 +169,13 @@ def run_status(client: NodeClient, as_json: bool) -> int:
 
 def status_text(state: Dict[str, Any], now: float) -> str:
     """The table of a state, who waits, and the sessions of no connection."""
-    lines = [table(rows_of([state], now))]
+    lines = [table(rows_of([state], now)), *fault_lines(state)]
     for record, shown in state["records"].items():
         if shown["queue"]:
             lines.append(f"wait for {record}: {', '.join(shown['queue'])}")
     for it in state["callers"]:
         if not it["connected"]:
-            of = f"entered {now - it['since']:.0f} s ago by process {it['pid']}" if it["known"] else "of nobody that this node knows"
+            of = f"entered {max(0.0, now - it['since']):.0f} s ago by process {it['pid']}" if it["known"] else "of nobody that this node knows"
             kept = ", kept" if it["known"] and it["kept"] else ""
             lines.append(f"without a connection: {it['record']} {it['holder']} {it['phase']}, {of}{kept}")
     lines += [_peer_text(it) for it in state.get("peers", [])]

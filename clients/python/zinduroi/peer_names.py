@@ -9,8 +9,14 @@ from typing import Any, Collection, Mapping, Optional, Tuple
 
 from .peer_texts import SITES
 
-# What OpenSSL says of a certificate that has another name: X509_V_ERR_HOSTNAME_MISMATCH.
+# What OpenSSL says of a certificate that has another name: X509_V_ERR_HOSTNAME_MISMATCH; .. that is not valid yet, or no more:
+# X509_V_ERR_CERT_NOT_YET_VALID, X509_V_ERR_CERT_HAS_EXPIRED.
 OTHER_NAME = 62
+OUT_OF_DATE = (9, 10)
+
+
+class OutOfDate(ValueError):
+    """A certificate is out of date by this machine's clock, which may be wrong."""
 
 
 @dataclasses.dataclass(frozen=True)
@@ -95,7 +101,7 @@ def tls_contexts(authority: str, certificate: str, key: str) -> Tuple[ssl.SSLCon
 
 def check_own(server: ssl.SSLContext, client: ssl.SSLContext, site: int, group: Optional[str]) -> None:
     """Has both contexts shake hands in memory, as two peers would. Raises `ValueError` if the certificate is not of the
-    authority, is out of date, or does not name this site alone."""
+    authority or does not name this site alone, and its subclass `OutOfDate` if it is that."""
     to_server, to_client = ssl.MemoryBIO(), ssl.MemoryBIO()
     sides = [client.wrap_bio(to_client, to_server, server_hostname=name_of(site, group)),
              server.wrap_bio(to_server, to_client, server_side=True)]
@@ -110,6 +116,7 @@ def check_own(server: ssl.SSLContext, client: ssl.SSLContext, site: int, group: 
             except ssl.SSLCertVerificationError as error:
                 if error.verify_code == OTHER_NAME:
                     raise ValueError(f"the certificate has no name {name_of(site, group)}") from error
-                raise ValueError(f"the certificate: {error.verify_message}") from error
+                kind = OutOfDate if error.verify_code in OUT_OF_DATE else ValueError
+                raise kind(f"the certificate: {error.verify_message}") from error
     if waiting or site_in(sides[1].getpeercert() or {}, group) != site:
         raise ValueError(f"the certificate does not name {name_of(site, group)} alone")

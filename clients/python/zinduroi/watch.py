@@ -95,10 +95,16 @@ def watch_node(path: str, interval: float, once: bool) -> int:
     """Shows the state that a node tells."""
     with NodeClient(path) as client:
         while True:
-            show(table(rows_of([client.status()], time.time())), once)
+            state = client.status()
+            show("\n".join([table(rows_of([state], time.time())), *fault_lines(state)]), once)
             if once:
                 return 0
             time.sleep(interval)
+
+
+def fault_lines(state: Dict[str, Any]) -> List[str]:
+    """Why nobody gets in at a node, where it tells that."""
+    return [f"nobody gets in: {state['fault']}"] if state.get("fault") else []
 
 
 def parser() -> argparse.ArgumentParser:

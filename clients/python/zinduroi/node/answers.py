@@ -63,6 +63,7 @@ class Answers:
         self.tally = Tally()
         self.group: Optional[str] = None
         self._more = more
+        self._book_failure: Optional[str] = None
         self._sends = asyncio.Semaphore(SENDS)
         self._calls: Dict[str, Callable[[Caller, Call], Awaitable[str]]] = {
             "read": self._enter, "announce": self._enter, "write": self._write, "leave": self._leave, "fence": self._fence,
@@ -84,7 +85,7 @@ class Answers:
                 return "refused NoRecord"
             return await (self._calls[asked.verb] if asked.wait is None else self._wait)(caller, asked)
         except (sqlite3.Error, NumbersUsedUp) as fault:
-            report(f"the file of sessions: {fault}")
+            self._note_book(str(fault))
             return "refused BookFault"
 
     async def end(self, caller: Caller) -> None:
@@ -100,20 +101,46 @@ class Answers:
         for session in self.book.tied_to(caller):
             session.tied = None
 
+    def book_failure(self) -> Optional[str]:
+        """Why the file of sessions can't be written, so that nobody gets in; `None` where it can. It is tried once a write has failed."""
+        if self._book_failure is not None:
+            try:
+                self.book.try_out()
+                self._note_book(None)
+            except (sqlite3.Error, NumbersUsedUp) as fault:
+                self._note_book(str(fault))
+        return self._book_failure
+
+    def _note_book(self, failure: Optional[str]) -> None:
+        """A write of the file of sessions has failed, or gone well. Of many that fail the operator is told the first."""
+        before, self._book_failure = self._book_failure, failure
+        if failure is not None and before is None:
+            report(f"the file of sessions can't be written, and nobody gets in: {failure}")
+        elif failure is None and before is not None:
+            report("the file of sessions can be written again")
+
     async def status(self) -> Dict[str, object]:
         """The state of the site and of its sessions, for JSON."""
         records: Dict[str, object] = {}
+        refused = None
         for record in self.records:
-            words = (await self.link.ask_until(f"show {record}")).split(" ")
-            listed = await self.link.ask_until(f"sessions {record}")
-            if words[0] != "refused" and not listed.startswith("refused"):
+            shown, listed = await self.link.ask_until(f"show {record}"), await self.link.ask_until(f"sessions {record}")
+            words = shown.split(" ")
+            if words[0] == "refused" or listed.startswith("refused"):
+                refused = refused or (shown if words[0] == "refused" else listed)
+            else:
                 records[record] = {"rights": int(words[1]), "inside": int(words[3]), "unfinished": int(words[5]),
                                    "sessions": [[self.book.word_of(record, number), phase] for number, phase in stored_sessions(listed)],
                                    "queue": self.queues.words(record)}
         sessions = [{"record": it.record, "holder": it.word, "number": it.number, "phase": it.phase, "since": it.since,
                      "entered": it.entered, "pid": it.pid,
                      "connected": it.tied is not None, "kept": it.kept, "known": it.known} for it in self.book.sessions()]
-        return {"site": self.link.site.site, "time": time.time(), "records": records, "callers": sessions, **self._more()}
+        failure = self.book_failure()
+        fault = None if failure is None else f"the file of sessions can't be written: {failure}"
+        if refused is not None:
+            froze = self.link.site.froze
+            fault = f"the store answers {refused}" + (f", behind {froze}" if froze else "")
+        return {"site": self.link.site.site, "time": time.time(), "records": records, "callers": sessions, "fault": fault, **self._more()}
 
     # Lines of the program
 
@@ -146,6 +173,7 @@ class Answers:
         if before is not None:
             return "refused AlreadyHere"
         session = self.book.begin(call.record, call.word, caller.token, caller, caller.pid)
+        self._note_book(None)
         if call.word is None:
             caller.chosen[call.record] = session
         return session

@@ -112,6 +112,15 @@ class Book:
         """The end of this connection ends these sessions from now on."""
         self._set_kept(sessions, False, to)
 
+    def try_out(self) -> None:
+        """Writes to the file what changes nothing there. Raises as `begin` does."""
+        if self._next > LAST_NUMBER:
+            raise NumbersUsedUp("all numbers of holders have been given")
+        with self._file:
+            self._file.execute("BEGIN")
+            self._file.execute("INSERT INTO numbers VALUES (0)")
+            self._file.execute("DELETE FROM numbers WHERE next = 0")
+
     def find(self, record: str, word: str) -> Optional[Session]:
         """The session of a word."""
         return self._by_word.get((record, word))

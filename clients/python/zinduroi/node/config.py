@@ -60,7 +60,8 @@ class Config:
 
 
 class TransportNotMade(ZinduroiError):
-    """A transport can't be made now: a file can't be read, or a port is in use. The text names the place and the cause."""
+    """A transport can't be made now: a file can't be read, a port is in use, or a certificate is out of date by the clock. The text
+    names the place and the cause."""
 
 
 class Table:
@@ -180,8 +181,13 @@ def _peer(table: Table) -> "Tuple[int, Peer]":
 
 def _made(table: Table, make: Callable[[], Transport]) -> Transport:
     """A transport. What the table can't mean is a `ConfigError`, and what may be otherwise at the next start a `TransportNotMade`."""
+    # Here, as no other transport needs certificates.
+    from ..peer_names import OutOfDate
+
     try:
         return make()
+    except OutOfDate as error:
+        raise TransportNotMade(str(table.fault("", f"{error}, by this machine's clock"))) from None
     except ValueError as error:
         raise table.fault("", str(error)) from None
     except OSError as error:

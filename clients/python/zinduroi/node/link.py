@@ -15,6 +15,11 @@ from .seats import sender_of
 STORE_WAIT = 10.0
 # The longest pause, in seconds, between two starts of a service that doesn't start.
 LONGEST_PAUSE = 5.0
+# Replies behind which a site serves no more, and what an operator has to do.
+FREEZE_MENDED = {"StoreFault": "its disk is mended, or its file is put back to its path, and the node is started again",
+                 "OwnRowAhead": "its newest store is put back: this one is old, or was begun twice"}
+FREEZE = tuple(f"refused {name}" for name in FREEZE_MENDED)
+LOOKED_AT = 100
 
 
 class Interrupted(Exception):
@@ -23,7 +28,7 @@ class Interrupted(Exception):
 
 class NodeSite(Site):
     """A site that tells when a delta has brought something new, and when a call of its own found that the service had ended, as those of
-    the exchange. `last_sent` is its own last delta, and `heard` the last one that each site made, with the time when it was taken."""
+    the exchange. The operator is told, once for each service, that it has frozen; `froze` is the reply behind which it did. `last_sent` is its own last delta, and `heard` the last one that each site made, with the time when it was taken."""
 
     def __init__(self, store: Path, site: int, layout: Optional[Path], group: Optional[str], create: bool, log: Optional[Path],
                  program: Union[str, Sequence[str]]) -> None:
@@ -32,11 +37,25 @@ class NodeSite(Site):
         self.ended: Callable[[ZinduroiError], None] = lambda why: None
         self.last_sent: Optional[str] = None
         self.heard: Dict[int, Tuple[str, float]] = {}
+        self.froze: Optional[str] = None
+
+    def reopen(self, wait: Optional[float] = None) -> bool:
+        opened = super().reopen(wait)
+        if opened:
+            self.froze = None
+        return opened
+
+    def look_at(self, reply: str) -> None:
+        """Tells the operator of a reply behind which the site serves no more."""
+        if self.froze is None and reply.startswith(FREEZE):
+            self.froze = reply
+            report(f"the store answers {reply}: nobody gets in or out at this site, until {FREEZE_MENDED[reply.split(' ')[1]]}")
 
     def _answers(self, call: Call, stays: bool = False) -> List[str]:
         try:
             return super()._answers(call, stays)
-        except Refused:
+        except Refused as refused:
+            self.look_at(str(refused))
             raise
         except ZinduroiError as why:
             self.ended(why)
@@ -88,6 +107,7 @@ class Link:
             failure = closed
         if failure is None:
             self.timed(line, time.monotonic() - began)
+            self.site.look_at(call.replies[0][:LOOKED_AT])
             return call.replies[0]
         await self._reopen(failure)
         raise Interrupted

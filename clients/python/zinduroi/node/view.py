@@ -55,7 +55,10 @@ class View:
         if looked is None:
             return False, f"the program has not answered for {PATIENCE:g} seconds"
         if looked[0].startswith("refused"):
-            return False, f"the store answers: {looked[0]}"
+            return False, f"the store answers: {looked[0]}" + (f", behind {self.site.froze}" if self.site.froze else "")
+        unwritten = self.answers.book_failure()
+        if unwritten is not None:
+            return False, f"the file of sessions can't be written: {unwritten}"
         failure = None if self.exchange is None else self.exchange.failure
         if isinstance(failure, (Frozen, OwnRowAhead, StoreFault)):
             return False, f"the exchange has ended: {failure}"

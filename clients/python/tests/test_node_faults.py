@@ -1,0 +1,121 @@
+"""What a node tells an operator where its store or its file of sessions fails, or its clock is wrong."""
+import asyncio
+import contextlib
+import io
+import os
+import time
+import unittest.mock
+
+from zinduroi.command_line import status_text
+from zinduroi.node.answers import Answers, Caller
+from zinduroi.node.book import Book
+from zinduroi.watch import watch_node
+
+from .common import Case
+from .test_node import ListedLink, NodeCase
+from .test_page import StubLink, stub_view
+
+
+class Books(Case):
+    """A file of sessions that can't be written, as on a full disk: nobody gets in, and everything that tells of the node tells that."""
+
+    def setUp(self):
+        super().setUp()
+        self.book = Book(self.folder / "s.db.sessions")
+        self.addCleanup(self.book.close)
+
+    def fill(self):
+        """From now on no row can be added."""
+        for table in ("numbers", "sessions"):
+            self.book._file.execute(f"CREATE TRIGGER full_{table} BEFORE INSERT ON {table} BEGIN SELECT RAISE(FAIL, 'full'); END")
+
+    def free(self):
+        for table in ("numbers", "sessions"):
+            self.book._file.execute(f"DROP TRIGGER full_{table}")
+
+    def test_told_until_it_can_be_written(self):
+        link, told = ListedLink(*["rights 3 inside 0 unfinished 0", "0"] * 3), []
+        answers, caller = Answers(link, self.book, ("a",), dict), Caller(1, lambda: False)
+
+        async def converse():
+            self.assertIsNone((await answers.status())["fault"])
+            self.fill()
+            for _ in range(20):
+                self.assertEqual(await answers.answer(caller, b"read a x"), "refused BookFault")
+            self.assertEqual((await answers.status())["fault"], "the file of sessions can't be written: full")
+            self.assertEqual(answers.book_failure(), "full")
+            self.free()
+            self.assertIsNone((await answers.status())["fault"])
+        with unittest.mock.patch("zinduroi.node.answers.report", told.append):
+            asyncio.run(converse())
+        self.assertEqual(told, ["the file of sessions can't be written, and nobody gets in: full", "the file of sessions can be written again"])
+        self.assertEqual(self.book.sessions(), [])
+
+    def test_told_by_the_next_caller(self):
+        """Who gets in again shows that it can be written."""
+        link, told = ListedLink("admitted", "left reader"), []
+        answers, caller = Answers(link, self.book, ("a",), dict), Caller(1, lambda: False)
+
+        async def converse():
+            self.fill()
+            await answers.answer(caller, b"read a x")
+            self.free()
+            self.assertEqual(await answers.answer(caller, b"read a x"), "admitted")
+            await answers.end(caller)
+        with unittest.mock.patch("zinduroi.node.answers.report", told.append):
+            asyncio.run(converse())
+        self.assertEqual(told[1:], ["the file of sessions can be written again"])
+
+    def test_numbers_stay(self):
+        """A try leaves the file as it is."""
+        first = self.book.begin("a", "x", "t", self, 7).number
+        self.book.try_out()
+        self.assertEqual(self.book._file.execute("SELECT count(*), min(next) > ? FROM numbers", (first,)).fetchone(), (1, 1))
+
+    def test_health(self):
+        async def look():
+            view = stub_view(StubLink())
+            view.answers.book_failure = lambda: "full"
+            return view.health(await view.look())
+        self.assertEqual(asyncio.run(look()), (False, "the file of sessions can't be written: full"))
+
+    def test_health_of_a_store_that_is_too_old(self):
+        """Why the store has frozen is told: an old store must not be started again, and one whose disk failed may."""
+        async def look():
+            link = StubLink()
+            link.reply = "refused Frozen"
+            view = stub_view(link)
+            view.site.froze = "refused OwnRowAhead 0"
+            return view.health(await view.look())
+        self.assertEqual(asyncio.run(look()), (False, "the store answers: refused Frozen, behind refused OwnRowAhead 0"))
+
+
+class Stores(NodeCase):
+    """A store that fails while it is served."""
+
+    def test_told_once(self):
+        """The node says so, whoever was answered first: a caller or the exchange."""
+        self.start()
+        client = self.connect()
+        self.says(client, ("read a x", "admitted"))
+        for name in ("0.db", "0.db-wal"):
+            os.rename(self.folder / name, self.folder / f"{name}.away")
+        self.assertIn(client.ask("read a y"), ("refused StoreFault", "refused Frozen"))
+        self.assertEqual(client.status()["fault"], "the store answers refused Frozen, behind refused StoreFault")
+        self.assertIn("nobody gets in: the store answers refused Frozen, behind refused StoreFault", status_text(client.status(), time.time()))
+        client.ask("read a z")
+        with contextlib.redirect_stdout(io.StringIO()) as shown:
+            self.assertEqual(watch_node(str(self.socket), 1, True), 0)
+        self.assertTrue(shown.getvalue().endswith("nobody gets in: the store answers refused Frozen, behind refused StoreFault\n"), shown.getvalue())
+        for name in ("0.db", "0.db-wal"):
+            os.rename(self.folder / f"{name}.away", self.folder / name)
+        errors = self.end()[1]
+        self.assertEqual(errors.count("the store answers refused StoreFault: nobody gets in or out at this site, until its disk is mended"), 1, errors)
+
+
+class Clocks(Case):
+    """A clock that was put back."""
+
+    def test_sessions_of_a_time_to_come(self):
+        caller = {"connected": False, "known": True, "kept": False, "since": 5000.0, "pid": 7, "record": "a", "holder": "x", "phase": "reader"}
+        self.assertIn("a x reader, entered 0 s ago by process 7", status_text({"records": {}, "callers": [caller]}, 1400.0))
