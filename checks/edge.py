@@ -635,7 +635,7 @@ def replaced_while_its_log_is_read(place):
     said = answer(start)
     os.close(theirs)
     os.close(ours)
-    tell(is_read and said == "log refused NotALog 8" and files(new) == kept, "another store at the path of a new one whose log is refused", f"{said}, {'as it was' if files(new) == kept else 'changed'}")
+    tell(is_read and said == "log refused NotTranscript 8" and files(new) == kept, "another store at the path of a new one whose log is refused", f"{said}, {'as it was' if files(new) == kept else 'changed'}")
     tell(place.is_kept(new), "that store is served", place.ask(new, "sessions", "a"))
 
 

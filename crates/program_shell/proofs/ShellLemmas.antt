@@ -9,6 +9,8 @@ use Rattle.line_conversation.specs.declared.conversation.Conversation.{Ghosts}
 use Rattle.service_talk.specs.Notes.{NotedState}
 use Rattle.service_talk.specs.OneLine.{OneLineState}
 use Rattle.command_arguments.specs.declared.arguments.Command.{Command}
+use Rattle.serve_engine.specs.declared.marks.Marking.{Marking}
+use Rattle.program_shell.specs.Services.{EndsAsk}
 use Rattle.program_shell.specs.Shell.{EndsCommand}
 
 module _ (t : Ghosts (NotedState StreamState)) (u : Ghosts (NotedState OneLineState)) (lengths : Option (List ℕ)) (layout : LayoutState) (source source_after : SourceState)
@@ -27,3 +29,15 @@ module _ (t : Ghosts (NotedState StreamState)) (u : Ghosts (NotedState OneLineSt
       (subst (λ (x : Option Text). Ends d p x g xs ws) same_log
       (subst (λ (x : Option Text). Ends d x l g xs ws) same_out
       (subst (λ (x : Command). Ends x o l g xs ws) same_command ends)))))
+
+-- A service is opened by what the arguments say of it.
+module _ (u : Ghosts (NotedState OneLineState)) (layout : LayoutState) (words : List (Option Text)) (sink sink_after errors errors_after : SinkState) (code : ℕ) where
+  abbrev Asks : ℕ → Option Text → Marking → Option Text → Type 0
+  Asks i group marking log = EndsAsk u layout i group marking log words sink sink_after errors errors_after code
+
+  pub asked_by : (i j : ℕ) (g h : Option Text) (m n : Marking) (l k : Option Text) → i ≡ j → g ≡ h → m ≡ n → l ≡ k → Asks i g m l → Asks j h n k
+  asked_by i j g h m n l k same_site same_group same_marking same_log ends =
+      subst (λ (x : Option Text). Asks j h n x) same_log
+      (subst (λ (x : Marking). Asks j h x l) same_marking
+      (subst (λ (x : Option Text). Asks j x m l) same_group
+      (subst (λ (x : ℕ). Asks x g m l) same_site ends)))

@@ -1,10 +1,21 @@
-use Rattle.std.proofs.Common.{rules, List, ℕ, option_copied, refl, subst}
+use Rattle.std.proofs.Common.{rules, Bor, List, ℕ, Option, ap, option_copied, option_map, refl, subst}
 use Rattle.std.specs.Prelude.{[], unwrap_or}
+use Rattle.program_shell.proofs.ShellLemmas.{asked_by}
 use Rattle.program_shell.specs.Moves.{EndsRebuild, EndsRegroup}
 use Rattle.program_shell.proofs.shell.carry_out.Goals as goal
 
 pub returns-in-Play : goal.returns-in-Play
 returns-in-Play g c = rw c.in-Play.is (c.play_engine-ended.result, c.play_engine-ended.ensures, search rules)
+
+pub returns-in-Ask : goal.returns-in-Ask
+returns-in-Ask g c =
+    let opened = c.opening-opening-in-Ask.ensures in
+    rw c.in-Ask.is (
+      refl,
+      asked_by _ c.args.layout _ c.args.sink _ c.args.errors.now _ _ _ _ _ _ _ _ _ _ opened.site
+          (ap (λ (o : Option (Bor (List ℕ))). option_copied o) opened.group) opened.marking
+          (ap (λ (o : Option (Bor (List ℕ))). option_map (λ path. path.now) o) opened.log) c.ask_once-code.ensures,
+    )
 
 pub returns-in-Regroup : goal.returns-in-Regroup
 returns-in-Regroup g c = rw c.in-Regroup.is (
