@@ -13,6 +13,8 @@ of five runs (--runs) is shown. All write to FOLDER's disk before they answer:
 Those whose program is missing are left out. The program is Debian's package of that name. Then `fence a 7`, of a reader inside, and an empty
 line, which changes nothing either, are asked in turns, 50 at a time: the middle of each. With --against nothing but `serve` is measured, by
 two programs in turns, so that both meet whatever else the machine does meanwhile.
+
+With --under-way 1,8,32,128 so many calls are under way at once instead: bench/under_way.py says how each way is driven.
 """
 
 import argparse
@@ -25,6 +27,8 @@ import statistics
 import subprocess
 import tempfile
 import time
+
+import under_way
 
 TOP = pathlib.Path(__file__).resolve().parent.parent
 
@@ -178,10 +182,16 @@ def main():
     parser.add_argument("--program", default=str(TOP / "seat_cli"))
     parser.add_argument("--against", metavar="PROGRAM", help="another program, whose runs come in between")
     parser.add_argument("--folder", help="where the files are written")
+    parser.add_argument("--under-way", metavar="N,..", help="measure so many calls under way at once")
+    parser.add_argument("--together", type=int, help="how many calls are committed together, if not as many as are under way")
+    parser.add_argument("--ways", metavar="NAME,..", help="only these of the ways with calls under way")
     parser.add_argument("--runs", type=int, default=5)
     options = parser.parse_args()
     if options.core is not None:
         os.sched_setaffinity(0, {options.core})
+    if options.under_way:
+        under_way.compare(options, [int(number) for number in options.under_way.split(",")])
+        return
     ways = {
         "serve": Serve,
         "serve --log": lambda options, folder: Serve(options, folder, ("--log", "site_0.log")),

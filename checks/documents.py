@@ -14,7 +14,7 @@ import sys
 TOP = pathlib.Path(__file__).resolve().parent.parent
 MARK = "<!-- made by checks/documents.py -->\n"
 CLAUSE = re.compile(r"^\s*ensures\s*(\w+)?\s*\{\s*(.*)$")
-DEFINED = re.compile(r"^(?:abbrev pub|pub abbrev|pub record|pub data|def pub|pub def)\s+(\S+)")
+DEFINED = re.compile(r"^ *(?:abbrev pub|pub abbrev|unfoldable pub|pub record|pub data|def pub|pub def)\s+(\S+)")
 
 
 def crates():
@@ -63,9 +63,9 @@ def cited():
 def comment_above(lines, at):
     """The comment right above a line, as one text."""
     start = at
-    while start > 0 and lines[start - 1].startswith("-- "):
+    while start > 0 and lines[start - 1].lstrip().startswith("-- "):
         start -= 1
-    return " ".join(line[3:] for line in lines[start:at])
+    return " ".join(line.lstrip()[3:] for line in lines[start:at])
 
 
 def definitions():
@@ -116,7 +116,7 @@ def functions(file, names, is_public):
             owner, shown = block[2], block[1] == "trait" and line.startswith("pub ")
         elif line == "}":
             owner, shown = None, False
-        if now and (line.strip() in ("{", "}", "{}") or line.rstrip().endswith(";") or line.strip().endswith("{") and "ensures" not in line):
+        if now and (line.strip() in ("{", "}", "{}") or line.strip().endswith("{") and "ensures" not in line):
             yield now
             now = None
         said = re.match(r"^\s*/// ?(.*)$", line)
@@ -134,6 +134,9 @@ def functions(file, names, is_public):
             claim = [re.findall(r"(?<![.\w])\w+", part) for part in (whole.split("→")[-1], whole)]
             by = [word for words in claim for word in words if word in defined]
             now[2].append(clause[1] or (f"by `{by[0]}`" if by else "its value"))
+        if now and line.rstrip().endswith(";"):  # a function of a trait, with its last clause
+            yield now
+            now = None
         if line.strip() and not line.strip().startswith(("#[", "ghost use")):
             document = []
     if now:

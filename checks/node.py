@@ -14,7 +14,7 @@ loopback; and somebody tries to get in, by random bytes and with a certificate o
 - every session of a connection that ended while its node ran was left, and no other: not that of a `lock` that was killed while
   its command lived, and not those of a node that was killed; an operator ends those of callers that are dead;
 - once the links are whole and the callers have ended, all seats are free;
-- `judge` finds the logs of the sites consistent, if they are not too long for it;
+- `judge` finds the logs of the sites consistent, if they are not too long for it; not with `--no-logs`;
 - nobody got in from outside.
 
 Prints what was done, how many were admitted, and how long they waited, and ends with 0 where all of that holds. With --plant
@@ -312,7 +312,8 @@ class Machine:
         self.socket = world.folder / f"{site}.sock"
         self.config = world.folder / f"{site}.toml"
         self.config.write_text(
-            f'site = {site}\nstore = "{site}.db"\nlayout = "layout.toml"\ngroup = "storm"\nlog = "{site}.log"\n'
+            f'site = {site}\nstore = "{site}.db"\nlayout = "layout.toml"\ngroup = "storm"\n'
+            + f'log = "{site}.log"\n' * (not world.given.no_logs) +
             f'program = "{world.given.program}"\n'
             f'[socket]\npath = "{site}.sock"\n[exchange]\ninterval = 0.1\n{world.links.table(site)}')
         self.process = None
@@ -575,6 +576,8 @@ def overlaps(found):
 
 def judge(world):
     """The verdict on the logs."""
+    if world.given.no_logs:
+        return "none, so calls that wait were committed together"
     logs = b"".join((world.folder / f"{site}.log").read_bytes() for site in range(SITES))
     if len(logs) > JUDGED:
         return f"not asked: the logs have {len(logs)} bytes"
@@ -636,6 +639,7 @@ def main():
     parser.add_argument("--program", default=str(TOP / "crates/seat_cli/out/seat_cli"))
     parser.add_argument("--transport", choices=["folder", "peers"], default="folder")
     parser.add_argument("--network", choices=["namespaces", "loopback"], help="where `Peers` run (default: namespaces where they can be made)")
+    parser.add_argument("--no-logs", action="store_true", help="sites without logs, whose calls that wait are committed together")
     parser.add_argument("--seconds", type=float, default=120)
     parser.add_argument("--seed", type=int, default=1)
     parser.add_argument("--folder", type=pathlib.Path, help="where stores, logs and notes stay")

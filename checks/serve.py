@@ -1,7 +1,7 @@
 #!/usr/bin/env python3
 """Runs three sites as processes of `serve` under load, kills them at random moments, and looks from outside.
 
-Usage: checks/serve.py [--kills N] [--seed S] [--calls N] [--program PATH]
+Usage: checks/serve.py [--kills N] [--seed S] [--calls N] [--together N] [--program PATH]
 
 Each site has a process, a store and a log. A thread for each site makes random calls through the pipes, carries deltas, and
 kills its process now and then, with SIGKILL most often, at times with SIGTERM, SIGINT or SIGHUP, or by closing a pipe. It
@@ -9,8 +9,10 @@ then opens the store again and compares the sessions with what was answered: eve
 and at most the one in flight beside it. Callers write down when they were inside; a writer's time must overlap nobody
 else's, at any site. At the end `judge` reads the three logs, one behind another, and must find them consistent.
 
+With --together N the sites have no log, and get many lines at once: checks/serve_together.py says what is compared.
+
 Then two conversations of N calls run, one without a log and one with, and a process may take no more memory behind all of
-them than behind the first hundredth, but for a few pages.
+them than behind the first hundredth, but for a few pages. With --together it is one, of N lines at once.
 """
 
 import argparse
@@ -23,6 +25,9 @@ import sys
 import tempfile
 import threading
 import time
+import tomllib
+
+import serve_together
 
 TOP = pathlib.Path(__file__).resolve().parent.parent
 LAYOUT = (
@@ -248,15 +253,69 @@ def long_conversation(options, folder, log):
     return peaks
 
 
+def long_rounds(options, folder):
+    """The same peaks of so many calls at one site that come many at once."""
+    words = [options.program, "serve", "--create", "--site", "0", "--store", "long.db", "--layout", "layout.toml", "--together", str(options.together)]
+    process = subprocess.Popen(words, cwd=folder, stdin=subprocess.PIPE, stdout=subprocess.PIPE, bufsize=0)
+    lines = ["read a 7", "sessions a", "leave a 7", "reed", "announce a 8", "leave a 8"]
+    starts = ["admitted", "1 7 reader", "left reader", "refused BadWord 1", "announced ", "withdrawn"]
+    turns = max(1, options.together // len(lines))
+    data, asked, peaks = ("\n".join(lines) + "\n").encode() * turns, len(lines) * turns, []
+    for number in range(max(2, options.calls // asked)):
+        process.stdin.write(data)
+        replies = b""
+        while replies.count(b"\n") < asked:
+            replies += process.stdout.read(65536)
+        for reply, start in zip(replies.decode().splitlines(), starts * turns):
+            assert reply.startswith(start), (number, reply, start)
+        if number + 1 in (max(1, options.calls // asked // 100), max(2, options.calls // asked)):
+            peaks.append(peak(process))
+    process.stdin.close()
+    assert process.wait(60) == 0
+    return peaks
+
+
+def check_together(options, folder):
+    """Kills sites that get many lines at once; prints what came of it, and gives the faults."""
+    shared, layout = Shared(), tomllib.loads(LAYOUT)
+    sites = [serve_together.Site(number, folder, options, shared, layout, GROUP) for number in range(3)]
+    started = time.monotonic()
+    for it in sites:
+        it.start()
+    for it in sites:
+        it.join()
+    faults = [fault for it in sites for fault in it.faults]
+    faults += [f"{writer} overlaps {other}" for writer, other in shared.overlaps()]
+    writers = sum(1 for it in shared.times if it[1] == "writer")
+    print(f"{sum(it.kills for it in sites)} stops with up to {options.together} calls committed together, {sum(it.sigkills for it in sites)} of them by SIGKILL:")
+    print(f"{sum(it.whole for it in sites)} found a round whole that was not answered, {sum(it.none for it in sites)} none, and no other;")
+    print(f"{sum(it.calls for it in sites)} calls, {len(shared.times)} sessions inside, {writers} of them writers, in {time.monotonic() - started:.0f} s")
+    first, last = long_rounds(options, folder)
+    print(f"{options.calls} calls at one site, {options.together} at once: a peak of {first} kB behind the first hundredth, {last} kB behind all")
+    return faults + ["the memory of a long conversation in rounds grows"] * (last > first + PAGES)
+
+
+def told(faults, folder):
+    """Prints the faults, and gives the exit status."""
+    for fault in faults[:20]:
+        print("FAILED", fault)
+    if faults and os.environ.get("KEEP"):
+        subprocess.run(["cp", "-r", folder, os.environ["KEEP"]])
+    return 1 if faults else 0
+
+
 def main():
     parser = argparse.ArgumentParser(description=__doc__.splitlines()[0])
     parser.add_argument("--kills", type=int, default=120, help="how often each site is stopped, more than half of the times by SIGKILL")
     parser.add_argument("--seed", default="1")
     parser.add_argument("--calls", type=int, default=200_000, help="how many calls the long conversation has")
+    parser.add_argument("--together", type=int, default=1, help="how many calls are committed together at most")
     parser.add_argument("--program", default=str(TOP / "seat_cli"))
     options = parser.parse_args()
     with tempfile.TemporaryDirectory(prefix="seat_cli_serve.") as folder:
         (pathlib.Path(folder) / "layout.toml").write_text(LAYOUT)
+        if options.together > 1:
+            return told(check_together(options, folder), folder)
         shared = Shared()
         sites = [Site(number, folder, options, shared) for number in range(3)]
         started = time.monotonic()
@@ -280,11 +339,7 @@ def main():
             print(f"{options.calls} calls at one site{' with a log' * bool(log)}: a peak of {first} kB behind the first hundredth, {last} kB behind all")
             if last > first + PAGES:
                 faults.append(f"the memory of a long conversation grows: {log}")
-        for fault in faults[:20]:
-            print("FAILED", fault)
-        if faults and os.environ.get("KEEP"):
-            subprocess.run(["cp", "-r", folder, os.environ["KEEP"]])
-        return 1 if faults else 0
+        return told(faults, folder)
 
 
 if __name__ == "__main__":

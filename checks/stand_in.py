@@ -33,7 +33,7 @@ TABLES = (
 )
 # The tables of a site's content: the second column of the key, and places for the columns of a row.
 COLUMNS = {"cells": ("slot", "?, ?, ?"), "sessions": ("holder", "?, ?, ?, ?"), "notices": ("site", "?, ?, ?, ?")}
-WIDE = {"--site", "--store", "--layout", "--group", "--wait", "--lost"}
+WIDE = {"--site", "--store", "--layout", "--group", "--wait", "--lost", "--together"}
 FLAGS = {"--create", "--grow", "--plain"}
 
 
@@ -185,30 +185,53 @@ class Store:
             self.base.executemany(f"INSERT INTO {name} VALUES ({places})", list(new - old))
             self.kept[name] = rows
 
-    def commit(self, before):
-        """Writes what a call changed, in one transaction."""
+    def change(self, before):
+        """Writes what a call changed, in the transaction of its round."""
         if (before[0], before[1]) == (self.site.rows, self.site.sessions):
             return
-        self.base.execute("BEGIN IMMEDIATE")
+        if not self.base.in_transaction:
+            self.base.execute("BEGIN IMMEDIATE")
         self.write(self.site)
-        self.base.execute("COMMIT")
+
+    def commit(self):
+        if self.base.in_transaction:
+            self.base.execute("COMMIT")
 
     # Lines
 
-    def answer(self, line):
-        """The reply to a line: `StoreFault` where the store's file fails, or is no longer at its path."""
+    def answers(self, lines):
+        """The replies to lines, behind the commit of what all of them changed. Where that fails, the first line with a change and
+        all behind it are told so."""
+        replies, first = [], None
         try:
-            here, there = os.fstat(self.file), os.stat(self.path)
-            if (here.st_dev, here.st_ino) == (there.st_dev, there.st_ino):
-                return self.carry_out(line)
-        except (OSError, sqlite3.Error):
-            if self.frozen:
-                return "refused Frozen"
+            for line in lines:
+                replies.append(self.answer(line))
+                if first is None and self.base.in_transaction:
+                    first = len(replies) - 1
+            self.commit()
+        except sqlite3.Error:
+            first = len(replies) if first is None else first
+            self.frozen = True
+            replies[first:] = ["refused StoreFault"] * (len(lines) - first)
+        return replies
+
+    def answer(self, line):
+        """The reply to a line: `StoreFault` where the store's file is no longer at its path."""
+        if self.frozen or self.is_at_its_path():
+            return self.carry_out(line)
         self.frozen = True
         return "refused StoreFault"
 
+    def is_at_its_path(self):
+        """Whether the file is at its path."""
+        try:
+            here, there = os.fstat(self.file), os.stat(self.path)
+        except OSError:
+            return False
+        return (here.st_dev, here.st_ino) == (there.st_dev, there.st_ino)
+
     def carry_out(self, line):
-        """The reply to a line, behind its commit."""
+        """The reply to a line, whose change is not committed yet."""
         if line.startswith(b"take "):
             return rules.reply(self.take, line[5:])
         words = line.split(b" ")
@@ -225,7 +248,7 @@ class Store:
             return "refused Frozen" if self.frozen else again.marked(self.layout, self.group or "-", text) if self.marks else text
         before = dict(self.site.rows), dict(self.site.sessions)
         reply = "refused Frozen" if self.frozen else rules.reply(getattr(self.site, verb), *parts)
-        self.commit(before)
+        self.change(before)
         return reply
 
     def look(self, verb, r):
@@ -253,6 +276,7 @@ class Store:
             merged = self.site.take(rows)
         except rules.Refused as refused:
             if str(refused).startswith("OwnRowAhead"):
+                self.commit()
                 self.base.execute("INSERT INTO meta VALUES ('outdated', '1')")
                 self.frozen = self.outdated = True
             raise
@@ -260,7 +284,7 @@ class Store:
         if many is not None:
             self.site.rows = before[0]
             rules.refuse(True, "TooManySeats", many)
-        self.commit(before)
+        self.change(before)
         return merged
 
 
@@ -283,18 +307,32 @@ def opened(given, moves=False):
 
 
 def serve(given):
-    store = opened(given)
-    for line in sys.stdin.buffer:
-        reply = store.answer(line[:-1]) if line.endswith(b"\n") else "refused BadWord"
-        os.write(1, reply.encode() + b"\n")
+    together = int(given.get("--together", 1))
+    if not 1 <= together <= 256:
+        raise Ends(2, f"error: invalid value '{together}' for '--together <N>'")
+    store, read, rest = opened(given), True, b""
+    while read:
+        read = os.read(0, 65536)
+        *lines, rest = (rest + read).split(b"\n")
+        for at in range(0, len(lines), together):
+            write("".join(reply + "\n" for reply in store.answers(lines[at:at + together])))
+    if rest:
+        write("refused BadWord\n")
     store.base.close()
     if store.outdated:
         raise Ends(5, "store refused Outdated")
     return 5 if store.frozen else 0
 
 
+def write(text):
+    """Writes a text whole to standard output."""
+    left = text.encode()
+    while left:
+        left = left[os.write(1, left):]
+
+
 def ask(given, words):
-    reply = opened(given).answer(" ".join(words).encode())
+    reply, = opened(given).answers([" ".join(words).encode()])
     print(reply)
     return 1 if reply.startswith("refused") else 0
 

@@ -8,7 +8,7 @@ _seat_cli() {
         join) COMPREPLY=($(compgen -W "--help --layout" -- "$word")) ;;
         play) COMPREPLY=($(compgen -W "--from --help --layout --tables" -- "$word")) ;;
         site) COMPREPLY=($(compgen -W "--help --layout --site --store" -- "$word")) ;;
-        serve) COMPREPLY=($(compgen -W "--create --group --grow --help --layout --log --plain --site --store --wait" -- "$word")) ;;
+        serve) COMPREPLY=($(compgen -W "--create --group --grow --help --layout --log --plain --site --store --together --wait" -- "$word")) ;;
         ask) COMPREPLY=($(compgen -W "--create --group --grow --help --layout --log --plain --site --store --wait" -- "$word")) ;;
         regroup) COMPREPLY=($(compgen -W "--group --help --layout --site --store" -- "$word")) ;;
         rebuild) COMPREPLY=($(compgen -W "--group --help --layout --lost --site --store" -- "$word")) ;;

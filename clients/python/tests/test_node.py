@@ -368,7 +368,10 @@ class Deltas(Case):
 
 
 class NodeCase(Case):
-    """A test with a node, which is a process of its own."""
+    """A test with a node, which is a process of its own. With a log each call is committed by itself; without one calls that wait are
+    committed together."""
+
+    logs = True
 
     def setUp(self):
         super().setUp()
@@ -379,7 +382,8 @@ class NodeCase(Case):
 
     def write_config(self, more="", socket="", site=0):
         path = self.folder / f"{site}.toml"
-        path.write_text(f'site = {site}\nstore = "{site}.db"\nlayout = "layout.toml"\nlog = "{site}.log"\nprogram = "{PROGRAM}"\n{more}\n'
+        log = f'log = "{site}.log"\n' if self.logs else ""
+        path.write_text(f'site = {site}\nstore = "{site}.db"\nlayout = "layout.toml"\n{log}program = "{PROGRAM}"\n{more}\n'
                         f'[socket]\npath = "{site}.sock"\n{socket}\n[exchange]\ninterval = 0.05\nhelps = false\n[[transport]]\nkind = "folder"\npath = "deltas"\n')
         (self.folder / "deltas").mkdir(exist_ok=True)
         return path
@@ -580,6 +584,10 @@ class Sessions(NodeCase):
         self.says(self.connect(), ("evict a v", "left reader"), ("evict a v", "refused NotHere"))
 
 
+class SessionsWithoutLog(Sessions):
+    logs = False
+
+
 class Restarts(NodeCase):
     """A node that ends, and one that is started again."""
 
@@ -639,7 +647,7 @@ class Restarts(NodeCase):
 
     def test_strangers(self):
         """A session that the node doesn't know is listed, and left by an operator alone."""
-        with self.open(log=self.folder / "0.log") as site:
+        with self.open(log=self.folder / "0.log" if self.logs else None) as site:
             site.call("read a 7")
         self.start()
         client = self.connect()
@@ -830,6 +838,10 @@ class Restarts(NodeCase):
             with self.assertRaises(TransportFailed):
                 found.extend(Several(transports).messages())
             self.assertEqual(found, ["x", "y"])
+
+
+class RestartsWithoutLog(Restarts):
+    logs = False
 
 
 class Waits(NodeCase):
@@ -1087,6 +1099,10 @@ class Crowds(NodeCase):
         self.assertEqual(self.connect().socket.recv(100), b"refused TooManyConnections\n")
         first.close()
         self.says(self.find_room(), ("sessions a", "1 x reader"))
+
+
+class CrowdsWithoutLog(Crowds):
+    logs = False
 
 
 class Commands(NodeCase):

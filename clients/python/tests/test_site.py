@@ -15,6 +15,7 @@ import unittest.mock
 import zinduroi
 from zinduroi import Counts, Gave, Record, ServiceEnded, Session, StoreRefused, TimedOut
 from zinduroi.errors import refusal
+from zinduroi.service import Call
 
 from .common import PACKAGE, PROGRAM, Case, marked, wait_for
 
@@ -371,6 +372,66 @@ class Interruptions(Case):
         site = self.open(wait=10)
         self.assertEqual(site.sessions("a"), [])
         self.assertEqual(site.announce("a", 1), 2)
+
+
+class Together(Case):
+    """Calls of several threads that are committed together."""
+
+    def test_threads(self):
+        """Each gets its own reply, and the store has all that was answered."""
+        site = self.open(together=32)
+        faults = []
+
+        def work(number):
+            for turn in range(20):
+                holder = 1000 * number + turn
+                try:
+                    site.announce("a", holder)
+                    site.announce("b", holder)
+                    if turn % 2:
+                        self.assertEqual(site.leave("b", holder), "withdrawn")
+                    self.assertEqual(site.leave("a", holder), "withdrawn")
+                except zinduroi.TooManyWriters:
+                    if (holder, "waiting") in site.sessions("a"):
+                        site.leave("a", holder)
+                except BaseException as fault:
+                    faults.append(fault)
+
+        threads = [threading.Thread(target=work, args=(number,)) for number in range(24)]
+        for thread in threads:
+            thread.start()
+        for thread in threads:
+            thread.join()
+        self.assertEqual(faults, [])
+        left = site.sessions("b")
+        self.assertEqual((site.sessions("a"), len(left)), ([], site.show("b").unfinished))
+        site.close()
+        self.assertEqual(self.open(together=2).sessions("b"), left)
+
+    def test_dependent_lines(self):
+        """Lines of one call that need each other, more than a round has."""
+        site = self.open(together=3)
+        lines = [line for holder in range(9) for line in (f"read a {holder}", f"read a {holder}", f"leave a {holder}", "show a")]
+        replies = site._service.run(Call(*(line.encode() + b"\n" for line in lines)))
+        self.assertEqual(replies, ["admitted", "refused AlreadyHere", "left reader", "rights 3 inside 0 unfinished 0"] * 9)
+
+    def test_killed(self):
+        """After a kill all that was answered is there."""
+        site = self.open(together=32)
+        for holder in range(20):
+            site.announce("b", holder)
+        os.kill(site.pid, signal.SIGKILL)
+        with self.assertRaises(ServiceEnded):
+            site.send()
+        self.assertTrue(site.reopen())
+        self.assertEqual(site.sessions("b"), [Session(holder, "waiting") for holder in range(20)])
+
+    def test_beside_a_log(self):
+        with self.assertRaises(ServiceEnded) as caught:
+            self.open(together=2, log=self.folder / "0.log")
+        self.assertEqual((caught.exception.status, caught.exception.message), (2, "together refused Log"))
+        self.assertFalse((self.folder / "0.db").exists())
+        self.open(together=1, log=self.folder / "0.log").close()
 
 
 class Ends(Case):

@@ -86,14 +86,15 @@ class Site:
     wait while another process has the store open. `log` is a file that the site's log is appended to, for `judge`. `program` is
     the program's path, or the words of a command that ends with it. With `plain` deltas travel without a mark, so nothing finds
     out that one was damaged or is of another layout; open all sites alike. With `grow` a store that was made for fewer sites
-    gets all sites of the layout, for good.
+    gets all sites of the layout, for good. `together` is how many calls that wait are committed together at most, from 1 to 256,
+    and 1 where there is a log: one commit for calls of several threads takes the time of one call.
 
     Raises `StoreRefused`, `LayoutRefused` or `LogRefused` if the service doesn't start. Each call raises the subclass of
     `Refused` that has the name of the refusal, and `ServiceEnded` if the process ends before it replies."""
 
     def __init__(self, store: Path, site: int, layout: Optional[Path] = None, group: Optional[str] = None, create: bool = False,
                  wait: float = 0, log: Optional[Path] = None, program: Union[str, Sequence[str]] = "seat_cli", plain: bool = False,
-                 grow: bool = False) -> None:
+                 grow: bool = False, together: int = 1) -> None:
         self.site = site
         self.store = os.fspath(store)
         self.layout = None if layout is None else os.fspath(layout)
@@ -102,6 +103,7 @@ class Site:
         self._plain = plain
         self._log = log
         self._wait = wait
+        self._together = together
         self._listeners: List[Callable[[], None]] = []
         self._opening = threading.Lock()
         self._closed = False
@@ -111,7 +113,8 @@ class Site:
         words = command(self.program, "serve", f"--site={self.site}", "--store", self.store,
                         *_option("--layout", self.layout), *_option("--group", self.group), "--plain" if self._plain else None,
                         "--create" if create else None, "--grow" if grow else None,
-                        *_option("--wait", str(int(-(-wait // 1))) if wait > 0 else None), *_option("--log", self._log))
+                        *_option("--wait", str(int(-(-wait // 1))) if wait > 0 else None), *_option("--log", self._log),
+                        *_option("--together", str(self._together) if self._together > 1 else None))
         service = Service(words)
         try:
             # A line that can't be read changes nothing and is in no log. Its reply shows that the store is open.

@@ -67,6 +67,10 @@ out_option = text_option (codes "out")
 abbrev pub wait_option : Rule
 wait_option = number_option (codes "wait")
 
+-- the option `--together N` (the project's own), whose value is a number from 1 to 256
+abbrev pub together_option : Rule
+together_option = record (text_option (codes "together")) { parser = Some (Signed (pos 1) (pos 256)) }
+
 -- the option `--log FILE` (the project's own)
 abbrev pub log_option : Rule
 log_option = text_option (codes "log")
@@ -112,11 +116,11 @@ serving_command name =
     with_rule (with_rule (with_rule (with_rule (with_rule (with_rule (with_rule (with_rule (with_rule (new_app name)
     site_option) store_option) layout_option) group_option) (flag (codes "plain"))) (flag (codes "create"))) (flag (codes "grow"))) wait_option) log_option
 
--- the command `serve` (the project's own)
+-- the command `serve` (the project's own), with one option more
 abbrev pub serve_command : App
-serve_command = serving_command (codes "serve")
+serve_command = with_rule (serving_command (codes "serve")) together_option
 
--- the command `ask` (the project's own), with the same, and one to four words
+-- the command `ask` (the project's own), without it, and with one to four words
 abbrev pub ask_command : App
 ask_command =
     with_rule (with_rule (with_rule (with_rule (serving_command (codes "ask")) first_word) (word (codes "word2"))) (word (codes "word3"))) (word (codes "word4"))
@@ -196,14 +200,20 @@ turns_in rows = unwrap_or (option_and_then short_number (one_of (codes "turns") 
 abbrev pub wait_in : List Row → ℕ
 wait_in rows = unwrap_or (option_and_then short_number (one_of (codes "wait") rows)) 0
 
+-- how many calls the values allow to be committed together; 1 where they name no number
+abbrev pub together_in : List Row → ℕ
+together_in rows = unwrap_or (option_and_then short_number (one_of (codes "together") rows)) 1
+
 -- how a site is served at once: its number; whether its store is made, whether it grows, and whether deltas travel without
--- a mark; and how many seconds to wait
-abbrev pub serving : ℕ → Bool → Bool → Bool → ℕ → Serving
-serving site create grow plain wait = record { site = site; create = create; grow = grow; plain = plain; wait = wait }
+-- a mark; how many seconds to wait; and how many calls are committed together at most
+abbrev pub serving : ℕ → Bool → Bool → Bool → ℕ → ℕ → Serving
+serving site create grow plain wait together =
+    record { site = site; create = create; grow = grow; plain = plain; wait = wait; together = together }
 
 -- the same by the values
 abbrev pub serving_in : List Row → Serving
-serving_in rows = serving (site_in rows) (flag_in (codes "create") rows) (flag_in (codes "grow") rows) (flag_in (codes "plain") rows) (wait_in rows)
+serving_in rows =
+    serving (site_in rows) (flag_in (codes "create") rows) (flag_in (codes "grow") rows) (flag_in (codes "plain") rows) (wait_in rows) (together_in rows)
 
 -- the command of a name, with its values
 abbrev pub command_of : Text → List Row → Command

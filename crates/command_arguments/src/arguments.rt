@@ -1,6 +1,6 @@
 ghost use Rattle.std.specs.Prelude.{◌≡◌, ◌≤◌, ◌++◌, codes, false, length, map, IfOk, OnOk, IsOk, option_map, string_bytes};
 ghost use Rattle.clap.specs.Words.{App, FailsBy, Rule, app_of, found_of, new_app, rows_of, rule_of, subcommand_rows_of, with_rule, with_subcommand};
-ghost use Rattle.command_arguments.specs.Arguments.{IsOption, Offers, ask_command, asked_command, asked_cut, asked_group, asked_layout, asked_log, asked_lost, asked_out, asked_store, asked_words, bare_program, command_in, command_of, flag, flag_in, first_word, join_command, judge_command, lost_at, lost_in, lost_option, needed_group, none_said, number_option, play_command, program, rebuild_command, regroup_command, run_command, serve_command, serving_command, serving_in, site_command, site_in, site_of, sites_of, site_option, store_option, text_option, turns_in, turns_option, usage_errors, value_in, wait_in, word, words_at, words_in, words_of};
+ghost use Rattle.command_arguments.specs.Arguments.{IsOption, Offers, ask_command, asked_command, asked_cut, asked_group, asked_layout, asked_log, asked_lost, asked_out, asked_store, asked_words, bare_program, command_in, command_of, flag, flag_in, first_word, join_command, judge_command, lost_at, lost_in, lost_option, needed_group, none_said, number_option, play_command, program, rebuild_command, regroup_command, run_command, serve_command, serving_command, serving_in, site_command, site_in, site_of, sites_of, site_option, store_option, text_option, together_in, together_option, turns_in, turns_option, usage_errors, value_in, wait_in, word, words_at, words_in, words_of};
 
 use crate::help;
 use clap::builder::ValueParser;
@@ -24,7 +24,7 @@ pub enum Command {
         /// The site's number.
         site: u16,
     },
-    /// The lines of the input are calls at one site, each of which is answered before the next one is read.
+    /// The lines of the input are calls at one site, each of which is answered before another one is waited for.
     Serve(Serving),
     /// One call at one site, which the words name.
     Ask(Serving),
@@ -60,6 +60,8 @@ pub struct Serving {
     pub plain: bool,
     /// How many seconds to wait for a store in use.
     pub wait: u16,
+    /// How many calls are committed together at most, from 1 to 256: always 1 for `ask`.
+    pub together: u16,
 }
 
 /// The words of a call: `ask` has at least one, and no other command has any.
@@ -282,6 +284,7 @@ fn serving_in(found: &ArgMatches) -> Serving
         grow: flag_in(found, "grow"),
         plain: flag_in(found, "plain"),
         wait: wait_in(found),
+        together: together_in(found),
     }
 }
 
@@ -297,6 +300,13 @@ fn wait_in(found: &ArgMatches) -> u16
     ensures { result ≡ wait_in (rows_of (found_of found.now)) }
 {
     found.get_one::<u16>("wait").unwrap_or(0)
+}
+
+// How many calls are committed together at most: 1 where no number is named.
+fn together_in(found: &ArgMatches) -> u16
+    ensures { result ≡ together_in (rows_of (found_of found.now)) }
+{
+    found.get_one::<u16>("together").unwrap_or(1)
 }
 
 // How many turns links have: 100 where no number is named.
@@ -432,8 +442,9 @@ fn serve_parser<'a>(alloc: Global) -> Result<Parser<'a>, AllocError>
     ensures { IfOk result (Offers serve_command) }
 {
     let usage =
-        "seat_cli serve --site I --store FILE [--layout FILE] [--group NAME | --plain] [--create] [--grow] [--wait SECONDS] [--log FILE]";
-    serving_parser(alloc, "serve", usage, help::SERVE, help::SERVE_NOTES)
+        "seat_cli serve --site I --store FILE [--layout FILE] [--group NAME | --plain] [--create] [--grow] [--wait SECONDS] [--together N | --log FILE]";
+    let command = serving_parser(alloc, "serve", usage, help::SERVE, help::SERVE_NOTES);
+    with_option(command, together_option(alloc))
 }
 
 // The command `ask`.
@@ -563,6 +574,14 @@ fn lost_option<'a>(alloc: Global) -> Arg<'a>
     ensures local { result.global ≡ false }
 {
     number_option(alloc, "lost", "J", help::LOST).action(ArgAction::Append)
+}
+
+// The option `--together N`.
+fn together_option<'a>(alloc: Global) -> Arg<'a>
+    ensures rule { rule_of result ≡ together_option }
+    ensures local { result.global ≡ false }
+{
+    text_option(alloc, "together", "N", help::TOGETHER).value_parser(ValueParser::signed(1, 256))
 }
 
 // The option `--turns T`.

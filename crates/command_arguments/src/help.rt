@@ -96,7 +96,8 @@ Example:
   printf 'read a 7\\nleave a 7\\n' | seat_cli site --site 0 --store site_0.db";
 
 /// What `serve` does.
-pub const SERVE: &str = "Serves one site at once: answers each line before it reads the next one";
+pub const SERVE: &str =
+    "Serves one site at once: answers each line before it waits for the next one";
 
 /// What stands behind the options of `serve`.
 pub const SERVE_NOTES: &str = "\
@@ -104,8 +105,14 @@ Each line of the input is a call as `site` has them, or one of these:
   show NAME        the reply is `rights R inside I unfinished U`, from this site's own book
   sessions NAME    the reply is the number of sessions at record NAME, then `H PHASE` of each, in order of arrival
   fence NAME H     the reply is `fence N` while H is inside record NAME: a number that grows behind each writer
-Each line gets one reply, which is printed before the next line is read. A change is committed before its reply is
-printed. There is no limit on the number of lines: a program starts `serve` and keeps two pipes to it.
+Each line gets one reply, which is printed before the service waits for another line. A change is committed before its
+reply is printed. There is no limit on the number of lines: a program starts `serve` and keeps two pipes to it.
+
+A caller may send further lines before it reads a reply. With --together, up to N lines that have come are carried out
+one after the other, committed in one transaction, and then answered in their order. The service never waits for more of
+them. If the transaction fails, the first line that changed something and all behind it are answered `refused
+StoreFault`. A crash leaves each transaction whole, or nothing of it. Beside --log an N above 1 is refused:
+`together refused Log` and status 2.
 
 Unlike `site`, the service goes on behind a line that can't be read, whose reply is `refused BadWord K`: word K is the
 first that can't stand there, is missing, or is one too many, counted from 1 by single blanks. It also goes on behind
@@ -205,6 +212,10 @@ pub const PLAIN: &str = "Send and take deltas without a mark, as `site` does";
 /// The option `--wait`.
 pub const WAIT: &str =
     "How many seconds to wait while another process has the store open, at most 65535 [default: 0]";
+
+/// The option `--together`.
+pub const TOGETHER: &str =
+    "How many calls that have come are committed together, from 1 to 256 [default: 1]";
 
 /// The option `--group`.
 pub const GROUP: &str = "The name of the group of sites that this site belongs to [default: none]";

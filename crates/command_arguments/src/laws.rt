@@ -59,14 +59,17 @@ pub fn site_arguments_read()
 {}
 
 /// The same of the command `serve`: the site and its store, which are needed; whether the store is made, or grows; how
-/// long to wait for it; the name of the site's group, or whether deltas travel without a mark; and the file for the site's log.
+/// long to wait for it; how many calls are committed together; the name of the site's group, or whether deltas travel without
+/// a mark; and the file for the site's log.
 #[tactic(auto, unfolding(clap::proofs::OnLiterals::clap_on_literals))]
 pub fn serve_arguments_read()
-    ensures plain { named_command (called_with (codes "serve" ∷ codes "--site=1" ∷ codes "--store=a" ∷ [])) ≡ Serve (serving 1 false false false 0) }
-    ensures created { named_command (called_with (codes "serve" ∷ codes "--create" ∷ codes "--store=a" ∷ codes "--site=0" ∷ [])) ≡ Serve (serving 0 true false false 0) }
-    ensures grown { named_command (called_with (codes "serve" ∷ codes "--grow" ∷ codes "--store=a" ∷ codes "--site=0" ∷ [])) ≡ Serve (serving 0 false true false 0) }
-    ensures unmarked { named_command (called_with (codes "serve" ∷ codes "--plain" ∷ codes "--store=a" ∷ codes "--site=0" ∷ [])) ≡ Serve (serving 0 false false true 0) }
-    ensures waits { named_command (called_with (codes "serve" ∷ codes "--wait" ∷ codes "30" ∷ codes "--store=a" ∷ codes "--site=0" ∷ [])) ≡ Serve (serving 0 false false false 30) }
+    ensures plain { named_command (called_with (codes "serve" ∷ codes "--site=1" ∷ codes "--store=a" ∷ [])) ≡ Serve (serving 1 false false false 0 1) }
+    ensures created { named_command (called_with (codes "serve" ∷ codes "--create" ∷ codes "--store=a" ∷ codes "--site=0" ∷ [])) ≡ Serve (serving 0 true false false 0 1) }
+    ensures grown { named_command (called_with (codes "serve" ∷ codes "--grow" ∷ codes "--store=a" ∷ codes "--site=0" ∷ [])) ≡ Serve (serving 0 false true false 0 1) }
+    ensures unmarked { named_command (called_with (codes "serve" ∷ codes "--plain" ∷ codes "--store=a" ∷ codes "--site=0" ∷ [])) ≡ Serve (serving 0 false false true 0 1) }
+    ensures waits { named_command (called_with (codes "serve" ∷ codes "--wait" ∷ codes "30" ∷ codes "--store=a" ∷ codes "--site=0" ∷ [])) ≡ Serve (serving 0 false false false 30 1) }
+    ensures together { named_command (called_with (codes "serve" ∷ codes "--together" ∷ codes "32" ∷ codes "--store=a" ∷ codes "--site=0" ∷ [])) ≡ Serve (serving 0 false false false 0 32) }
+    ensures most_together { named_command (called_with (codes "serve" ∷ codes "--together=256" ∷ codes "--store=a" ∷ codes "--site=0" ∷ [])) ≡ Serve (serving 0 false false false 0 256) }
     ensures store { named_value (codes "store") (called_with (codes "serve" ∷ codes "--site=1" ∷ codes "--store" ∷ codes "a" ∷ [])) ≡ Some (codes "a") }
     ensures log { named_value (codes "log") (called_with (codes "serve" ∷ codes "--site=1" ∷ codes "--store=a" ∷ codes "--log=b" ∷ [])) ≡ Some (codes "b") }
     ensures no_log { named_value (codes "log") (called_with (codes "serve" ∷ codes "--site=1" ∷ codes "--store=a" ∷ [])) ≡ None }
@@ -74,6 +77,9 @@ pub fn serve_arguments_read()
     ensures no_error { fault_of program (called_with (codes "serve" ∷ codes "--site=1" ∷ codes "--store=a" ∷ codes "--create" ∷ codes "--wait=1" ∷ [])) ≡ [] }
     ensures no_store { fault_of program (called_with (codes "serve" ∷ codes "--site=1" ∷ [])) ≡ MissingRequiredArgument ∷ [] }
     ensures bad_wait { fault_of program (called_with (codes "serve" ∷ codes "--site=1" ∷ codes "--store=a" ∷ codes "--wait=-1" ∷ [])) ≡ ValueValidation ∷ [] }
+    ensures none_together { fault_of program (called_with (codes "serve" ∷ codes "--site=1" ∷ codes "--store=a" ∷ codes "--together=0" ∷ [])) ≡ ValueValidation ∷ [] }
+    ensures too_many_together { fault_of program (called_with (codes "serve" ∷ codes "--site=1" ∷ codes "--store=a" ∷ codes "--together=257" ∷ [])) ≡ ValueValidation ∷ [] }
+    ensures together_of_ask { fault_of program (called_with (codes "ask" ∷ codes "--site=1" ∷ codes "--store=a" ∷ codes "--together=2" ∷ codes "send" ∷ [])) ≡ UnknownArgument ∷ [] }
     ensures stray_word { fault_of program (called_with (codes "serve" ∷ codes "--site=1" ∷ codes "--store=a" ∷ codes "b" ∷ [])) ≡ UnknownArgument ∷ [] }
     ensures two_groups { fault_of program (called_with (codes "serve" ∷ codes "--site=1" ∷ codes "--store=a" ∷ codes "--group=b" ∷ codes "--group=c" ∷ [])) ≡ ArgumentConflict ∷ [] }
     ensures create_of_site { fault_of program (called_with (codes "site" ∷ codes "--site=1" ∷ codes "--store=a" ∷ codes "--create" ∷ [])) ≡ UnknownArgument ∷ [] }
@@ -82,7 +88,7 @@ pub fn serve_arguments_read()
 /// The same of the command `ask`: one to four words behind the options.
 #[tactic(auto, unfolding(clap::proofs::OnLiterals::clap_on_literals))]
 pub fn ask_arguments_read()
-    ensures plain { named_command (called_with (codes "ask" ∷ codes "--site=1" ∷ codes "--store=a" ∷ codes "send" ∷ [])) ≡ Ask (serving 1 false false false 0) }
+    ensures plain { named_command (called_with (codes "ask" ∷ codes "--site=1" ∷ codes "--store=a" ∷ codes "send" ∷ [])) ≡ Ask (serving 1 false false false 0 1) }
     ensures one { asked_words (called_with (codes "ask" ∷ codes "--site=1" ∷ codes "--store=a" ∷ codes "send" ∷ [])) ≡ said (Some (codes "send")) None None None }
     ensures three { asked_words (called_with (codes "ask" ∷ codes "--site=1" ∷ codes "--store=a" ∷ codes "read" ∷ codes "a" ∷ codes "7" ∷ []))
         ≡ said (Some (codes "read")) (Some (codes "a")) (Some (codes "7")) None }

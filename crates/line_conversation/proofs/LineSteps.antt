@@ -1,6 +1,6 @@
 -- Reading one line, part by part.
-use Rattle.std.proofs.Common.{◌≡◌, ℕ, ◌+◌, ◌≤◌, ◌<◌, inl, inr, Bool, true, false, List, [], ◌∷◌, ◌++◌, length, refl, sym, ap, subst, ◌∙◌, append_assoc, append-nil, length-append, arith}
-use Rattle.std.specs.Prelude.{not}
+use Rattle.std.proofs.Common.{◌≡◌, ℕ, ◌+◌, ◌≤◌, ◌<◌, inl, inr, Bool, true, false, List, [], ◌∷◌, ◌++◌, length, refl, sym, ap, subst, ◌∙◌, append_assoc, append-nil, drop, length-append, arith}
+use Rattle.std.specs.Prelude.{MatchBool, not}
 use Rattle.std.specs.Io.KnownBytes.{Consumes, IsAtEnd, Keeps}
 use Rattle.std.proofs.KnownBytes.{Consumes-kept, Consumes-trans}
 use Rattle.text_input.specs.Lines.{HasNoLf}
@@ -10,8 +10,10 @@ use Rattle.line_conversation.specs.declared.conversation.Next.{Next}
 use Rattle.line_conversation.specs.declared.conversation.Next.TheVariants as next
 use Rattle.line_conversation.specs.declared.held.Fate.{Fate}
 use Rattle.line_conversation.specs.declared.held.Fate.TheVariants as fate
-use Rattle.line_conversation.specs.Stream.{HeldState, HoldsAs, Takes, last_of, next_of, CutsLine, Cuts, ReadsLine, ReadsSoFar}
+use Rattle.line_conversation.specs.Turns.{IsLine}
+use Rattle.line_conversation.specs.Stream.{HeldState, Holds, HoldsAs, Takes, last_of, next_of, CutsLine, Cuts, ReadsLine, ReadsSoFar}
 use Rattle.line_conversation.specs.Begins.{nothing_lost}
+use Rattle.line_conversation.proofs.AheadLemmas.{case_true, taken_with_lf}
 
 -- a line begins
 pub line_begins : (source : SourceState) (ahead : List ℕ) (limit : ℕ) (ended : Bool)
@@ -41,6 +43,24 @@ never_fails : (f : Fate) → next_of f ≡ next.Failed → ⊥
 never_fails fate.Kept e = cc
 never_fails fate.TooLong e = cc
 never_fails fate.NoRoom e = cc
+
+-- so it is told as a line
+is_line : (f : Fate) → IsLine (next_of f)
+is_line fate.Kept = tt
+is_line fate.TooLong = tt
+is_line fate.NoRoom = tt
+
+-- a line whose LF was read ahead
+pub line_there : (ends : Bool) (bytes part rest : List ℕ) (cleared after : HeldState) (told : Next) → ends ≡ true
+    → MatchBool ends ((more : List ℕ) × (bytes ≡ part ++ 10 ∷ more) × HasNoLf part) ((bytes ≡ part) × HasNoLf part)
+    → rest ≡ drop (length part + 1) bytes → Holds [] cleared → Takes part cleared after → told ≡ next_of after.fate
+    → IsLine told × ((ended : Bool) → Cuts told ended bytes after.bytes after.limit rest)
+line_there ends bytes part rest cleared after told is split left none takes tells =
+    let taken = case_true _ _ _ is (taken_with_lf ends bytes part rest cleared after is split left takes) in (
+      subst IsLine (sym tells) (is_line after.fate),
+      λ ended. subst (λ (n : Next). Cuts n ended bytes after.bytes after.limit rest) (sym tells)
+          (cuts_by after.fate after.limit taken.0 bytes after.bytes rest ended (taken.3 [] none) (taken.2, taken.1)),
+    )
 
 -- bytes that no LF ended are told by whether there are any
 cuts_last : (line bytes kept rest : List ℕ) (limit : ℕ) (ended : Bool) → ended ≡ true → bytes ≡ line → HasNoLf line → kept ≡ [] → rest ≡ []

@@ -9,7 +9,8 @@ use denote.Enum.Bare.{sameb}
 use Rattle.line_conversation.specs.contracts.conversation.Next.{the_type}
 use Rattle.line_conversation.specs.declared.conversation.Next.{Next}
 use Rattle.line_conversation.specs.declared.conversation.Next.TheVariants as next
-use Rattle.line_conversation.specs.Turns.{Line, Whole, TooLong, NoRoom, Torn, Turn, Heard, Told, told_in, heard_by}
+use Rattle.line_conversation.specs.Begins.{nothing_lost}
+use Rattle.line_conversation.specs.Turns.{IsLine, Line, Whole, TooLong, NoRoom, Torn, Turn, Heard, Told, told_in, heard_by}
 use Rattle.line_conversation.specs.Stream.{CutsLine, Cuts, CutsTurns, HeldState, Hears, MayFail, ReadsLine, StreamState, TookPlace}
 
 -- what was heard, where more bytes come behind it, and the input had not ended
@@ -121,6 +122,32 @@ heard_more first old new held told open_so read limit kept limit_now sink broken
     why : MayFail new.source new.reads → HasFault new.source.fault ⊎ (18446744073709551615 ≤ length (was.lost ++ read.lost) + 1)
     why (inl fault) = inl fault
     why (inr many) = inr (omega (arith, many, read.few, length-append was.lost read.lost))
+
+no_failure : (told : Next) → IsLine told → told ≡ next.Failed → ⊥
+no_failure next.Line line e = cc
+no_failure next.TooLong line e = cc
+no_failure next.Memory line e = cc
+no_failure next.Torn line e = line
+no_failure next.End line e = line
+no_failure next.Failed line e = line
+
+-- a conversation after a line that was read ahead
+pub held_more : (first old : StreamState) (rest : List ℕ) (held : HeldState) (told : Next) → old.broken ≡ false → IsLine told
+    → ((ended : Bool) → Cuts told ended old.ahead held.bytes held.limit rest) → held.limit ≡ old.limit
+    → (before : List Turn) → TookPlace first before old
+    → TookPlace first (before ++ heard_by told held.bytes) (record old { ahead = rest; kept = held.bytes; limit = held.limit; reads = 0 })
+held_more first old rest held told open_so line cut limit before was =
+    heard_more first old (record old { ahead = rest; kept = held.bytes; limit = held.limit; reads = 0 }) held told open_so
+    (record {
+      lost = [];
+      consumed = nothing_lost old.source.remaining;
+      closed = λ closed. (refl, closed);
+      at_end = λ at_end now. at_end now;
+      cut = subst (λ (xs : List ℕ). Cuts told old.ended xs held.bytes held.limit rest) (sym (append-nil old.ahead)) (cut old.ended);
+      failed = λ e. absurd (no_failure told line e);
+      few = omega arith;
+    }) limit refl refl refl (λ e. absurd (no_failure told line e))
+    (λ broken. let clash : true ≡ false = sym broken ∙ open_so in absurd (cc)) before was
 
 -- one that had failed
 pub still_broken : (first old : StreamState) (before : List Turn) (kept : List ℕ) → TookPlace first before old → TookPlace first (before ++ heard_by next.Failed kept) old

@@ -148,3 +148,10 @@ pub record HasEnded (s : StreamState) : Type 0 where
 -- the reader or the writer has failed
 abbrev pub HasFailed : StreamState → Type 0
 HasFailed s = (s.broken ≡ true × MayFail s.source s.reads) ⊎ HasFault s.sink.fault
+
+-- a whole line was read, and no reading has failed
+pub record IsReady (s : StreamState) : Type 0 where
+  pub line : List ℕ
+  pub rest : List ℕ
+  pub cut : CutsLine s.ahead line rest
+  pub open_so : s.broken ≡ false

@@ -25,6 +25,15 @@ heard_by next.Torn line = Heard Torn ∷ []
 heard_by next.End line = []
 heard_by next.Failed line = []
 
+-- a line came to its LF, whether it was kept or dropped
+abbrev pub IsLine : Next → Type 0
+IsLine next.Line = Unit {0}
+IsLine next.TooLong = Unit {0}
+IsLine next.Memory = Unit {0}
+IsLine next.Torn = ⊥
+IsLine next.End = ⊥
+IsLine next.Failed = ⊥
+
 -- the texts that were told, one behind the other
 abbrev pub told_in : List Turn → List ℕ
 told_in [] = []

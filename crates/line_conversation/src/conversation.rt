@@ -1,6 +1,6 @@
 //! What a conversation promises.
-ghost use Rattle.std.specs.Prelude.{◌≡◌, List, [], ◌∷◌, ◌++◌, ℕ, true, false};
-ghost use Rattle.line_conversation.specs.Turns.{Turn, Told, heard_by};
+ghost use Rattle.std.specs.Prelude.{◌≡◌, List, [], ◌∷◌, ◌++◌, ℕ, None, true, false, IfSome, IsSome};
+ghost use Rattle.line_conversation.specs.Turns.{Turn, Told, IsLine, heard_by};
 ghost use Rattle.line_conversation.specs.declared.conversation.Next.TheVariants.{End as AtEnd, Failed as HasFailed};
 
 /// What came next.
@@ -49,13 +49,34 @@ pub trait Conversation {
     fn line(&self) -> &[u8]
         ensures { result.now ≡ kept self.now };
 
-    /// Tells a text, and hands it on before it returns. Whether that succeeded.
+    /// Tells a text, and hands it on before it returns. Whether that succeeded. The line that is kept stays.
     fn tell(&mut self, text: &str) -> bool
         ensures told { (first : Self) (before : List Turn) → took_place first before self.old → result ≡ true → took_place first (before ++ Told text.now ∷ []) self.new }
         ensures untold { (first : Self) (before : List Turn) → took_place first before self.old → result ≡ false → took_place first before self.new }
         ensures failed { result ≡ false → has_failed self.new }
-        ensures whole { result ≡ true → loses self.new → loses self.old };
+        ensures whole { result ≡ true → loses self.new → loses self.old }
+        ensures line { kept self.new ≡ kept self.old };
 
     /// Before any turn nothing took place.
     ghost begins: { (c : Self) → took_place c [] c };
+}
+
+/// A conversation that knows which lines have come already.
+pub trait RoundConversation: Conversation {
+    /// Between the two states nothing was read.
+    ghost unread: { Self → Self → Type 0 };
+
+    /// The next line was read whole already.
+    ghost is_ready: { Self → Type 0 };
+
+    /// The next line, if it was read whole already. It never reads, and so never waits; where there is no such line,
+    /// nothing changes.
+    fn next_held(&mut self) -> Option<Next>
+        ensures heard { (first : Self) (before : List Turn) → Self.Conversation.took_place first before self.old
+            → IfSome result (λ next. Self.Conversation.took_place first (before ++ heard_by next (Self.Conversation.kept self.new)) self.new) }
+        ensures line { IfSome result IsLine }
+        ensures ready { is_ready self.old → IsSome result }
+        ensures none { result ≡ None → self.new ≡ self.old }
+        ensures unread { unread self.old self.new }
+        ensures whole { Self.Conversation.loses self.new → Self.Conversation.loses self.old };
 }

@@ -2,7 +2,7 @@
 //! each line before it reads the next one.
 #![tactic(auto)]
 
-pub use conversation::{Conversation, Next};
+pub use conversation::{Conversation, Next, RoundConversation};
 pub use stream::StreamConversation;
 
 mod ahead;

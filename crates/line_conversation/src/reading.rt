@@ -1,7 +1,8 @@
 //! Reading one line.
-ghost use Rattle.std.specs.Prelude.{◌≡◌, ℕ, List, [], ◌∷◌, ◌++◌, MatchBool};
+ghost use Rattle.std.specs.Prelude.{◌≡◌, ℕ, Bool, List, [], ◌∷◌, ◌++◌, MatchBool, MatchOption};
 ghost use Rattle.text_input.specs.Lines.{HasNoLf};
-ghost use Rattle.line_conversation.specs.Stream.{Takes, ReadsLine};
+ghost use Rattle.line_conversation.specs.Turns.{IsLine};
+ghost use Rattle.line_conversation.specs.Stream.{Cuts, Takes, ReadsLine};
 
 use crate::ahead::Ahead;
 use crate::conversation::Next;
@@ -25,6 +26,24 @@ fn take_ahead(ahead: &mut Ahead, held: &mut Held) -> bool
         ahead.skip(n);
     }
     ends
+}
+
+/// The next line, if its LF was read ahead.
+pub(crate) fn cut_ahead(ahead: &mut Ahead, held: &mut Held) -> Option<Next>
+    ensures limit { held.new.limit ≡ held.old.limit }
+    ensures cut { MatchOption result
+        (HasNoLf ahead.old × (ahead.new ≡ ahead.old) × (held.new ≡ held.old))
+        (λ next. IsLine next × ((ended : Bool) → Cuts next ended ahead.old held.new.bytes held.new.limit ahead.new)) }
+{
+    let (part, ends) = ahead.part();
+    if !ends {
+        return None;
+    }
+    held.clear();
+    held.keep(part);
+    let length = part.len();
+    ahead.skip(length + 1);
+    Some(held.told())
 }
 
 /// Reads the next line of a source, from what was read ahead on. `ended` tells that the source has told its end, behind

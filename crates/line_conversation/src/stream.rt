@@ -1,8 +1,8 @@
 //! The conversation with a reader and a writer.
 use crate::ahead::Ahead;
-use crate::conversation::{Conversation, Next};
+use crate::conversation::{Conversation, Next, RoundConversation};
 use crate::held::Held;
-use crate::reading::read_line;
+use crate::reading::{cut_ahead, read_line};
 use std::alloc::Global;
 use std::io::{Read, Write};
 use std::marker::Model;
@@ -128,5 +128,23 @@ impl<R: Read, W: Write> Conversation for StreamConversation<R, W> {
 
     fn tell(&mut self, text: &str) -> bool {
         self.sink.write_and_flush(text)
+    }
+}
+
+impl<R: Read, W: Write> RoundConversation for StreamConversation<R, W> {
+    ghost use Rattle.std.specs.Prelude.{◌≡◌};
+    ghost use Rattle.line_conversation.specs.Stream.{IsReady};
+
+    ghost unread = { λ before after. after.source ≡ before.source };
+
+    ghost is_ready = { IsReady };
+
+    fn next_held(&mut self) -> Option<Next> {
+        if self.broken {
+            return None;
+        }
+        let next = cut_ahead(&mut self.ahead, &mut self.held)?;
+        self.reads = 0;
+        Some(next)
     }
 }

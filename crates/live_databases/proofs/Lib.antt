@@ -1,4 +1,5 @@
 pub mod LiveLemmas
+pub mod RoundLemmas
 mod FoundLemmas
 pub mod MoveLemmas
 pub mod RebuildLemmas

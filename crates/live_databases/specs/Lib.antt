@@ -3,6 +3,7 @@ pub mod ServedStores
 pub mod Endings
 pub mod LiveStores
 pub mod LiveFound
+pub mod LiveRounds
 pub mod LiveDatabases
 pub mod Moves
 pub mod Rebuilds

@@ -4,6 +4,7 @@ ghost use Rattle.sqlite_wal.specs.Files.{image_at};
 ghost use Rattle.live_databases.specs.LiveDatabases.{EndsLive};
 ghost use Rattle.live_databases.specs.LiveFound.{EndsFound, FindsFiles, RunsOver};
 ghost use Rattle.live_databases.specs.LiveMoves.{EndsUntold, MovesSome, RebuildsNone, RebuildsSome};
+ghost use Rattle.live_databases.specs.LiveRounds.{EndsLiveRounds};
 ghost use Rattle.live_databases.specs.LiveStores.{IsUnopened};
 ghost use Rattle.live_databases.specs.Services.{served_by};
 ghost use Rattle.live_databases.specs.Endings.{is_unlogged, unopened_end};
@@ -11,11 +12,12 @@ ghost use Rattle.live_databases.specs.Endings.{is_unlogged, unopened_end};
 use crate::places::{Place, StoreFile, find_file, is_at, is_store_file};
 use crate::rebuilding::RebuildEnd;
 use crate::regrouping::{rebuild_found, regroup_found};
+use crate::rounds::serve_rounds_found;
 use crate::service_end::{Absence, ServiceEnd};
 use crate::serving::{Service, serve_live_over, serve_logged_over};
 use exit_status::{Status, StoreRefusal};
 use layout_file::LayoutFault;
-use line_conversation::Conversation;
+use line_conversation::{Conversation, RoundConversation};
 use live_site::{CallLog, NoLog};
 use log_file::{ExclusiveFile, FileLog, SystemFile};
 use merge_core::Layout;
@@ -36,6 +38,8 @@ pub struct Opening<'a> {
     pub wait: u16,
     /// The file for the site's log, if there is one.
     pub log: Option<&'a str>,
+    /// How many calls are committed together at most. Only [`serve_live_rounds`] reads it, which knows no log.
+    pub together: u16,
 }
 
 /// A runtime that has databases for a service.
@@ -51,6 +55,18 @@ pub trait LiveDatabases {
         requires { opening.service.site < layout.sites }
         ensures { EndsLive C.Conversation layout opening.entry.service.site (option_copied opening.entry.service.group) opening.entry.service.marking (option_map (λ path. path.now) opening.entry.log)
             conversation.old conversation.new result };
+
+    /// The same where lines that have come are carried out in rounds, each of which is committed in one transaction. There is no
+    /// log.
+    fn serve_rounds<C: RoundConversation>(
+        &self,
+        opening: Opening<'_>,
+        layout: Layout,
+        conversation: &mut C,
+    ) -> ServiceEnd
+        requires { opening.service.site < layout.sites }
+        ensures { EndsLiveRounds C.Conversation opening.entry.together layout opening.entry.service.site (option_copied opening.entry.service.group)
+            opening.entry.service.marking conversation.old conversation.new result };
 
     /// Moves the store of a site of the layout at a path to the next generation of its group, and gives the text to print: the
     /// site's whole delta behind a mark of its own.
@@ -88,6 +104,15 @@ impl LiveDatabases for HostRuntime {
         conversation: &mut C,
     ) -> ServiceEnd {
         serve_found::<Unknown, C>(self, opening, layout, conversation)
+    }
+
+    fn serve_rounds<C: RoundConversation>(
+        &self,
+        opening: Opening<'_>,
+        layout: Layout,
+        conversation: &mut C,
+    ) -> ServiceEnd {
+        serve_rounds_found::<Unknown, C>(self, opening, layout, conversation)
     }
 
     fn move_store(
@@ -248,8 +273,8 @@ fn is_unlogged(ended: ServiceEnd) -> bool
     }
 }
 
-// Opens the database at a path. Where another process has it open it is tried again each hundredth of a second.
-fn open_in_time<S: Beginning>(
+/// Opens the database at a path. Where another process has it open it is tried again each hundredth of a second.
+pub(crate) fn open_in_time<S: Beginning>(
     rt: &HostRuntime,
     opening: Opening<'_>,
 ) -> Result<(Connection<FileStore<FileFrom<S>>>, Place), ServiceEnd>
@@ -339,4 +364,20 @@ pub fn serve_live<R: LiveDatabases, C: Conversation>(
         return ServiceEnd::Ended(Status::NoLayout(LayoutFault::NoSite));
     }
     rt.serve_conversation(opening, layout, conversation)
+}
+
+/// Serves a site over the database at a path in rounds, if the layout has the site.
+pub fn serve_live_rounds<R: LiveDatabases, C: RoundConversation>(
+    rt: &R,
+    opening: Opening<'_>,
+    layout: Layout,
+    conversation: &mut C,
+) -> ServiceEnd
+    ensures { EndsLiveRounds C.Conversation opening.entry.together layout opening.entry.service.site (option_copied opening.entry.service.group)
+        opening.entry.service.marking conversation.old conversation.new result }
+{
+    if opening.service.site >= layout.sites() {
+        return ServiceEnd::Ended(Status::NoLayout(LayoutFault::NoSite));
+    }
+    rt.serve_rounds(opening, layout, conversation)
 }

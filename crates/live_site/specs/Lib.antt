@@ -3,3 +3,4 @@ pub mod Walk
 pub mod Entries
 pub mod Live
 pub mod Steps
+pub mod Rounds

@@ -11,4 +11,5 @@ pub mod laws;
 mod live_site;
 mod overfull;
 mod place;
+mod rounds;
 mod step;

@@ -35,9 +35,9 @@ pub enum Outcome {
 /// seen of it.
 #[derive(Drop)]
 pub struct LiveSite<K: LiveKeeper> {
-    core: SiteCore,
-    keeper: K,
-    frozen: bool,
+    pub(crate) core: SiteCore,
+    pub(crate) keeper: K,
+    pub(crate) frozen: bool,
 }
 
 // Contracts see the core, the keeper, and whether the site serves no more.
@@ -154,8 +154,8 @@ impl<K: LiveKeeper> LiveSite<K> {
     }
 }
 
-// The core of a site that begins from what its keeper gives back.
-fn begun<K: Keeper>(
+/// The core of a site that begins from what its keeper gives back.
+pub(crate) fn begun<K: Keeper>(
     alloc: Global,
     keeper: &mut K,
     layout: Layout,

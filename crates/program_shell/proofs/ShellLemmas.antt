@@ -10,7 +10,7 @@ use Rattle.service_talk.specs.Notes.{NotedState}
 use Rattle.service_talk.specs.OneLine.{OneLineState}
 use Rattle.command_arguments.specs.declared.arguments.Command.{Command}
 use Rattle.serve_engine.specs.declared.marks.Marking.{Marking}
-use Rattle.program_shell.specs.Services.{EndsAsk}
+use Rattle.program_shell.specs.Services.{EndsAsk, EndsServe}
 use Rattle.program_shell.specs.Shell.{EndsCommand}
 
 module _ (t : Ghosts (NotedState StreamState)) (u : Ghosts (NotedState OneLineState)) (lengths : Option (List ℕ)) (layout : LayoutState) (source source_after : SourceState)
@@ -41,3 +41,15 @@ module _ (u : Ghosts (NotedState OneLineState)) (layout : LayoutState) (words : 
       (subst (λ (x : Marking). Asks j h x l) same_marking
       (subst (λ (x : Option Text). Asks j x m l) same_group
       (subst (λ (x : ℕ). Asks x g m l) same_site ends)))
+
+module _ (t : Ghosts (NotedState StreamState)) (layout : LayoutState) (source source_after : SourceState) (sink sink_after errors errors_after : SinkState) (code : ℕ) where
+  abbrev Serves : ℕ → ℕ → Option Text → Marking → Option Text → Type 0
+  Serves together i group marking log = EndsServe t together layout i group marking log source source_after sink sink_after errors errors_after code
+
+  pub served_by : (s r i j : ℕ) (g h : Option Text) (m n : Marking) (l k : Option Text) → s ≡ r → i ≡ j → g ≡ h → m ≡ n → l ≡ k → Serves s i g m l → Serves r j h n k
+  served_by s r i j g h m n l k same_together same_site same_group same_marking same_log ends =
+      subst (λ (x : Option Text). Serves r j h n x) same_log
+      (subst (λ (x : Marking). Serves r j h x l) same_marking
+      (subst (λ (x : Option Text). Serves r j x m l) same_group
+      (subst (λ (x : ℕ). Serves r x g m l) same_site
+      (subst (λ (x : ℕ). Serves x i g m l) same_together ends))))

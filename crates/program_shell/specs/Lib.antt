@@ -3,4 +3,5 @@ pub mod Refusals
 pub mod Runs
 pub mod Services
 pub mod Moves
+pub mod Together
 pub mod Shell

@@ -1,5 +1,5 @@
 -- What the commands that serve a site at once do (the project's own).
-use Rattle.std.specs.Prelude.{◌≡◌, ◌==◌, ◌&&◌, ◌⊎◌, ℕ, Bool, true, false, List, [], ◌∷◌, ◌++◌, Option, Some, None, unwrap_or, if◌then◌else◌}
+use Rattle.std.specs.Prelude.{◌≡◌, ◌==◌, ◌&&◌, ◌⊎◌, ℕ, nat_lt, Bool, true, false, List, [], ◌∷◌, ◌++◌, Option, Some, None, unwrap_or, if◌then◌else◌}
 use Rattle.clap.specs.Words.{Text}
 use Rattle.merge_core.specs.Layout.{LayoutState}
 use Rattle.text_input.specs.Source.{SourceState}
@@ -16,6 +16,7 @@ use Rattle.service_talk.specs.OneLine.{OneLineState}
 use Rattle.live_databases.specs.declared.service_end.ServiceEnd.{ServiceEnd}
 use Rattle.live_databases.specs.Endings.{EndsServiceWith, service_code, service_line, with_note}
 use Rattle.live_databases.specs.LiveDatabases.{EndsLive}
+use Rattle.live_databases.specs.LiveRounds.{EndsLiveRounds}
 
 -- whether deltas travel with a mark
 abbrev pub marking_of : Bool → Marking
@@ -30,12 +31,17 @@ stream_between group marking source sink = record {
   outdated = false;
 }
 
+-- what a conversation came to, by how many calls are committed together: line by line, or in rounds
+abbrev pub EndsLines : {C : Type 0} → Ghosts C → Bool → ℕ → LayoutState → ℕ → Option Text → Marking → Option Text → C → C → ServiceEnd → Type 0
+EndsLines t false most layout i group marking log talk talk_after ended = EndsLive t layout i group marking log talk talk_after ended
+EndsLines t true most layout i group marking log talk talk_after ended = EndsLiveRounds t most layout i group marking talk talk_after ended
+
 -- `serve` answered the lines of a source into a sink
-pub record ServesLines (t : Ghosts (NotedState StreamState)) (layout : LayoutState) (i : ℕ) (group : Option Text) (marking : Marking) (log : Option Text) (source source_after : SourceState)
+pub record ServesLines (t : Ghosts (NotedState StreamState)) (together : ℕ) (layout : LayoutState) (i : ℕ) (group : Option Text) (marking : Marking) (log : Option Text) (source source_after : SourceState)
     (sink sink_after errors errors_after : SinkState) (code : ℕ) : Type 0 where
   pub after : NotedState StreamState
   pub ended : ServiceEnd
-  pub served : EndsLive t layout i group marking log (stream_between group marking source sink) after ended
+  pub served : EndsLines t (nat_lt 1 together) together layout i group marking log (stream_between group marking source sink) after ended
   pub source_left : source_after ≡ after.talk.source
   pub sink_left : sink_after ≡ after.talk.sink
   pub told : EndsServiceWith (with_note ended after.outdated) errors errors_after code
@@ -47,9 +53,9 @@ pub record ServesNone (source source_after : SourceState) (sink sink_after error
   pub told : EndsWith Memory errors errors_after code
 
 -- the command `serve`
-abbrev pub EndsServe : Ghosts (NotedState StreamState) → LayoutState → ℕ → Option Text → Marking → Option Text → SourceState → SourceState → SinkState → SinkState → SinkState → SinkState → ℕ → Type 0
-EndsServe t layout i group marking log source source_after sink sink_after errors errors_after code =
-    ServesLines t layout i group marking log source source_after sink sink_after errors errors_after code
+abbrev pub EndsServe : Ghosts (NotedState StreamState) → ℕ → LayoutState → ℕ → Option Text → Marking → Option Text → SourceState → SourceState → SinkState → SinkState → SinkState → SinkState → ℕ → Type 0
+EndsServe t together layout i group marking log source source_after sink sink_after errors errors_after code =
+    ServesLines t together layout i group marking log source source_after sink sink_after errors errors_after code
     ⊎ ServesNone source source_after sink sink_after errors errors_after code
 
 -- the words behind the first one, each behind a blank

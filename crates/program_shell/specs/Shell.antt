@@ -34,6 +34,7 @@ use Rattle.program_shell.specs.Groups.{group_fault, group_text}
 use Rattle.program_shell.specs.Moves.{EndsRebuild, EndsRegroup}
 use Rattle.program_shell.specs.Refusals.{EndsWithoutLayout}
 use Rattle.program_shell.specs.Runs.{EndsRunTo}
+use Rattle.program_shell.specs.Together.{is_logged_together, logged_text}
 use Rattle.program_shell.specs.Services.{EndsAsk, EndsServe, marking_of}
 
 -- help or the version: it was printed, or the sink met a fault
@@ -122,7 +123,7 @@ module _ (t : Ghosts (NotedState StreamState)) (u : Ghosts (NotedState OneLineSt
   EndsCommand (Site site) lengths out log group others words layout source source_after sink sink_after errors errors_after code =
       EndsBy (EndsStored layout site source source_after sink sink_after) errors errors_after code
   EndsCommand (Serve serving) lengths out log group others words layout source source_after sink sink_after errors errors_after code =
-      EndsServe t layout serving.site group (marking_of serving.plain) log source source_after sink sink_after errors errors_after code
+      EndsServe t serving.together layout serving.site group (marking_of serving.plain) log source source_after sink sink_after errors errors_after code
   EndsCommand (Ask serving) lengths out log group others words layout source source_after sink sink_after errors errors_after code =
       (source_after ≡ source) × EndsAsk u layout serving.site group (marking_of serving.plain) log words sink sink_after errors errors_after code
   EndsCommand (Regroup site) lengths out log group others words layout source source_after sink sink_after errors errors_after code =
@@ -149,6 +150,7 @@ module _ (t : Ghosts (NotedState StreamState)) (u : Ghosts (NotedState OneLineSt
     pub lengths : Option (List ℕ)
     pub cut_found : FindsCut (asked_cut arguments) (Ok lengths)
     pub group_fits : group_fault (asked_command arguments) (asked_group arguments) ≡ None
+    pub one_of_both : is_logged_together (asked_command arguments) (asked_log arguments) ≡ false
     pub layout : Result LayoutState LayoutRefusal
     pub found : FindsLayout remaining (asked_layout arguments) layout
     pub carried_out : EndsUnder (asked_command arguments) lengths (asked_out arguments) (asked_log arguments) (asked_group arguments) (asked_lost arguments) (asked_words arguments) layout source source_after sink sink_after
@@ -173,6 +175,15 @@ pub record RefusesGroup (arguments : List Text) (source source_after : SourceSta
   pub told : Writes errors errors_after (group_text fault) ⊎ HasFault errors_after.fault
   pub status : code ≡ 2
 
+-- the arguments ask for calls that are committed together, and for a log: nothing is read or written
+pub record RefusesTogether (arguments : List Text) (source source_after : SourceState) (sink sink_after errors errors_after : SinkState) (code : ℕ) : Type 0 where
+  pub asked : usage_errors arguments ≡ []
+  pub refused : is_logged_together (asked_command arguments) (asked_log arguments) ≡ true
+  pub unread : source_after ≡ source
+  pub unwritten : sink_after ≡ sink
+  pub told : Writes errors errors_after logged_text ⊎ HasFault errors_after.fault
+  pub status : code ≡ 2
+
 -- no command is asked for, or memory ran out: nothing is read, and what clap says is told
 pub record RunsNone (arguments : List Text) (source source_after : SourceState) (sink sink_after errors errors_after : SinkState) (code : ℕ) : Type 0 where
   pub kind : ErrorKind
@@ -187,4 +198,5 @@ RunsProgram remaining t u arguments source source_after sink sink_after errors e
     RunsCommand t u remaining arguments source source_after sink sink_after errors errors_after code
     ⊎ RefusesCut arguments source source_after sink sink_after errors errors_after code
     ⊎ RefusesGroup arguments source source_after sink sink_after errors errors_after code
+    ⊎ RefusesTogether arguments source source_after sink sink_after errors errors_after code
     ⊎ RunsNone arguments source source_after sink sink_after errors errors_after code

@@ -11,3 +11,4 @@ mod refused_layout;
 mod service;
 mod shell;
 mod standard_error;
+mod together;

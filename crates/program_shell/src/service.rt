@@ -1,12 +1,12 @@
 //! The commands that serve a site at once.
-ghost use Rattle.std.specs.Prelude.{◌≡◌, ◌++◌, [], ◌∷◌, IfOk, option_copied, option_map, string_bytes};
+ghost use Rattle.std.specs.Prelude.{◌≡◌, ◌++◌, [], ◌∷◌, nat_lt, IfOk, option_copied, option_map, string_bytes};
 ghost use Rattle.command_arguments.specs.Arguments.{words_of};
-ghost use Rattle.program_shell.specs.Services.{EndsAsk, EndsServe, behind, call_code, spoken};
+ghost use Rattle.program_shell.specs.Services.{EndsAsk, EndsLines, EndsServe, behind, call_code, spoken};
 
 use command_arguments::Words;
 use exit_status::Status;
-use line_conversation::{Conversation, StreamConversation};
-use live_databases::{LiveDatabases, Opening, serve_live};
+use line_conversation::{Conversation, RoundConversation, StreamConversation};
+use live_databases::{LiveDatabases, Opening, ServiceEnd, serve_live, serve_live_rounds};
 use merge_core::Layout;
 use serve_engine::line_limit;
 use service_talk::{Noted, OneLine};
@@ -23,7 +23,7 @@ pub(crate) fn serve_lines<R: LiveDatabases + AllocGlobal, I: Read, O: Write, E: 
     sink: Sink<O>,
     errors: &mut Sink<E>,
 ) -> (u8, Source<I>, Sink<O>)
-    ensures { EndsServe ⟦<Noted<StreamConversation<I, O>> as Conversation>⟧ layout opening.entry.service.site (option_copied opening.entry.service.group) opening.entry.service.marking (option_map (λ path. path.now) opening.entry.log) source result.1 sink result.2 errors.old errors.new result.0 }
+    ensures { EndsServe ⟦<Noted<StreamConversation<I, O>> as Conversation>⟧ opening.entry.together layout opening.entry.service.site (option_copied opening.entry.service.group) opening.entry.service.marking (option_map (λ path. path.now) opening.entry.log) source result.1 sink result.2 errors.old errors.new result.0 }
 {
     let talk = match StreamConversation::new(
         rt.alloc(),
@@ -35,10 +35,26 @@ pub(crate) fn serve_lines<R: LiveDatabases + AllocGlobal, I: Read, O: Write, E: 
         Err((source, sink)) => return (Status::Memory.end(errors), source, sink),
     };
     let mut talk = Noted::new(talk);
-    let ended = serve_live(rt, opening, layout, &mut talk);
+    let ended = serve_by(rt, opening, layout, &mut talk);
     let code = ended.with_note(talk.is_outdated()).end(errors);
     let (source, sink) = talk.into_inner().into_parts();
     (code, source, sink)
+}
+
+// Serves a conversation: in rounds, where more than one call is to be committed together.
+fn serve_by<R: LiveDatabases, C: RoundConversation>(
+    rt: &R,
+    opening: Opening<'_>,
+    layout: Layout,
+    talk: &mut C,
+) -> ServiceEnd
+    ensures { EndsLines C.Conversation (nat_lt 1 opening.entry.together) opening.entry.together layout opening.entry.service.site (option_copied opening.entry.service.group) opening.entry.service.marking (option_map (λ path. path.now) opening.entry.log)
+        talk.old talk.new result }
+{
+    if opening.together > 1 {
+        return serve_live_rounds(rt, opening, layout, talk);
+    }
+    serve_live(rt, opening, layout, talk)
 }
 
 /// Makes one call. Gives the exit status, and hands the sink back.

@@ -10,6 +10,7 @@ use crate::moves::{rebuild_site, regroup_site};
 use crate::refused_layout::end_without_layout;
 use crate::service::{ask_once, serve_lines};
 use crate::standard_error::StandardError;
+use crate::together::{end_logged_together, is_logged_together};
 use clap::error::ErrorKind as UsageKind;
 use command_arguments::{Command, Request, Serving, requested};
 use exit_status::Status;
@@ -99,6 +100,9 @@ pub fn run_with<
     };
     if let Some(fault) = group_fault(asked.command, asked.group) {
         return (end_without_group(fault, errors), source, sink);
+    }
+    if is_logged_together(asked.command, asked.log) {
+        return (end_logged_together(errors), source, sink);
     }
     let layout = match layout_at(rt, asked.layout) {
         Ok(layout) => layout,
@@ -216,6 +220,7 @@ fn opening<'a>(asked: &Request<'a>, serving: Serving) -> Opening<'a>
     ensures path { result.path.now ≡ unwrap_or (option_copied asked.now.store) [] }
     ensures wait { result.wait ≡ serving.wait }
     ensures log { result.log ≡ asked.now.log }
+    ensures together { result.together ≡ serving.together }
 {
     Opening {
         path: asked.store.unwrap_or(""),
@@ -230,6 +235,7 @@ fn opening<'a>(asked: &Request<'a>, serving: Serving) -> Opening<'a>
         },
         wait: serving.wait,
         log: asked.log,
+        together: serving.together,
     }
 }
 

@@ -95,20 +95,23 @@ module _ {S : Type 0} (g : Ghosts S) (layout : LayoutState) (i : ℕ) (c : Held 
       at (inl kept) = kept
       at (inr kept) = subst (λ (d : DurableState). KeepsPart starts.opened d) nothing kept
 
-  module _ (a : Account) (call : Call) (may : MayStart layout a) (at : i ≡ a.origin.site) where
+  module _ (a b : Account) (may : MayStart layout a) (may_second : MayStart layout b) (at : i ≡ a.origin.site) (at_second : i ≡ b.origin.site) where
     abbrev OwnEither : Type 0
-    OwnEither = IsOwn (grown layout.sites a) restored ⊎ IsOwn (grown layout.sites (after a call)) restored
+    OwnEither = IsOwn (grown layout.sites a) restored ⊎ IsOwn (grown layout.sites b) restored
 
-    at_after : i ≡ (after a call).origin.site
-    at_after = at ∙ ap (λ (o : Origin). o.site) (sym (origin_after a call))
-
-    of_part : (d : DurableState) → (d ≡ durable_of a) ⊎ (d ≡ durable_of (after a call)) → KeepsPart starts.opened d → OwnEither
+    of_part : (d : DurableState) → (d ≡ durable_of a) ⊎ (d ≡ durable_of b) → KeepsPart starts.opened d → OwnEither
     of_part d (inl is) keeps = inl (own_part a may at (subst (λ (x : DurableState). KeepsPart starts.opened x) is keeps))
-    of_part d (inr is) keeps = inr (own_part (after a call) (may_after layout a call may) at_after (subst (λ (x : DurableState). KeepsPart starts.opened x) is keeps))
+    of_part d (inr is) keeps = inr (own_part b may_second at_second (subst (λ (x : DurableState). KeepsPart starts.opened x) is keeps))
 
-    pub own_either : (old : LayoutState) (site : List ℕ) → LeavesPart g old site (durable_of a) (durable_of (after a call)) c
-        → ∥ IsOwn (grown layout.sites a) restored ⊎ IsOwn (grown layout.sites (after a call)) restored ∥₁
+    pub own_either : (old : LayoutState) (site : List ℕ) → LeavesPart g old site (durable_of a) (durable_of b) c
+        → ∥ IsOwn (grown layout.sites a) restored ⊎ IsOwn (grown layout.sites b) restored ∥₁
     own_either old site left = ∥∥₁_map (starts.settles left.first left.second left.left) (λ f. elim f [
       | inl p ↦ of_part (durable_in left.first) left.is_first.part p
       | inr p ↦ of_part (durable_in left.second) left.is_second.part p
     ])
+
+  -- before a call and after it
+  pub own_in_doubt : (a : Account) (call : Call) → MayStart layout a → i ≡ a.origin.site → (old : LayoutState) (site : List ℕ)
+      → LeavesPart g old site (durable_of a) (durable_of (after a call)) c
+      → ∥ IsOwn (grown layout.sites a) restored ⊎ IsOwn (grown layout.sites (after a call)) restored ∥₁
+  own_in_doubt a call may at = own_either a (after a call) may (may_after layout a call may) at (at ∙ ap (λ (o : Origin). o.site) (sym (origin_after a call)))

@@ -1,5 +1,5 @@
 -- The number of a holder.
-use Rattle.std.proofs.Common.{◌≡◌, ℕ, ◌<◌, ◌+◌, Bool, true, false, List, [], ◌∷◌, ◌++◌, length, Option, Some, None, Result, Ok, Err, refl, sym, ap, ◌∙◌, arith}
+use Rattle.std.proofs.Common.{◌≡◌, ℕ, ◌<◌, ◌+◌, Bool, true, false, List, [], ◌∷◌, ◌++◌, length, Option, Some, None, Result, Ok, Err, refl, ap, ◌∙◌, arith}
 use Rattle.std.specs.Prelude.{IfOk, nat_le, nat_lt}
 use Rattle.std.specs.declared.alloc.AllocError.{AllocError}
 use Rattle.std.proofs.lemmas.Bool.Decides.{nat_tests}
@@ -9,7 +9,7 @@ use Rattle.session_list.specs.declared.session.Phase.TheVariants.{Reader, Waitin
 use Rattle.admission_model.specs.declared.ask.Ask.TheVariants.{Leave, Quill}
 use Rattle.admission_model.specs.declared.ask.Call.TheVariants.{Ask}
 use Rattle.admission_model.specs.declared.reply.Refusal.{Refusal}
-use Rattle.admission_model.specs.declared.reply.Refusal.TheVariants.{AlreadyInside, BadHolder, CounterFull, MissingSeats, NoRecord, NotAnnounced, NotHere}
+use Rattle.admission_model.specs.declared.reply.Refusal.TheVariants.{AlreadyInside, BadHolder, CounterFull, MissingSeats, NotAnnounced, NotHere}
 use Rattle.admission_model.specs.Account.{Account, layout_of, seats_in}
 use Rattle.admission_model.specs.View.{view_of, rights_of}
 use Rattle.admission_model.specs.Serving.{reason}

@@ -11,3 +11,10 @@ pub mod FenceLemmas
 pub mod LawLemmas
 pub mod ExampleLemmas
 pub mod MovedLemmas
+pub mod FillingLemmas
+pub mod RoundLemmas
+pub mod BlockLemmas
+pub mod TogetherLemmas
+pub mod HoldLemmas
+pub mod AloneLemmas
+pub mod TakeLemmas

@@ -22,7 +22,7 @@ turns_more : (xs : List Exchange) (x : Exchange) → turns_of (xs ++ x ∷ []) �
 turns_more [] x = refl
 turns_more (y ∷ ys) x = ap (λ (ts : List Turn). Heard y.line ∷ (Told y.told ∷ ts)) (turns_more ys x)
 
-serves_more : (terms : Terms) (a : Account) (xs : List Exchange) (es : List Entry) (b : Account) (x : Exchange) (c : Account) (more : List Entry)
+pub serves_more : (terms : Terms) (a : Account) (xs : List Exchange) (es : List Entry) (b : Account) (x : Exchange) (c : Account) (more : List Entry)
     → Serves terms a xs es b → Answers terms b x.line x.told c more → Serves terms a (xs ++ x ∷ []) (es ++ more) c
 serves_more terms a [] es b x c more (same, none) answers = (
   c,
@@ -42,16 +42,16 @@ serves_more terms a (y ∷ ys) es b x c more (d, first, rest, split, here, later
 )
 
 -- what was told, with one exchange more
-told_more : (text : List ℕ) (xs : List Exchange) (x : Exchange) → HasTold text xs → HasTold text (xs ++ x ∷ [])
+pub told_more : (text : List ℕ) (xs : List Exchange) (x : Exchange) → HasTold text xs → HasTold text (xs ++ x ∷ [])
 told_more text [] x h = absurd h
 told_more text (y ∷ ys) x (inl is) = inl is
 told_more text (y ∷ ys) x (inr h) = inr (told_more text ys x h)
 
-told_last : (text : List ℕ) (xs : List Exchange) (x : Exchange) → x.told ≡ text → HasTold text (xs ++ x ∷ [])
+pub told_last : (text : List ℕ) (xs : List Exchange) (x : Exchange) → x.told ≡ text → HasTold text (xs ++ x ∷ [])
 told_last text [] x is = inl is
 told_last text (y ∷ ys) x is = inr (told_last text ys x is)
 
-idle_more : (terms : Terms) (xs : List Exchange) (x : Exchange) → AreIdle terms xs → IsIdle terms x.line x.told → AreIdle terms (xs ++ x ∷ [])
+pub idle_more : (terms : Terms) (xs : List Exchange) (x : Exchange) → AreIdle terms xs → IsIdle terms x.line x.told → AreIdle terms (xs ++ x ∷ [])
 idle_more terms [] x all here = (here, tt)
 idle_more terms (y ∷ ys) x all here = (all.0, idle_more terms ys x all.1 here)
 

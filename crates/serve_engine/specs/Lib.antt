@@ -8,5 +8,8 @@ pub mod Looks
 pub mod Exchanges
 pub mod Ending
 pub mod Steps
+pub mod Rounds
+pub mod Filling
+pub mod Together
 -- How a site begins, which its clauses cite.
 pub use Rattle.site_engine.specs.Sites

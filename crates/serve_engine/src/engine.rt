@@ -110,8 +110,8 @@ fn serve_lines<K: LiveKeeper, C: Conversation, L: CallLog, P: StorePlace>(
     Status::Io
 }
 
-// How the service ends with the conversation.
-fn ended<K: LiveKeeper>(live: &LiveSite<K>) -> Status
+/// How the service ends with the conversation.
+pub(crate) fn ended<K: LiveKeeper>(live: &LiveSite<K>) -> Status
     ensures { result ≡ ended live.now.frozen }
 {
     if live.is_frozen() {

@@ -51,8 +51,8 @@ pub(crate) fn take_turn<K: LiveKeeper, C: Conversation, L: CallLog, P: StorePlac
     }
 }
 
-// Answers the line that is kept. Where the store is no longer at its place, that is told, and the site serves no more.
-fn answer_line<K: LiveKeeper, C: Conversation, L: CallLog, P: StorePlace>(
+/// Answers the line that is kept. Where the store is no longer at its place, that is told, and the site serves no more.
+pub(crate) fn answer_line<K: LiveKeeper, C: Conversation, L: CallLog, P: StorePlace>(
     alloc: Global,
     live: &mut LiveSite<K>,
     marker: &Marker,
@@ -86,9 +86,10 @@ fn is_gone<K: LiveKeeper, P: StorePlace>(live: &LiveSite<K>, place: &P) -> bool
     !live.is_frozen() && !place.is_there()
 }
 
-// Tells a text.
-fn tell<C: Conversation>(conversation: &mut C, text: &str) -> Turned
-    ensures { Tells C.Conversation conversation.old conversation.new text.now result }
+/// Tells a text.
+pub(crate) fn tell<C: Conversation>(conversation: &mut C, text: &str) -> Turned
+    ensures told { Tells C.Conversation conversation.old conversation.new text.now result }
+    ensures line { C.kept conversation.new ≡ C.kept conversation.old }
 {
     if conversation.tell(text) {
         return Turned::Next;

@@ -1,5 +1,8 @@
 //! A keeper, a conversation and a log whose faults the test chooses.
-ghost use Rattle.std.specs.Prelude.{◌≡◌, IfOk, IfSome, if◌then◌else◌};
+ghost use Rattle.std.specs.Prelude.{◌≡◌, ◌≢◌, All, Err, IfOk, IsTrue, if◌then◌else◌};
+ghost use Rattle.durable_keeper.specs.Keeping.{IsChange};
+ghost use Rattle.durable_keeper.specs.declared.error.KeeperError.TheVariants.{StoreFault};
+ghost use Rattle.round_keeper.specs.Rounds.{ChangesNothing};
 
 use admission_core::{Call, Change, Durable, Reply};
 use durable_keeper::{Keeper, KeeperError, MemoryKeeper};
@@ -8,8 +11,11 @@ use live_keeper::LiveKeeper;
 use live_site::{CallLog, LogFault, StorePlace};
 use log_file::LogFile;
 use merge_core::Layout;
+use round_keeper::RoundKeeper;
 use std::alloc::{AllocError, Global};
 use std::cell::Cell;
+use std::io;
+use std::io::Read;
 
 /// What a keeper answers to the change that it does not keep.
 #[derive(Clone, Copy, PartialEq, Eq)]
@@ -28,6 +34,8 @@ pub struct Failing {
     pub failed: bool,
     /// What it gives back in place of what it kept.
     pub first: Option<Durable>,
+    /// How often it still gives that back. Then it finds no memory for it.
+    pub loads: u64,
     /// How often it was told a change, be it an empty one, or a mark.
     pub told: Cell<u64>,
 }
@@ -51,6 +59,7 @@ impl Failing {
             refusal,
             failed: false,
             first: None,
+            loads: u64::MAX,
             told: Cell::new(0),
         })
     }
@@ -99,6 +108,10 @@ impl Keeper for Failing {
         if self.failed {
             return Err(KeeperError::StoreFault);
         }
+        if self.loads == 0 {
+            return Err(KeeperError::Memory);
+        }
+        self.loads -= 1;
         if let Some(first) = &self.first {
             let copy = first.try_copy(alloc)?;
             return Ok(copy);
@@ -130,6 +143,69 @@ impl LiveKeeper for Failing {
         }
         self.failed = true;
         Err(KeeperError::StoreFault)
+    }
+}
+
+// Whether each change is empty.
+fn are_empty(changes: &[Change]) -> bool
+    ensures { All ChangesNothing changes.now → IsTrue result }
+{
+    changes.iter().all(|change| change.is_empty())
+}
+
+// Makes changes at a keeper in memory, the first one first.
+fn commit_each(keeper: &mut MemoryKeeper, changes: &[Change]) -> Result<(), KeeperError>
+    requires { All (IsChange keeper.old.layout keeper.old.site) changes.now }
+    ensures layout { keeper.new.layout ≡ keeper.old.layout }
+    ensures site { keeper.new.site ≡ keeper.old.site }
+    ensures no_fault { result ≢ Err StoreFault }
+{
+    for change in changes {
+        keeper.commit(change)?;
+    }
+    Ok(())
+}
+
+// Changes that come together count as one.
+impl RoundKeeper for Failing {
+    fn commit_all(&mut self, changes: &[Change]) -> Result<(), KeeperError> {
+        self.count();
+        if self.failed {
+            return Err(KeeperError::StoreFault);
+        }
+        if are_empty(changes) {
+            return Ok(());
+        }
+        if self.left > 0 {
+            self.left -= 1;
+            return commit_each(&mut self.keeper, changes);
+        }
+        if self.refusal == Refusal::Memory {
+            self.left = u64::MAX;
+            return Err(KeeperError::Memory);
+        }
+        self.failed = true;
+        Err(KeeperError::StoreFault)
+    }
+}
+
+/// A reader that gives one part at each call.
+#[derive(Drop)]
+pub struct Parts<'a> {
+    pub parts: &'a [&'a [u8]],
+    pub at: usize,
+}
+
+impl Read for Parts<'_> {
+    fn read(&mut self, buf: &mut [u8]) -> io::Result<usize> {
+        if self.at >= self.parts.len() {
+            return Ok(0);
+        }
+        let part = self.parts[self.at];
+        let n = buf.len().min(part.len());
+        buf[..n].copy_from_slice(&part[..n]);
+        self.at += 1;
+        Ok(n)
     }
 }
 

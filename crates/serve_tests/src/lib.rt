@@ -18,6 +18,8 @@ mod groups;
 #[cfg(test)]
 mod growths;
 #[cfg(test)]
+mod held_lines;
+#[cfg(test)]
 mod log_disks;
 #[cfg(test)]
 mod log_files;
@@ -31,3 +33,5 @@ mod many_sessions;
 mod order;
 #[cfg(test)]
 mod outdated;
+#[cfg(test)]
+mod rounds;

@@ -1,8 +1,9 @@
 -- Turns that are noted, and turns of a conversation of one line.
-use Rattle.std.proofs.Common.{◌≡◌, ℕ, Bool, true, false, ◌||◌, List, [], ◌∷◌, ◌++◌, refl, sym, ap, subst, ◌∙◌, append-nil}
+use Rattle.std.proofs.Common.{◌≡◌, ℕ, Bool, true, false, List, [], ◌∷◌, ◌++◌, refl, sym, ap, subst, ◌∙◌, ◌==◌, suc, append-nil, arith}
+use Rattle.std.proofs.lemmas.Bool.{false_from_ne_true}
 use Rattle.std.specs.Io.KnownBytes.{Appends}
 use Rattle.std.proofs.KnownBytes.{Appends-trans}
-use Rattle.std.specs.Prelude.{is_some}
+use Rattle.std.specs.Prelude.{Option, Some, None, IfSome, is_some}
 use Rattle.text_input.specs.Source.{HasFault}
 use Rattle.text_input.specs.Sink.{SinkState, Writes}
 use Rattle.line_conversation.specs.declared.conversation.Next.{Next}
@@ -10,7 +11,8 @@ use Rattle.line_conversation.specs.declared.conversation.Next.TheVariants as nex
 use Rattle.line_conversation.specs.declared.conversation.Conversation.{Ghosts}
 use Rattle.line_conversation.specs.Turns.{Line, Whole, Turn, Heard, Told, told_in, heard_by}
 use Rattle.line_conversation.proofs.StreamLemmas.{told_more, told_same}
-use Rattle.service_talk.specs.Notes.{NotedState, TookPlace, any_outdated, is_refusal, last_refused, tells_outdated}
+use Rattle.text_input.specs.Lines.{lines_of, onto_first, HasNoLf}
+use Rattle.service_talk.specs.Notes.{NotedState, TookPlace, any_outdated, ends_refused, last_refused, some_outdated}
 use Rattle.service_talk.specs.OneLine.{OneLineState, heard_between, heard_in}
 use Rattle.service_talk.specs.OneLine.{TookPlace as TookPlaceOnce}
 
@@ -23,7 +25,7 @@ refused_heard known [] next.Torn line = refl
 refused_heard known [] next.End line = refl
 refused_heard known [] next.Failed line = refl
 refused_heard known (Heard first ∷ turns) told line = refused_heard known turns told line
-refused_heard known (Told text ∷ turns) told line = refused_heard (is_refusal text) turns told line
+refused_heard known (Told text ∷ turns) told line = refused_heard (ends_refused known (lines_of text)) turns told line
 
 outdated_heard : (known : Bool) (turns : List Turn) (told : Next) (line : List ℕ) → any_outdated known (turns ++ heard_by told line) ≡ any_outdated known turns
 outdated_heard known [] next.Line line = refl
@@ -33,18 +35,18 @@ outdated_heard known [] next.Torn line = refl
 outdated_heard known [] next.End line = refl
 outdated_heard known [] next.Failed line = refl
 outdated_heard known (Heard first ∷ turns) told line = outdated_heard known turns told line
-outdated_heard known (Told text ∷ turns) told line = outdated_heard (known || tells_outdated text) turns told line
+outdated_heard known (Told text ∷ turns) told line = outdated_heard (some_outdated known (lines_of text)) turns told line
 
 -- a text that is told does
-refused_told : (known : Bool) (turns : List Turn) (text : List ℕ) → last_refused known (turns ++ Told text ∷ []) ≡ is_refusal text
+refused_told : (known : Bool) (turns : List Turn) (text : List ℕ) → last_refused known (turns ++ Told text ∷ []) ≡ ends_refused (last_refused known turns) (lines_of text)
 refused_told known [] text = refl
 refused_told known (Heard line ∷ turns) text = refused_told known turns text
-refused_told known (Told first ∷ turns) text = refused_told (is_refusal first) turns text
+refused_told known (Told first ∷ turns) text = refused_told (ends_refused known (lines_of first)) turns text
 
-outdated_told : (known : Bool) (turns : List Turn) (text : List ℕ) → any_outdated known (turns ++ Told text ∷ []) ≡ any_outdated known turns || tells_outdated text
+outdated_told : (known : Bool) (turns : List Turn) (text : List ℕ) → any_outdated known (turns ++ Told text ∷ []) ≡ some_outdated (any_outdated known turns) (lines_of text)
 outdated_told known [] text = refl
 outdated_told known (Heard line ∷ turns) text = outdated_told known turns text
-outdated_told known (Told first ∷ turns) text = outdated_told (known || tells_outdated first) turns text
+outdated_told known (Told first ∷ turns) text = outdated_told (some_outdated known (lines_of first)) turns text
 
 module _ {C : Type 0} (t : Ghosts C) (first old new : NotedState C) (before : List Turn) (was : TookPlace t first before old) where
   -- one more line
@@ -56,18 +58,32 @@ module _ {C : Type 0} (t : Ghosts C) (first old new : NotedState C) (before : Li
     outdated = outdated ∙ (was.outdated ∙ sym (outdated_heard first.outdated before told line));
   }
 
+  -- the same where a line was perhaps read already
+  pub noted_held : (answer : Option Next) (line : List ℕ) → new.refused ≡ old.refused → new.outdated ≡ old.outdated
+      → IfSome answer (λ told. t.took_place first.talk (before ++ heard_by told line) new.talk) → IfSome answer (λ told. TookPlace t first (before ++ heard_by told line) new)
+  noted_held None line refused outdated talk = tt
+  noted_held (Some told) line refused outdated talk = noted_heard told line refused outdated talk
+
   -- one more text
-  pub noted_told : (text : List ℕ) → new.refused ≡ is_refusal text → new.outdated ≡ old.outdated || tells_outdated text
+  pub noted_told : (text : List ℕ) → new.refused ≡ ends_refused old.refused (lines_of text) → new.outdated ≡ some_outdated old.outdated (lines_of text)
       → t.took_place first.talk (before ++ Told text ∷ []) new.talk → TookPlace t first (before ++ Told text ∷ []) new
   noted_told text refused outdated talk = record {
     talk = talk;
-    refused = refused ∙ sym (refused_told first.refused before text);
-    outdated = outdated ∙ (ap (λ (b : Bool). b || tells_outdated text) was.outdated ∙ sym (outdated_told first.outdated before text));
+    refused = refused ∙ (ap (λ (b : Bool). ends_refused b (lines_of text)) was.refused ∙ sym (refused_told first.refused before text));
+    outdated = outdated ∙ (ap (λ (b : Bool). some_outdated b (lines_of text)) was.outdated ∙ sym (outdated_told first.outdated before text));
   }
 
   -- none
   pub noted_untold : new.refused ≡ old.refused → new.outdated ≡ old.outdated → t.took_place first.talk before new.talk → TookPlace t first before new
   noted_untold refused outdated talk = record { talk = talk; refused = refused ∙ was.refused; outdated = outdated ∙ was.outdated }
+
+-- one answer and its LF are one line
+pub one_line : (answer : List ℕ) → HasNoLf answer → lines_of (answer ++ 10 ∷ []) ≡ answer ∷ []
+one_line [] none = refl
+one_line (b ∷ bs) none =
+    let ordinary = false_from_ne_true (b == 10) (none 0 (omega arith)) in
+    let rest = one_line bs (λ i within. none (suc i) (omega (arith, within))) in
+    rw ordinary (ap (onto_first b) rest)
 
 -- lines that are heard, and texts that are told, one behind the other
 lines_more : (turns : List Turn) (line : Line) → heard_in (turns ++ Heard line ∷ []) ≡ heard_in turns ++ line ∷ []

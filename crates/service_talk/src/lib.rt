@@ -2,8 +2,10 @@
 //! answers.
 #![tactic(auto)]
 
+pub use laws::one_answer_is_noted;
 pub use noted::Noted;
 pub use one_line::OneLine;
 
+mod laws;
 mod noted;
 mod one_line;

@@ -1,12 +1,14 @@
 //! What is noted of the answers.
 ghost use Rattle.std.specs.Prelude.{◌≡◌, ◌||◌};
-ghost use Rattle.service_talk.specs.Notes.{is_refusal, tells_outdated};
+ghost use Rattle.text_input.specs.Lines.{lines_of};
+ghost use Rattle.service_talk.specs.Notes.{ends_refused, is_refusal, some_outdated, tells_outdated};
 
-use line_conversation::{Conversation, Next};
+use line_conversation::{Conversation, Next, RoundConversation};
 use std::marker::Model;
+use text_input::cut_line;
 
 /// A conversation, of which is noted whether the last answer was a refusal, and whether some answer told that the site's
-/// store is older than what others have seen of it.
+/// store is older than what others have seen of it. A text has an answer in each of its lines.
 #[derive(Drop)]
 pub struct Noted<C: Conversation> {
     talk: C,
@@ -92,22 +94,50 @@ impl<C: Conversation> Conversation for Noted<C> {
         if !self.talk.tell(text) {
             return false;
         }
-        self.refused = is_refusal(text);
-        self.outdated = any_outdated(self.outdated, text);
+        let (refused, outdated) = noted_of(text, self.refused, self.outdated);
+        self.refused = refused;
+        self.outdated = outdated;
         true
     }
 }
 
-// The answer is a refusal.
-fn is_refusal(text: &str) -> bool
-    ensures { result ≡ is_refusal text.now }
+impl<C: RoundConversation> RoundConversation for Noted<C> {
+    ghost unread = { λ before after. C.unread before.talk after.talk };
+
+    ghost is_ready = { λ s. C.is_ready s.talk };
+
+    fn next_held(&mut self) -> Option<Next> {
+        self.talk.next_held()
+    }
+}
+
+// The notes with the answers of a text, one in each line. Linear in the text.
+fn noted_of(text: &str, was_refused: bool, was_outdated: bool) -> (bool, bool)
+    ensures refused { result.0 ≡ ends_refused was_refused (lines_of text.now) }
+    ensures outdated { result.1 ≡ some_outdated was_outdated (lines_of text.now) }
 {
-    text.as_bytes().starts_with(b"refused ")
+    let mut refused = was_refused;
+    let mut outdated = was_outdated;
+    let mut rest = text.as_bytes();
+    while !rest.is_empty() {
+        let (answer, more) = cut_line(rest);
+        refused = is_refusal(answer);
+        outdated = any_outdated(outdated, answer);
+        rest = more;
+    }
+    (refused, outdated)
+}
+
+// The answer is a refusal.
+fn is_refusal(answer: &[u8]) -> bool
+    ensures { result ≡ is_refusal answer.now }
+{
+    answer.starts_with(b"refused ")
 }
 
 // Whether some answer told that the store is outdated, with this one.
-fn any_outdated(known: bool, text: &str) -> bool
-    ensures { result ≡ known || tells_outdated text.now }
+fn any_outdated(known: bool, answer: &[u8]) -> bool
+    ensures { result ≡ known || tells_outdated answer.now }
 {
-    known || text.as_bytes().starts_with(b"refused OwnRowAhead ")
+    known || answer.starts_with(b"refused OwnRowAhead ")
 }

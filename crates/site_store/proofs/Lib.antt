@@ -7,3 +7,4 @@ pub mod SiteTextLemmas
 pub mod SqlLemmas
 pub mod MoveLemmas
 pub mod NewLemmas
+pub mod RoundLemmas

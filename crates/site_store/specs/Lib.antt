@@ -1,5 +1,6 @@
 pub mod Errors
 pub mod Opened
+pub mod Rounds
 pub mod Served
 pub mod SiteText
 pub mod Sql

@@ -6,6 +6,7 @@ pub use error::{ServedError, StoreOpenError};
 pub use groups::is_ungrouped;
 pub use laws::{grown_law, own_law};
 pub use new_store::make_store;
+pub use round_keeper::RoundKeeper;
 pub use served::Permission;
 pub use sql::SqlKeeper;
 
@@ -15,5 +16,6 @@ mod laws;
 mod new_store;
 mod opening;
 pub mod restart;
+mod rounds;
 mod served;
 mod sql;

@@ -79,7 +79,7 @@ fn put<S: Alter>(tables: &mut Tables<S>, rows: &Rows) -> Result<(), TableError>
 }
 
 /// Whether the database has numbers for all rows.
-fn are_rows(rows: &Rows) -> bool
+pub(crate) fn are_rows(rows: &Rows) -> bool
     ensures cells { IsTrue result → All (λ c. c.n < 2 ^ 63) rows.now.cells }
     ensures notices { IsTrue result → All (λ n. (n.announced < 2 ^ 63) × (n.finished < 2 ^ 63)) rows.now.notices }
     ensures edit { IsTrue result → IsStorable rows.now.edit }
@@ -146,10 +146,10 @@ fn copied_group(alloc: Global, group: Option<&str>) -> Result<Option<String>, Al
 /// Beside the connection it has the places of the sessions and the notices in memory, so that a change asks the
 /// database nothing.
 pub struct SqlKeeper<S: Alter> {
-    alloc: Global,
-    tables: Tables<S>,
-    index: Index,
-    layout: Layout,
+    pub(crate) alloc: Global,
+    pub(crate) tables: Tables<S>,
+    pub(crate) index: Index,
+    pub(crate) layout: Layout,
     site: u16,
     group: Option<String>,
 }

@@ -6,4 +6,5 @@ pub mod OwnLemmas
 pub mod RefusalLemmas
 pub mod RestartLemmas
 pub mod RiseLemmas
+pub mod RoundLemmas
 pub mod TransactLemmas

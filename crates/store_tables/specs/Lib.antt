@@ -1,4 +1,5 @@
 pub mod Kept
 pub mod Marking
 pub mod Reads
+pub mod Rounds
 pub mod Transacts

@@ -14,6 +14,7 @@ mod marking;
 mod moving;
 mod reads;
 pub mod restart;
+mod rounds;
 mod tables;
 
 pub use commits::check_connection;

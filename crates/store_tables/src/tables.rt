@@ -7,6 +7,7 @@ use crate::keeping::{look_kept, make_kept, renew_kept, write_kept};
 use crate::marking::{mark_kept, outdated_kept};
 use crate::moving::set_site_kept;
 use crate::reads::Unread;
+use crate::rounds::write_all_kept;
 use sqlite::{Alter, Connection};
 use std::alloc::Global;
 use store_rows::{Content, SessionEdit, StoredCell, StoredNotice, Version};
@@ -35,6 +36,7 @@ impl<S: Alter> Tables<S> {
     ghost use Rattle.store_schema.specs.declared.Found.TheVariants.{Blank, Store, Other};
     ghost use Rattle.store_tables.specs.Transacts.{Takes, filled, made, with_site};
     ghost use Rattle.store_tables.specs.Reads.{IsInRange};
+    ghost use Rattle.store_tables.specs.Rounds.{AreStorable, TakesAll, changed_all};
     ghost use Rattle.store_tables.specs.Kept.{has_failed, connection_of, schema_of, IsBlank, IsHonest, KeepsStore, KeepsOneOf, KeepsBlank, KeepsBlankOr, KeepsOthers, KeepsSome, KeepsOutdated, KeepsTold, CommitsNothing, IsRefusal, Settles, SettlesBlank};
     ghost use Rattle.store_tables.specs.declared.error.TableError.TheVariants.{BadStore, Memory, StoreFault};
 
@@ -191,6 +193,35 @@ impl<S: Alter> Tables<S> {
             return Ok(());
         }
         let done = write_kept(&mut self.conn, cells, notices, edit);
+        self.failed = done == Err(TableError::StoreFault);
+        done
+    }
+
+    /// Sets counters and notices and puts and drops sessions, each list in turn, in one transaction: the rows of several
+    /// changes. Tables of other names, which were made behind its own, keep their rows.
+    pub fn commit_all(
+        &mut self,
+        cells: &[StoredCell],
+        notices: &[StoredNotice],
+        edits: &[SessionEdit],
+    ) -> Result<(), TableError>
+        requires cells { All (λ c. c.n < 2 ^ 63) cells.now }
+        requires notices { All (λ n. (n.announced < 2 ^ 63) × (n.finished < 2 ^ 63)) notices.now }
+        requires edits { AreStorable edits.now }
+        ensures ok { (it : _) → TakesAll edits.now it → KeepsStore self.old it → OnOk result (KeepsStore self.new (changed_all cells.now notices.now edits.now it)) }
+        ensures memory { (it : _) → KeepsStore self.old it → result ≡ Err Memory → KeepsStore self.new it }
+        ensures either { (it : _) → TakesAll edits.now it → KeepsStore self.old it → result ≡ Err StoreFault → KeepsOneOf self.new it (changed_all cells.now notices.now edits.now it) }
+        ensures beside { (it : _) → (others : _) → TakesAll edits.now it → KeepsStore self.old it → KeepsOthers self.old others → KeepsOthers self.new others }
+        ensures honest { IsHonest self.new → IsHonest self.old }
+        ensures fault { result ≡ Err StoreFault → IsTrue (has_failed self.new) }
+        ensures sound { result ≢ Err StoreFault → has_failed self.new ≡ false }
+        ensures kind { result ≢ Err BadStore }
+        ensures stopped { IsTrue (has_failed self.old) → (result ≡ Err StoreFault) × (self.new ≡ self.old) }
+    {
+        if self.failed {
+            return Err(TableError::StoreFault);
+        }
+        let done = write_all_kept(&mut self.conn, cells, notices, edits);
         self.failed = done == Err(TableError::StoreFault);
         done
     }

@@ -26,6 +26,8 @@ mod moves;
 #[cfg(test)]
 mod moves_stopped;
 #[cfg(test)]
+mod rounds;
+#[cfg(test)]
 mod shells;
 #[cfg(test)]
 mod sites;

@@ -26,6 +26,29 @@ pub const READER: StoredSession = StoredSession {
     place: 1,
 };
 
+/// The counter once it has risen.
+pub const MORE: StoredCell = StoredCell {
+    r: 0,
+    slot: 200,
+    n: 2,
+};
+
+/// The notice once the other writer has finished too.
+pub const FINISHED: StoredNotice = StoredNotice {
+    r: 0,
+    site: 1,
+    announced: 2,
+    finished: 2,
+};
+
+/// A writer at the place that the reader had.
+pub const WRITER: StoredSession = StoredSession {
+    r: 0,
+    h: 8,
+    stage: Stage::Writer,
+    place: 1,
+};
+
 /// A change of the tables.
 #[derive(Clone, Copy)]
 pub enum Step {
@@ -39,6 +62,9 @@ pub enum Step {
     Renew(Version, &'static str),
     /// It is marked as outdated.
     Mark,
+    /// The rows of several changes are put at once: a reader comes and leaves, a writer takes its place, and the counter and
+    /// the notice rise.
+    Round,
 }
 
 /// A store is made, rows are put, and the session is dropped.
@@ -76,6 +102,20 @@ fn is_marked<S: Alter>(tables: &mut Tables<S>) -> bool {
     tables.mark_outdated().is_ok()
 }
 
+fn is_round<S: Alter>(tables: &mut Tables<S>) -> bool {
+    tables
+        .commit_all(
+            &[CELL, MORE],
+            &[NOTICE, FINISHED],
+            &[
+                SessionEdit::Put(READER),
+                SessionEdit::Dropped { r: 0, h: 7 },
+                SessionEdit::Put(WRITER),
+            ],
+        )
+        .is_ok()
+}
+
 fn is_done<S: Alter>(tables: &mut Tables<S>, step: Step) -> bool {
     match step {
         Step::Make => is_made(tables),
@@ -83,6 +123,7 @@ fn is_done<S: Alter>(tables: &mut Tables<S>, step: Step) -> bool {
         Step::Leave => is_left(tables),
         Step::Renew(version, line) => is_renewed(tables, version, line),
         Step::Mark => is_marked(tables),
+        Step::Round => is_round(tables),
     }
 }
 

@@ -4,7 +4,9 @@ use crate::databases::{COUNTER, FIRST, LAYOUT, NEXT, SECOND};
 use crate::files::{
     Texts, Work, empty_files, found_after_crash, found_over, fused, left_after, opened,
 };
-use crate::tables::{CELL, MADE, NOTICE, READER, Step, idle, sizes, steps_done};
+use crate::tables::{
+    CELL, FINISHED, MADE, MORE, NOTICE, READER, Step, WRITER, idle, sizes, steps_done,
+};
 use sqlite::{Alter, Connection, FileStore, Files, Options};
 use sqlite_disk::Crash;
 use std::alloc::Global;
@@ -56,7 +58,7 @@ macro_rules! made {
     };
 }
 
-static STORIES: [Story; 4] = [
+static STORIES: [Story; 5] = [
     // A store is made, a counter, a notice and a session are put, the session is dropped.
     Story {
         first: &[],
@@ -66,6 +68,16 @@ static STORIES: [Story; 4] = [
             made!(&[], &[], &[]),
             made!(&[CELL], &[NOTICE], &[READER]),
             made!(&[CELL], &[NOTICE], &[]),
+        ],
+    },
+    // A store is made, and the rows of several changes are put at once, which depend on each other.
+    Story {
+        first: &[],
+        steps: &[Step::Make, Step::Round],
+        left: &[
+            None,
+            made!(&[], &[], &[]),
+            made!(&[MORE], &[FINISHED], &[WRITER]),
         ],
     },
     // A store of the first version is migrated.
@@ -266,8 +278,13 @@ fn a_store_that_is_made_survives_each_stop(rt: HostRuntime) {
 }
 
 #[test]
+fn a_round_survives_each_stop(rt: HostRuntime) {
+    assert!(rt; survives(&rt, rt.alloc(), 1));
+}
+
+#[test]
 fn a_migration_survives_each_stop(rt: HostRuntime) {
-    for story in 1..4usize {
+    for story in 2..5usize {
         assert!(rt; survives(&rt, rt.alloc(), story), "{story}");
     }
 }

@@ -13,6 +13,8 @@ from .seats import sender_of
 
 # How many seconds a start waits for a store that another process still has: that of a node that was killed.
 STORE_WAIT = 10.0
+# How many calls that wait are committed together at most, where the site has no log.
+TOGETHER = 128
 # The longest pause, in seconds, between two starts of a service that doesn't start.
 LONGEST_PAUSE = 5.0
 # Replies behind which a site serves no more, and what an operator has to do.
@@ -32,7 +34,7 @@ class NodeSite(Site):
 
     def __init__(self, store: Path, site: int, layout: Optional[Path], group: Optional[str], create: bool, log: Optional[Path],
                  program: Union[str, Sequence[str]]) -> None:
-        super().__init__(store, site, layout, group, create, STORE_WAIT, log, program)
+        super().__init__(store, site, layout, group, create, STORE_WAIT, log, program, together=TOGETHER if log is None else 1)
         self.merged: Callable[[], None] = lambda: None
         self.ended: Callable[[ZinduroiError], None] = lambda why: None
         self.last_sent: Optional[str] = None

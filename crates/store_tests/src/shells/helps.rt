@@ -14,7 +14,7 @@ Commands:
   join     Joins deltas, one a line, and prints one delta that has all of them
   play     Simulates several sites: carries out one event a line, and prints one reply a line
   site     Serves one site over its store: carries out one call a line, and prints one reply a line
-  serve    Serves one site at once: answers each line before it reads the next one
+  serve    Serves one site at once: answers each line before it waits for the next one
   ask      Makes one call at one site, and prints its reply
   regroup  Moves a site's store to the next generation of its group, and prints all that the site knows
   rebuild  Builds a site again that lost its store, of what the other sites know of it
@@ -133,9 +133,9 @@ Example:
 ";
 
 const SERVE_HELP: &str = "\
-Serves one site at once: answers each line before it reads the next one
+Serves one site at once: answers each line before it waits for the next one
 
-Usage: seat_cli serve --site I --store FILE [--layout FILE] [--group NAME | --plain] [--create] [--grow] [--wait SECONDS] [--log FILE]
+Usage: seat_cli serve --site I --store FILE [--layout FILE] [--group NAME | --plain] [--create] [--grow] [--wait SECONDS] [--together N | --log FILE]
 
 Options:
       --site <I>        The number of the site in the layout, from 0
@@ -147,14 +147,21 @@ Options:
       --grow            Let the store know the layout's sites, where it was made for fewer
       --wait <SECONDS>  How many seconds to wait while another process has the store open, at most 65535 [default: 0]
       --log <FILE>      The file that the site's log is appended to
+      --together <N>    How many calls that have come are committed together, from 1 to 256 [default: 1]
   -h, --help            Print help
 
 Each line of the input is a call as `site` has them, or one of these:
   show NAME        the reply is `rights R inside I unfinished U`, from this site's own book
   sessions NAME    the reply is the number of sessions at record NAME, then `H PHASE` of each, in order of arrival
   fence NAME H     the reply is `fence N` while H is inside record NAME: a number that grows behind each writer
-Each line gets one reply, which is printed before the next line is read. A change is committed before its reply is
-printed. There is no limit on the number of lines: a program starts `serve` and keeps two pipes to it.
+Each line gets one reply, which is printed before the service waits for another line. A change is committed before its
+reply is printed. There is no limit on the number of lines: a program starts `serve` and keeps two pipes to it.
+
+A caller may send further lines before it reads a reply. With --together, up to N lines that have come are carried out
+one after the other, committed in one transaction, and then answered in their order. The service never waits for more of
+them. If the transaction fails, the first line that changed something and all behind it are answered `refused
+StoreFault`. A crash leaves each transaction whole, or nothing of it. Beside --log an N above 1 is refused:
+`together refused Log` and status 2.
 
 Unlike `site`, the service goes on behind a line that can't be read, whose reply is `refused BadWord K`: word K is the
 first that can't stand there, is missing, or is one too many, counted from 1 by single blanks. It also goes on behind

@@ -1,9 +1,9 @@
 //! A runtime whose arguments, files and standard streams the test chooses.
 use exit_status::{Status, StoreRefusal};
-use line_conversation::Conversation;
+use line_conversation::{Conversation, RoundConversation};
 use live_databases::{
     Absence, LiveDatabases, Opening, RebuildEnd, Service, ServiceEnd, make_rebuilt_over,
-    regroup_over, serve_live_over,
+    regroup_over, serve_live_over, serve_rounds_over,
 };
 use live_site::{NoLog, NoPlace};
 use merge_core::Layout;
@@ -312,7 +312,6 @@ impl Databases for Fake {
 }
 
 impl LiveDatabases for Fake {
-    // One database is new, one is there, and one is in use.
     fn serve_conversation<C: Conversation>(
         &self,
         opening: Opening<'_>,
@@ -322,14 +321,8 @@ impl LiveDatabases for Fake {
         if self.note_opening(opening).is_err() {
             return ServiceEnd::Ended(Status::Memory);
         }
-        if opening.path == "used.db" {
-            return ServiceEnd::Absent(Absence::InUse);
-        }
-        if !opening.service.permission.create && opening.path != "old.db" {
-            return ServiceEnd::Absent(Absence::NoStore);
-        }
-        if opening.service.permission.create && opening.path != "new.db" {
-            return ServiceEnd::Absent(Absence::Exists);
+        if let Some(absence) = absence_of(opening) {
+            return ServiceEnd::Absent(absence);
         }
         let Ok(connection) = Connection::open_in_memory(self.alloc) else {
             return ServiceEnd::Ended(Status::Memory);
@@ -351,6 +344,40 @@ impl LiveDatabases for Fake {
         );
         ended
     }
+
+    fn serve_rounds<C: RoundConversation>(
+        &self,
+        opening: Opening<'_>,
+        layout: Layout,
+        conversation: &mut C,
+    ) -> ServiceEnd {
+        if self.note_opening(opening).is_err() {
+            return ServiceEnd::Ended(Status::Memory);
+        }
+        if let Some(absence) = absence_of(opening) {
+            return ServiceEnd::Absent(absence);
+        }
+        let Ok(connection) = Connection::open_in_memory(self.alloc) else {
+            return ServiceEnd::Ended(Status::Memory);
+        };
+        let (ended, _connection) = serve_rounds_over(
+            self.alloc,
+            connection,
+            layout,
+            Service {
+                permission: Permission {
+                    create: true,
+                    grow: false,
+                },
+                ..opening.service
+            },
+            opening.together,
+            conversation,
+            &NoPlace {},
+        );
+        ended
+    }
+
     // The store at one path is that of site 0 of a group in which nothing was done.
     fn move_store(
         &self,
@@ -399,6 +426,20 @@ impl LiveDatabases for Fake {
             Err(ended) => Err(RebuildEnd::Ended(ended)),
         }
     }
+}
+
+// Why a database is not opened, if it is not: one is new, one is there, and one is in use.
+fn absence_of(opening: Opening<'_>) -> Option<Absence> {
+    if opening.path == "used.db" {
+        return Some(Absence::InUse);
+    }
+    if !opening.service.permission.create && opening.path != "old.db" {
+        return Some(Absence::NoStore);
+    }
+    if opening.service.permission.create && opening.path != "new.db" {
+        return Some(Absence::Exists);
+    }
+    None
 }
 
 impl Fake {

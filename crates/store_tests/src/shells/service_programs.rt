@@ -5,11 +5,11 @@ use std::io::ErrorKind;
 use test_streams::NEVER;
 
 // Arguments that are wrong, and what goes to standard error.
-static WRONG: [Wrong; 5] = [
+static WRONG: [Wrong; 10] = [
     (
         &[b"seat_cli", b"serve", b"--site=0"],
         "error: the following required arguments were not provided:\n  --store <FILE>\n\n\
-         Usage: seat_cli serve --site I --store FILE [--layout FILE] [--group NAME | --plain] [--create] [--grow] [--wait SECONDS] [--log FILE]\n\nFor more information, try '--help'.\n",
+         Usage: seat_cli serve --site I --store FILE [--layout FILE] [--group NAME | --plain] [--create] [--grow] [--wait SECONDS] [--together N | --log FILE]\n\nFor more information, try '--help'.\n",
     ),
     (
         &[
@@ -22,9 +22,62 @@ static WRONG: [Wrong; 5] = [
         "error: invalid value 'x' for '--wait <SECONDS>': invalid digit found in string\n\nFor more information, try '--help'.\n",
     ),
     (
+        &[
+            b"seat_cli",
+            b"serve",
+            b"--site=0",
+            b"--store=a.db",
+            b"--together=0",
+        ],
+        "error: invalid value '0' for '--together <N>': 0 is not in 1..=256\n\nFor more information, try '--help'.\n",
+    ),
+    (
+        &[
+            b"seat_cli",
+            b"serve",
+            b"--site=0",
+            b"--store=a.db",
+            b"--together=257",
+        ],
+        "error: invalid value '257' for '--together <N>': 257 is not in 1..=256\n\nFor more information, try '--help'.\n",
+    ),
+    (
+        &[
+            b"seat_cli",
+            b"serve",
+            b"--site=0",
+            b"--store=a.db",
+            b"--together=x",
+        ],
+        "error: invalid value 'x' for '--together <N>': invalid digit found in string\n\nFor more information, try '--help'.\n",
+    ),
+    (
+        &[
+            b"seat_cli",
+            b"serve",
+            b"--site=0",
+            b"--store=a.db",
+            b"--together=2",
+            b"--log=a.log",
+        ],
+        "together refused Log\n",
+    ),
+    (
+        &[
+            b"seat_cli",
+            b"ask",
+            b"--site=0",
+            b"--store=a.db",
+            b"--together=2",
+            b"send",
+        ],
+        "error: unexpected argument '--together' found\n\n  tip: to pass '--together' as a value, use '-- --together'\n\n\
+         Usage: seat_cli ask --site I --store FILE [--layout FILE] [--group NAME | --plain] [--create] [--grow] [--wait SECONDS] [--log FILE] WORD..\n\nFor more information, try '--help'.\n",
+    ),
+    (
         &[b"seat_cli", b"serve", b"--site=0", b"--store=a.db", b"send"],
         "error: unexpected argument 'send' found\n\n\
-         Usage: seat_cli serve --site I --store FILE [--layout FILE] [--group NAME | --plain] [--create] [--grow] [--wait SECONDS] [--log FILE]\n\nFor more information, try '--help'.\n",
+         Usage: seat_cli serve --site I --store FILE [--layout FILE] [--group NAME | --plain] [--create] [--grow] [--wait SECONDS] [--together N | --log FILE]\n\nFor more information, try '--help'.\n",
     ),
     (
         &[b"seat_cli", b"ask", b"--site=0", b"--store=a.db"],
@@ -54,7 +107,7 @@ fn wrong_arguments_of_a_service_are_told_and_nothing_is_read(rt: HostRuntime) {
 }
 
 // Arguments and input, and what `serve` does: each line is answered, one that can't be read too.
-static SERVED: [Carried; 8] = [
+static SERVED: [Carried; 11] = [
     (
         &[
             b"seat_cli",
@@ -108,6 +161,54 @@ static SERVED: [Carried; 8] = [
              refused WrongGroup\nrefused OtherRecords\nrefused Damaged\nrefused BadWord 2\n",
             "",
             "new.db\n",
+        ),
+    ),
+    (
+        &[
+            b"seat_cli",
+            b"serve",
+            b"--site=0",
+            b"--store=new.db",
+            b"--create",
+            b"--together=1",
+            b"--log=a.log",
+        ],
+        "read a 7\n",
+        (0, "admitted\n", "", "new.db\nlog a.log\n"),
+    ),
+    (
+        &[
+            b"seat_cli",
+            b"serve",
+            b"--site=0",
+            b"--store=new.db",
+            b"--create",
+            b"--together=4",
+        ],
+        "read a 7\nread a 7\nleave a 7\nread a 8\nshow a\nreed\nsessions a\nleave a 8",
+        (
+            0,
+            "admitted\nrefused AlreadyHere\nleft reader\nadmitted\nrights 1 inside 1 unfinished 0\nrefused BadWord 1\n1 8 reader\nrefused BadWord\n",
+            "",
+            "new.db\n",
+        ),
+    ),
+    (
+        &[
+            b"seat_cli",
+            b"serve",
+            b"--site=1",
+            b"--store=old.db",
+            b"--layout=three.toml",
+            b"--plain",
+            b"--together=256",
+        ],
+        "announce a 5\ntake {\"from\":2,\"rows\":[{\"ann\":2,\"fin\":0,\"out\":[0,0,0],\"r\":0,\"s\":1,\"taken\":0}],\"v\":1}\nread a 7\n",
+        (
+            5,
+            "announced 1\nrefused OwnRowAhead 0\nrefused Frozen\n",
+            "store refused Outdated\n",
+            "three.toml\nold.db\n",
         ),
     ),
     (

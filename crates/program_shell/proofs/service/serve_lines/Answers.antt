@@ -6,9 +6,9 @@ pub returns : goal.returns
 returns g c =
     let begins : c.new-talk.result ≡ stream_between (option_copied c.args.opening.service.group) c.args.opening.service.marking c.args.source c.args.sink = search rules in
     inl (record {
-      after = c.serve_live-ended.new.conversation;
-      ended = c.serve_live-ended.result;
-      served = rw (sym begins) c.serve_live-ended.ensures;
+      after = c.serve_by-ended.new.talk;
+      ended = c.serve_by-ended.result;
+      served = rw (sym begins) c.serve_by-ended.ensures;
       source_left = search rules;
       sink_left = search rules;
       told = search rules;

@@ -1,11 +1,19 @@
 use Rattle.std.proofs.Common.{rules, Bor, List, ℕ, Option, ap, option_copied, option_map, refl, subst}
 use Rattle.std.specs.Prelude.{[], unwrap_or}
-use Rattle.program_shell.proofs.ShellLemmas.{asked_by}
+use Rattle.program_shell.proofs.ShellLemmas.{asked_by, served_by}
 use Rattle.program_shell.specs.Moves.{EndsRebuild, EndsRegroup}
 use Rattle.program_shell.proofs.shell.carry_out.Goals as goal
 
 pub returns-in-Play : goal.returns-in-Play
 returns-in-Play g c = rw c.in-Play.is (c.play_engine-ended.result, c.play_engine-ended.ensures, search rules)
+
+pub returns-in-Serve : goal.returns-in-Serve
+returns-in-Serve g c =
+    let opened = c.opening-opening.ensures in
+    rw c.in-Serve.is
+    (served_by _ c.args.layout c.args.source _ c.args.sink _ c.args.errors.now _ _ _ _ _ _ _ _ _ _ _ _ opened.together opened.site
+    (ap (λ (o : Option (Bor (List ℕ))). option_copied o) opened.group) opened.marking
+    (ap (λ (o : Option (Bor (List ℕ))). option_map (λ path. path.now) o) opened.log) c.serve_lines.ensures)
 
 pub returns-in-Ask : goal.returns-in-Ask
 returns-in-Ask g c =

@@ -11,7 +11,7 @@ returns-then-is_gone-clause-answered g c = λ terms a are stands.
       fault_line,
       store_gone g.K.Keeper g.K.LiveKeeper.is_outdated g.L.CallLog terms a c.args.live.now c.freeze.new.self c.args.log.now (g.C.Conversation.kept c.args.conversation.now) stands
           (c.is_gone.ensures c.if-is_gone.true) c.freeze.ensures,
-      c.tell.ensures,
+      c.tell.ensures.told,
     )
 
 pub returns-in-LogFailed-clause-answered : goal.returns-in-LogFailed-clause-answered
@@ -30,5 +30,5 @@ returns-clause-answered g c = λ terms a are stands.
       subst (λ (t : List ℕ). Exchanges g.K.Keeper g.K.LiveKeeper.is_outdated g.L.CallLog terms a old s.live c.args.log.now s.log (exchange_of (g.C.Conversation.kept c.args.conversation.now) t))
           (sym (c.told_text.ensures ∙ ap (told_text told) c.as_str.ensures.value))
           (subst (λ (l : List ℕ). Exchanges g.K.Keeper g.K.LiveKeeper.is_outdated g.L.CallLog terms a old s.live c.args.log.now s.log (exchange_of l (told_text told (string_bytes s.text)))) c.line.ensures exchange),
-      c.tell-2.ensures,
+      c.tell-2.ensures.told,
     )

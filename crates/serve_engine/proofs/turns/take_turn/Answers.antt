@@ -17,7 +17,7 @@ returns-in-TooLong-clause-turned g c = λ terms a first keeper talk began n are 
     told_turn g.K.Keeper g.K.LiveKeeper.is_outdated g.C.Conversation g.L.CallLog terms a first keeper talk began c.args.live.now c.args.live.now
     c.next_line.new.self c.tell.new.conversation c.args.log.now c.args.log.now w.exchanges w.entries x n c.tell.result
     (c.in-TooLong.ensures.heard talk _ w.heard) w.logged w.counted w.site (λ lost. w.whole (c.in-TooLong.ensures.whole lost))
-    (plain g.K.Keeper g.K.LiveKeeper.is_outdated g.L.CallLog terms w.site.account c.args.live.now c.args.log.now x w.site.stands (told_too_long terms w.site.account) (still_too_long terms)) c.tell.ensures
+    (plain g.K.Keeper g.K.LiveKeeper.is_outdated g.L.CallLog terms w.site.account c.args.live.now c.args.log.now x w.site.stands (told_too_long terms w.site.account) (still_too_long terms)) c.tell.ensures.told
 
 pub returns-in-Memory-clause-turned : goal.returns-in-Memory-clause-turned
 returns-in-Memory-clause-turned g c = λ terms a first keeper talk began n are w.
@@ -25,7 +25,7 @@ returns-in-Memory-clause-turned g c = λ terms a first keeper talk began n are w
     told_turn g.K.Keeper g.K.LiveKeeper.is_outdated g.C.Conversation g.L.CallLog terms a first keeper talk began c.args.live.now c.args.live.now
     c.next_line.new.self c.tell-in-Memory.new.conversation c.args.log.now c.args.log.now w.exchanges w.entries x n c.tell-in-Memory.result
     (c.in-Memory.ensures.heard talk _ w.heard) w.logged w.counted w.site (λ lost. w.whole (c.in-Memory.ensures.whole lost))
-    (plain g.K.Keeper g.K.LiveKeeper.is_outdated g.L.CallLog terms w.site.account c.args.live.now c.args.log.now x w.site.stands (told_no_room terms w.site.account) (still_no_room terms)) c.tell-in-Memory.ensures
+    (plain g.K.Keeper g.K.LiveKeeper.is_outdated g.L.CallLog terms w.site.account c.args.live.now c.args.log.now x w.site.stands (told_no_room terms w.site.account) (still_no_room terms)) c.tell-in-Memory.ensures.told
 
 pub returns-in-Torn-clause-turned : goal.returns-in-Torn-clause-turned
 returns-in-Torn-clause-turned g c = λ terms a first keeper talk began n are w.
@@ -33,4 +33,4 @@ returns-in-Torn-clause-turned g c = λ terms a first keeper talk began n are w.
     told_turn g.K.Keeper g.K.LiveKeeper.is_outdated g.C.Conversation g.L.CallLog terms a first keeper talk began c.args.live.now c.args.live.now
     c.next_line.new.self c.tell-in-Torn.new.conversation c.args.log.now c.args.log.now w.exchanges w.entries x n c.tell-in-Torn.result
     (c.in-Torn.ensures.heard talk _ w.heard) w.logged w.counted w.site (λ lost. w.whole (c.in-Torn.ensures.whole lost))
-    (plain g.K.Keeper g.K.LiveKeeper.is_outdated g.L.CallLog terms w.site.account c.args.live.now c.args.log.now x w.site.stands (told_torn terms w.site.account) (still_torn terms)) c.tell-in-Torn.ensures
+    (plain g.K.Keeper g.K.LiveKeeper.is_outdated g.L.CallLog terms w.site.account c.args.live.now c.args.log.now x w.site.stands (told_torn terms w.site.account) (still_torn terms)) c.tell-in-Torn.ensures.told
