@@ -86,6 +86,30 @@ impl MemoryKeeper {
             sessions: Sessions::new(alloc),
         })
     }
+
+    /// A copy of it. Linear in what is kept.
+    pub fn try_copy(&self, alloc: Global) -> Result<MemoryKeeper, AllocError>
+        ensures { IfOk result (λ k. k ≡ self.now) }
+    {
+        let layout = self.layout.try_copy(alloc)?;
+        let cells = Vec::from_slice(alloc, self.cells.as_slice())?;
+        let list = self.sessions.list(alloc)?;
+        // No session is there twice, so the list is one of sessions.
+        let Some(sessions) = Sessions::from_list(alloc, list.as_slice())? else {
+            return Err(AllocError);
+        };
+        Ok(MemoryKeeper {
+            layout,
+            site: self.site,
+            cells,
+            sessions,
+        })
+    }
+
+    /// Where its memory comes from.
+    pub fn alloc(&self) -> Global {
+        *self.cells.allocator()
+    }
 }
 
 impl Keeper for MemoryKeeper {

@@ -6,4 +6,5 @@ pub use keeper::RoundKeeper;
 pub use staged::{Base, Staged};
 
 mod keeper;
+mod memory;
 mod staged;

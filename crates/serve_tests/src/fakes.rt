@@ -1,7 +1,5 @@
 //! A keeper, a conversation and a log whose faults the test chooses.
-ghost use Rattle.std.specs.Prelude.{◌≡◌, ◌≢◌, All, Err, IfOk, IsTrue, if◌then◌else◌};
-ghost use Rattle.durable_keeper.specs.Keeping.{IsChange};
-ghost use Rattle.durable_keeper.specs.declared.error.KeeperError.TheVariants.{StoreFault};
+ghost use Rattle.std.specs.Prelude.{◌≡◌, All, IfOk, IsTrue, if◌then◌else◌};
 ghost use Rattle.round_keeper.specs.Rounds.{ChangesNothing};
 
 use admission_core::{Call, Change, Durable, Reply};
@@ -153,19 +151,6 @@ fn are_empty(changes: &[Change]) -> bool
     changes.iter().all(|change| change.is_empty())
 }
 
-// Makes changes at a keeper in memory, the first one first.
-fn commit_each(keeper: &mut MemoryKeeper, changes: &[Change]) -> Result<(), KeeperError>
-    requires { All (IsChange keeper.old.layout keeper.old.site) changes.now }
-    ensures layout { keeper.new.layout ≡ keeper.old.layout }
-    ensures site { keeper.new.site ≡ keeper.old.site }
-    ensures no_fault { result ≢ Err StoreFault }
-{
-    for change in changes {
-        keeper.commit(change)?;
-    }
-    Ok(())
-}
-
 // Changes that come together count as one.
 impl RoundKeeper for Failing {
     fn commit_all(&mut self, changes: &[Change]) -> Result<(), KeeperError> {
@@ -178,7 +163,7 @@ impl RoundKeeper for Failing {
         }
         if self.left > 0 {
             self.left -= 1;
-            return commit_each(&mut self.keeper, changes);
+            return self.keeper.commit_all(changes);
         }
         if self.refusal == Refusal::Memory {
             self.left = u64::MAX;

@@ -5,11 +5,10 @@ use Rattle.std.proofs.lemmas.List.Elements.{All-append, All-cons, All-head, All-
 use Rattle.sqlite_trees.specs.declared.store.Store.{Ghosts}
 use Rattle.sqlite.specs.Held.{Held}
 use Rattle.merge_core.specs.Layout.{LayoutState}
-use Rattle.admission_model.specs.declared.durable.DurableCell.{DurableCell}
-use Rattle.admission_core.specs.declared.change.SessionChange.{SessionChange}
-use Rattle.admission_core.specs.Kept.{ChangeState, DurableState}
+use Rattle.admission_core.specs.Kept.{ChangeState}
 use Rattle.durable_keeper.specs.Keeping.{changed}
 use Rattle.round_keeper.specs.Rounds.{ChangesNothing, changed_all as made_all}
+use Rattle.round_keeper.proofs.StagedLemmas.{changed_all-push}
 use Rattle.store_schema.specs.declared.Version.TheVariants.{Second}
 use Rattle.store_rows.specs.declared.content.StoredCell.{StoredCell}
 use Rattle.store_rows.specs.declared.content.StoredNotice.{StoredNotice}
@@ -37,10 +36,6 @@ use Rattle.site_store.proofs.SqlLemmas.{either_first, nothing_after}
 changes_more : (done : List ChangeState) (c : ChangeState) (it : Stored) → after_changes (done ++ c ∷ []) it ≡ after_change c (after_changes done it)
 changes_more [] c it = refl
 changes_more (x ∷ xs) c it = changes_more xs c (after_change x it)
-
-changed_more : (done : List ChangeState) (c : ChangeState) (d : DurableState) → made_all (done ++ c ∷ []) d ≡ changed c (made_all done d)
-changed_more [] c d = refl
-changed_more (x ∷ xs) c d = changed_more xs c (changed x d)
 
 -- what no change touches
 stays_second : (changes : List ChangeState) (it : Stored) → (after_changes changes it).version ≡ it.version
@@ -94,7 +89,7 @@ one_planned done c it cells notices edits rows index next plans plan makes knows
     record {
       rows = rows_more cells notices edits rows it ∙ ap (after rows) plans.rows ∙ all;
       takes = record { second = plans.takes.second; free = free_after edits rows.edit it.sessions plans.takes.free free };
-      durable = sym (ap durable_in all) ∙ makes.durable ∙ ap (changed c) plans.durable ∙ sym (changed_more done c (durable_in it));
+      durable = sym (ap durable_in all) ∙ makes.durable ∙ ap (changed c) plans.durable ∙ sym (changed_all-push done c (durable_in it));
       content = subst IsContent all makes.content;
       known = subst (Knows next) all knows;
     }
@@ -164,18 +159,6 @@ module _ {S : Type 0} (g : Ghosts S) (c : Held S) (layout : LayoutState) (site :
   ]
 
 -- ---- changes that change nothing
-
-changed_of : List DurableCell → Option SessionChange → DurableState → DurableState
-changed_of cells session d = changed (record { cells = cells; session = session }) d
-
-changed_nothing : (c : ChangeState) (d : DurableState) → ChangesNothing c → changed c d ≡ d
-unfolding changed_of
-changed_nothing c d none = ap (λ (x : List DurableCell). changed_of x c.session d) none.0 ∙ ap (λ (s : Option SessionChange). changed_of [] s d) none.1
-
-pub nothing_changed : (changes : List ChangeState) (d : DurableState) → All ChangesNothing changes → made_all changes d ≡ d
-nothing_changed [] d none = refl
-nothing_changed (c ∷ cs) d none =
-    ap (made_all cs) (changed_nothing c d (All-head ChangesNothing c cs none)) ∙ nothing_changed cs d (All-tail ChangesNothing c cs none)
 
 pub nothing_stored : (changes : List ChangeState) (it : Stored) → All ChangesNothing changes → after_changes changes it ≡ it
 nothing_stored [] it none = refl

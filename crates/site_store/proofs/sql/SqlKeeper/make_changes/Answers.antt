@@ -10,7 +10,8 @@ use Rattle.std.proofs.lemmas.Result.{on_ok_weaker}
 use Rattle.site_store.specs.Sql.{IsOneOf, KeepsContent, KeepsPart, row_of}
 use Rattle.site_store.proofs.OpenLemmas.{if_honest, twice}
 use Rattle.site_store.proofs.SqlLemmas.{either_first}
-use Rattle.site_store.proofs.RoundLemmas.{left_all, nothing_changed, nothing_stored}
+use Rattle.round_keeper.proofs.StagedLemmas.{nothing_changed}
+use Rattle.site_store.proofs.RoundLemmas.{left_all, nothing_stored}
 use Rattle.site_store.proofs.sql.SqlKeeper.make_changes.Goals as goal
 
 pub returns-then-faults-gt0-clause-fault : goal.returns-then-faults-gt0-clause-fault

@@ -1,0 +1,44 @@
+//! A keeper in memory makes several changes at once.
+ghost use Rattle.std.specs.Prelude.{◌≡◌, ◌≢◌, All, Err, IsTrue, OnOk};
+ghost use Rattle.durable_keeper.specs.Keeping.{IsChange};
+ghost use Rattle.durable_keeper.specs.declared.error.KeeperError.TheVariants.{StoreFault};
+ghost use Rattle.round_keeper.specs.Rounds.{ChangesNothing, changed_all};
+
+use crate::keeper::RoundKeeper;
+use admission_core::Change;
+use durable_keeper::{Keeper, KeeperError, MemoryKeeper};
+
+// Whether each change is empty.
+fn are_empty(changes: &[Change]) -> bool
+    ensures empty { IsTrue result → All ChangesNothing changes.now }
+    ensures each { All ChangesNothing changes.now → IsTrue result }
+{
+    changes.iter().all(|change| change.is_empty())
+}
+
+// Makes changes, the first one first, until memory runs out.
+fn commit_each(keeper: &mut MemoryKeeper, changes: &[Change]) -> Result<(), KeeperError>
+    requires { All (IsChange keeper.old.layout keeper.old.site) changes.now }
+    ensures ok { OnOk result (keeper.new.part ≡ changed_all changes.now keeper.old.part) }
+    ensures no_fault { result ≢ Err StoreFault }
+    ensures layout { keeper.new.layout ≡ keeper.old.layout }
+    ensures site { keeper.new.site ≡ keeper.old.site }
+{
+    for change in changes {
+        keeper.commit(change)?;
+    }
+    Ok(())
+}
+
+/// The changes are made in a copy, which then takes the place of what was kept. Linear in both.
+impl RoundKeeper for MemoryKeeper {
+    fn commit_all(&mut self, changes: &[Change]) -> Result<(), KeeperError> {
+        if are_empty(changes) {
+            return Ok(());
+        }
+        let mut after = self.try_copy(self.alloc())?;
+        commit_each(&mut after, changes)?;
+        *self = after;
+        Ok(())
+    }
+}
