@@ -8,8 +8,7 @@ use Rattle.text_parts.specs.Readers.{onto}
 use Rattle.transcript_text.specs.Quoted.{escaped}
 use Rattle.transcript_reader.specs.Quoted.{quoted}
 use Rattle.transcript_reader.specs.Readers.{cut_at}
-use Rattle.transcript_reader.specs.Unquoted.{unescaped}
-use Rattle.transcript_reader.proofs.QuotedLemmas.{unescaped_again}
+use Rattle.transcript_reader.proofs.QuotedLemmas.{unescaped, unescaped_again}
 
 pub escaped_append : (a b : List ℕ) → escaped (a ++ b) ≡ escaped a ++ escaped b
 escaped_append [] b = refl

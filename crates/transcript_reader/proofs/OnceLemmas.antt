@@ -22,14 +22,14 @@ use Rattle.transcript_reader.specs.declared.openings.Opening.{Opening}
 use Rattle.transcript_reader.specs.Fits.{FitsAsk, FitsCall, FitsReply, FitsEntry}
 use Rattle.transcript_reader.specs.Words.{ask_in, reply_in}
 use Rattle.transcript_reader.specs.Quoted.{quoted}
-use Rattle.transcript_reader.specs.Readers.{OpeningParts}
+use Rattle.transcript_reader.specs.Readers.{OpeningParts, opening_parts}
 use Rattle.transcript_reader.specs.Reading.{BeginsRun}
 use Rattle.transcript_reader.proofs.CallLemmas.{ask_again, take_asks_nothing}
 use Rattle.transcript_reader.proofs.ReplyLemmas.{IsTold, reply_again}
 use Rattle.transcript_reader.proofs.EscapedLemmas.{quoted_once}
 use Rattle.transcript_reader.proofs.EntryLemmas.{tail_text, front_same, passes_same, entry_same}
 use Rattle.transcript_reader.proofs.PartLemmas.{told_delta, cells_told}
-use Rattle.transcript_reader.proofs.BeginLemmas.{spelled_so, layout_there, opening_same}
+use Rattle.transcript_reader.proofs.BeginLemmas.{spelled_so, one_front, layout_there, opening_same}
 
 -- ---- entries
 
@@ -105,14 +105,15 @@ one_opening layout is line it other begins begins2 =
     let t = spelled_so layout line other is begins2 in
     let told = book_told layout it.site it.sites it.first in
     let told2 = book_told layout other.site other.sites other.first in
-    let p : OpeningParts = record { book = delta_text told; sessions = it.first.sessions; site = it.site; sites = s.sites } in
-    let q : OpeningParts = record { book = delta_text told2; sessions = other.first.sessions; site = other.site; sites = t.sites } in
-    let parts : p ≡ q = same_Some p q (sym s.read ∙ t.read) in
+    let fronts = one_front layout line it other is begins begins2 in
+    let p : OpeningParts = record { sessions = it.first.sessions; site = it.site; sites = s.sites } in
+    let q : OpeningParts = record { sessions = other.first.sessions; site = other.site; sites = t.sites } in
+    let parts : p ≡ q = same_Some p q (sym s.read ∙ (ap (opening_parts layout.records) fronts.1 ∙ t.read)) in
     let there = layout_there layout line it is begins in
     let there2 = layout_there layout line other is begins2 in
     let deltas : told ≡ told2 =
     one_delta told told2 (told_delta layout it.site it.sites it.first there begins.may_begin) (told_delta layout other.site other.sites other.first there2 begins2.may_begin)
-    (ap (λ (x : OpeningParts). x.book) parts) in
+    fronts.0 in
     let site = ap (λ (x : OpeningParts). x.site) parts in
     let sites : it.sites ≡ other.sites = sym s.stands ∙ (ap (λ (x : OpeningParts). unwrap_or x.sites layout.sites) parts ∙ t.stands) in
     let first = same_part layout it other there begins.may_begin begins2.may_begin site sites deltas (ap (λ (x : OpeningParts). x.sessions) parts) in

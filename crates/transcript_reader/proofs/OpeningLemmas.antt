@@ -18,8 +18,8 @@ use Rattle.script_text.specs.Words.{found_or_unknown, record_word}
 use Rattle.script_text.specs.Replies.{phase_word}
 use Rattle.transcript_text.specs.Quoted.{escaped}
 use Rattle.transcript_text.specs.Texts.{nameless, record_text, session_text, front_text, sites_text}
+use Rattle.transcript_reader.specs.Quoted.{quoted}
 use Rattle.transcript_reader.specs.Readers.{OpeningParts, cut_at, phase_at, session_at, sessions_at, sites_at, opening_parts}
-use Rattle.transcript_reader.proofs.QuotedLemmas.{quoted_again}
 use Rattle.transcript_reader.proofs.WordLemmas.{IsWord}
 use Rattle.transcript_reader.proofs.CallLemmas.{name_again}
 use Rattle.admission_model.specs.Replies.{holder_limit}
@@ -118,45 +118,48 @@ no_digit None = refl
 no_digit (Some n) = refl
 
 -- the reading from each of its parts on
-abbrev with_sites : Quoted → List Session × List ℕ → Read → Option ℕ × List ℕ → Option OpeningParts
-with_sites book sessions site sites =
-    after (codes "}") sites.1 >>= λ rest. cond (length rest == 0) (Some (record { book = book.0; sessions = sessions.0; site = site.0; sites = sites.0 })) None
+abbrev with_sites : List Session × List ℕ → Read → Option ℕ × List ℕ → Option OpeningParts
+with_sites sessions site sites = after (codes "}") sites.1 >>= λ rest. cond (length rest == 0) (Some (record { sessions = sessions.0; site = site.0; sites = sites.0 })) None
 
-abbrev with_site : Quoted → List Session × List ℕ → Read → Option OpeningParts
-with_site book sessions site = sites_at site.1 >>= with_sites book sessions site
+abbrev with_site : List Session × List ℕ → Read → Option OpeningParts
+with_site sessions site = sites_at site.1 >>= with_sites sessions site
 
-abbrev with_behind : Quoted → List Session × List ℕ → List ℕ → Option OpeningParts
-with_behind book sessions behind = short_at behind >>= with_site book sessions
+abbrev with_behind : List Session × List ℕ → List ℕ → Option OpeningParts
+with_behind sessions behind = short_at behind >>= with_site sessions
 
-abbrev with_sessions : Quoted → List Session × List ℕ → Option OpeningParts
-with_sessions book sessions = after (codes "],\"site\":") sessions.1 >>= with_behind book sessions
+abbrev with_sessions : List Session × List ℕ → Option OpeningParts
+with_sessions sessions = after (codes "],\"site\":") sessions.1 >>= with_behind sessions
 
-abbrev with_front : List RecordSpec → Quoted → List ℕ → Option OpeningParts
-with_front records book front = sessions_at records front >>= with_sessions book
+abbrev with_front : List RecordSpec → List ℕ → Option OpeningParts
+with_front records front = sessions_at records front >>= with_sessions
 
-abbrev with_book : List RecordSpec → Quoted → Option OpeningParts
-with_book records book = after (codes ",\"sessions\":[") book.1 >>= with_front records book
+-- what stands in the line behind what the site tells
+abbrev pub behind_book : List RecordSpec → ℕ → List Session → Option ℕ → List ℕ
+behind_book records i sessions sites =
+    codes ",\"sessions\":[" ++ (joined (session_text records) sessions ++ (codes "],\"site\":" ++ (decimal i ++ sites_text sites)))
 
 front_regroup : (a b c d e f rest : List ℕ) → (a ++ (b ++ (c ++ (d ++ (e ++ f))))) ++ rest ≡ a ++ (b ++ (c ++ (d ++ (e ++ (f ++ rest)))))
 front_regroup a b c d e f rest = simp append_assoc
 
-pub opening_again : (records : List RecordSpec) (i : ℕ) (told : DeltaState) (sessions : List Session) (sites : Option ℕ)
+pub opening_front : (records : List RecordSpec) (i : ℕ) (told : DeltaState) (sessions : List Session) (sites : Option ℕ)
+    → front_text records i told sessions ++ sites_text sites ≡ codes "{\"book\":\"" ++ quoted (delta_text told) (behind_book records i sessions sites)
+unfolding front_text
+opening_front records i told sessions sites =
+    front_regroup (codes "{\"book\":\"") (escaped (delta_text told)) (codes "\",\"sessions\":[") (joined (session_text records) sessions) (codes "],\"site\":") (decimal i) (sites_text sites)
+
+pub opening_again : (records : List RecordSpec) (i : ℕ) (sessions : List Session) (sites : Option ℕ)
     → AllByRecursion (FitsSession records) sessions → i < 2 ^ 16 → SpelledFits sites
-    → opening_parts records (front_text records i told sessions ++ sites_text sites) ≡ Some (record { book = delta_text told; sessions = sessions; site = i; sites = sites })
-unfolding opening_parts front_text
-opening_again records i told sessions sites fit site_fits spelled_fits =
-    let book = delta_text told in
+    → opening_parts records (behind_book records i sessions sites) ≡ Some (record { sessions = sessions; site = i; sites = sites })
+unfolding opening_parts
+opening_again records i sessions sites fit site_fits spelled_fits =
     let t3 = sites_text sites in
     let t2 = codes ",\"site\":" ++ (decimal i ++ t3) in
     let t1 = joined (session_text records) sessions ++ 93 ∷ t2 in
-    let t0 = codes ",\"sessions\":[" ++ t1 in
-    ap (opening_parts records) (front_regroup (codes "{\"book\":\"") (escaped book) (codes "\",\"sessions\":[") (joined (session_text records) sessions) (codes "],\"site\":") (decimal i) t3)
-    ∙ (ap (λ (o : Option Quoted). o >>= with_book records) (quoted_again (codes "{\"book\":\"") book t0)
-    ∙ (ap (λ (o : Option (List ℕ)). o >>= with_front records (book, t0)) (after_again (codes ",\"sessions\":[") t1)
-    ∙ (ap (λ (o : Option (List Session × List ℕ)). o >>= with_sessions (book, t0)) (sessions_again records sessions t2 fit)
-    ∙ (ap (λ (o : Option (List ℕ)). o >>= with_behind (book, t0) (sessions, 93 ∷ t2)) (after_again (codes "],\"site\":") (decimal i ++ t3))
-    ∙ (ap (λ (o : Option Read). o >>= with_site (book, t0) (sessions, 93 ∷ t2)) (short_again i t3 site_fits (no_digit sites))
-    ∙ ap (λ (o : Option (Option ℕ × List ℕ)). o >>= with_sites (book, t0) (sessions, 93 ∷ t2) (i, t3)) (sites_again sites spelled_fits))))))
+    ap (λ (o : Option (List ℕ)). o >>= with_front records) (after_again (codes ",\"sessions\":[") t1)
+    ∙ (ap (λ (o : Option (List Session × List ℕ)). o >>= with_sessions) (sessions_again records sessions t2 fit)
+    ∙ (ap (λ (o : Option (List ℕ)). o >>= with_behind (sessions, 93 ∷ t2)) (after_again (codes "],\"site\":") (decimal i ++ t3))
+    ∙ (ap (λ (o : Option Read). o >>= with_site (sessions, 93 ∷ t2)) (short_again i t3 site_fits (no_digit sites))
+    ∙ ap (λ (o : Option (Option ℕ × List ℕ)). o >>= with_sites (sessions, 93 ∷ t2) (i, t3)) (sites_again sites spelled_fits))))
 
 -- ---- sessions of a durable part
 

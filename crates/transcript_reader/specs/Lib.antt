@@ -1,4 +1,3 @@
-pub mod Unquoted
 pub mod Quoted
 pub mod Deltas
 pub mod Fits

@@ -1,17 +1,12 @@
 -- The reading of lines from left to right, whatever stands between the quotes. For private clauses: that each
 -- text is read as what it was written for is proved in proofs/.
-use Rattle.std.specs.Prelude.{ℕ, ◌==◌, false, List, [], ◌∷◌, length, codes, if◌then◌else◌, Option, Some, None}
+use Rattle.std.specs.Prelude.{ℕ, ◌==◌, List, [], ◌∷◌, length, codes, if◌then◌else◌, Option, Some, None}
 use Rattle.merge_core.specs.declared.layout.RecordSpec.{RecordSpec}
 use Rattle.session_list.specs.declared.session.Phase.{Phase}
 use Rattle.session_list.specs.declared.session.Phase.TheVariants.{Reader, Waiting, Writer}
 use Rattle.session_list.specs.declared.session.Session.{Session}
 use Rattle.text_parts.specs.Readers.{◌>>=◌, onto, after, number_at, short_at, joined_at}
 use Rattle.script_text.specs.Words.{record_word}
-use Rattle.transcript_reader.specs.Unquoted.{unescaped}
-
--- the text between quotes behind a literal that ends with the first of them
-unfoldable pub quoted_behind : List ℕ → List ℕ → Option (List ℕ × List ℕ)
-quoted_behind literal bytes = after literal bytes >>= unescaped false
 
 -- the pass of an entry, and the bytes from the reply on
 unfoldable pub pass_behind : List ℕ → Option (ℕ × List ℕ)
@@ -61,20 +56,18 @@ sites_at [] = Some (None, [])
 sites_at (b ∷ bs) =
     if b == 44 then (after (codes ",\"sites\":") (b ∷ bs) >>= λ front. short_at front >>= λ n. Some (Some n.0, n.1)) else Some (None, b ∷ bs)
 
--- what the beginning of a run has: a text, sessions, a site, and a number of sites
+-- what the beginning of a run has behind what the site tells: sessions, a site, and a number of sites
 pub record OpeningParts : Type 0 where
-  pub book : List ℕ
   pub sessions : List Session
   pub site : ℕ
   pub sites : Option ℕ
 
 unfoldable pub opening_parts : List RecordSpec → List ℕ → Option OpeningParts
 opening_parts records bytes = do
-  book ← quoted_behind (codes "{\"book\":\"") bytes
-  front ← after (codes ",\"sessions\":[") book.1
+  front ← after (codes ",\"sessions\":[") bytes
   sessions ← sessions_at records front
   behind ← after (codes "],\"site\":") sessions.1
   site ← short_at behind
   sites ← sites_at site.1
   rest ← after (codes "}") sites.1
-  if length rest == 0 then Some (record { book = book.0; sessions = sessions.0; site = site.0; sites = sites.0 }) else None
+  if length rest == 0 then Some (record { sessions = sessions.0; site = site.0; sites = sites.0 }) else None

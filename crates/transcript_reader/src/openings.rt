@@ -1,18 +1,18 @@
 //! The line that begins a run.
-ghost use Rattle.std.specs.Prelude.{◌≡◌, ◌++◌, ◌⊎◌, ◌↔◌, IsTrue, Ok, Err, unwrap_or, IfOk};
+ghost use Rattle.std.specs.Prelude.{◌≡◌, ◌++◌, ◌⊎◌, ◌↔◌, ℕ, List, IsTrue, Ok, Err, codes, unwrap_or, IfOk, MatchResult};
 ghost use Rattle.merge_core.specs.Delta.{DeltaState, IsDelta};
 ghost use Rattle.delta_codec.specs.DeltaText.{delta_text};
 ghost use Rattle.text_parts.specs.Readers.{Gives};
 ghost use Rattle.transcript_text.specs.Texts.{front_text, sites_text, book_told, MayBegin};
+ghost use Rattle.transcript_reader.specs.Quoted.{quoted};
 ghost use Rattle.transcript_reader.specs.Readers.{sites_at, opening_parts};
 ghost use Rattle.transcript_reader.specs.declared.openings.Opening.{Opening as OpeningThere};
 ghost use Rattle.transcript_reader.specs.Reading.{BeginsRun};
 
-use crate::quoted::quoted_behind;
+use crate::deltas::told_at;
 use crate::sessions::sessions_at;
 use crate::told::part_told;
 use admission_core::{Durable, Session};
-use delta_codec::{DecodeError, decode};
 use merge_core::{Delta, Layout};
 use std::alloc::{AllocError, Global};
 use text_parts::{Unread, after, short_at};
@@ -26,10 +26,9 @@ pub struct Opening {
     pub first: Durable,
 }
 
-// What stands in such a line.
+// What stands in such a line behind what the site tells.
 #[derive(Debug, Drop)]
 struct Parts {
-    book: Vec<u8>,
     sessions: Vec<Session>,
     site: u16,
     sites: Option<u16>,
@@ -50,14 +49,12 @@ fn sites_at(bytes: &[u8]) -> Result<(Option<u16>, &[u8]), Unread>
     }
 }
 
-// What stands in the line.
+// What stands in the line behind what the site tells.
 #[tactic(auto, unfolding(crate::specs::Readers::opening_parts))]
-fn opening_parts(alloc: Global, layout: &Layout, line: &[u8]) -> Result<Parts, Unread>
-    ensures { Gives (λ p. record { book = p.book.items; sessions = p.sessions.items; site = p.site; sites = p.sites }) result (opening_parts layout.now.records line.now) }
+fn opening_parts(alloc: Global, layout: &Layout, bytes: &[u8]) -> Result<Parts, Unread>
+    ensures { Gives (λ p. record { sessions = p.sessions.items; site = p.site; sites = p.sites }) result (opening_parts layout.now.records bytes.now) }
 {
-    let mut book = Vec::new(alloc);
-    let rest = quoted_behind(&mut book, b"{\"book\":\"", line)?;
-    let rest = after(b",\"sessions\":[", rest)?;
+    let rest = after(b",\"sessions\":[", bytes)?;
     let (sessions, rest) = sessions_at(alloc, layout, rest)?;
     let rest = after(b"],\"site\":", rest)?;
     let (site, rest) = short_at(rest)?;
@@ -67,22 +64,19 @@ fn opening_parts(alloc: Global, layout: &Layout, line: &[u8]) -> Result<Parts, U
         return Err(Unread::Refused);
     }
     Ok(Parts {
-        book,
         sessions,
         site,
         sites,
     })
 }
 
-// The delta of a text.
-fn told_in(alloc: Global, text: &[u8]) -> Result<Delta, Unread>
-    ensures { (d : DeltaState) → IsDelta d → text.now ≡ delta_text d → (result ≡ Ok d) ⊎ (result ≡ Err Unread.Memory) }
+// What the site tells, between the first quotes of a line, and the bytes behind it.
+fn book_at(alloc: Global, line: &[u8]) -> Result<(Delta, &[u8]), Unread>
+    ensures { (d : DeltaState) → (rest : List ℕ) → IsDelta d → line.now ≡ codes "{\"book\":\"" ++ quoted (delta_text d) rest
+        → MatchResult result (λ x. (x.0 ≡ d) × (x.1.now ≡ rest)) (λ e. e ≡ Unread.Memory) }
 {
-    match decode(alloc, text) {
-        Ok(delta) => Ok(delta),
-        Err(DecodeError::Memory) => Err(Unread::Memory),
-        Err(_) => Err(Unread::Refused),
-    }
+    let bytes = after(b"{\"book\":\"", line)?;
+    told_at(alloc, bytes)
 }
 
 // Whether the line is the one that begins a run so, in this spelling.
@@ -119,13 +113,12 @@ pub(crate) fn opening_in(alloc: Global, layout: &Layout, line: &[u8]) -> Result<
     ensures only { (it : OpeningThere) → BeginsRun layout.now line.now it → (result ≡ Ok it) ⊎ (result ≡ Err Unread.Memory) }
 {
     let _ = layout.sites(); // tells the invariant: the records are a layout
+    let (told, rest) = book_at(alloc, line)?;
     let Parts {
-        book,
         sessions,
         site,
         sites: spelled,
-    } = opening_parts(alloc, layout, line)?;
-    let told = told_in(alloc, book.as_slice())?;
+    } = opening_parts(alloc, layout, rest)?;
     let sites = sites_of(layout, spelled);
     let first = part_told(alloc, layout, site, sites, &told, sessions)?;
     let it = Opening { site, sites, first };
