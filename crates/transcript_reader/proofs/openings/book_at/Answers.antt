@@ -1,4 +1,4 @@
-use Rattle.std.proofs.Common.{ap, ◌∙◌}
+use Rattle.std.proofs.Common.{◌∙◌}
 use Rattle.std.proofs.lemmas.Result.{err_from_is_err_and}
 use Rattle.transcript_reader.proofs.BeginLemmas.{book_fails, book_so}
 use Rattle.transcript_reader.proofs.openings.book_at.Goals as goal

@@ -1,4 +1,4 @@
-use Rattle.std.proofs.Common.{◌≡◌, ◌∙◌, Ok, Err, inl, inr, sym, ap}
+use Rattle.std.proofs.Common.{◌∙◌, Ok, Err, inl, inr, sym, ap}
 use Rattle.std.proofs.lemmas.Bool.{false≢true}
 use Rattle.std.proofs.lemmas.Result.{err_from_is_err_and}
 use Rattle.text_parts.specs.declared.unread.Unread.{Unread}
