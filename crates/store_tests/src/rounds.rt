@@ -74,18 +74,45 @@ fn are_changes(layout: &Layout, changes: &[Change]) -> bool
     changes.iter().all(|change| is_change(layout, change))
 }
 
-/// What a keeper in memory holds after rounds, each change of which is made by itself.
-fn each_made(alloc: Global, layout: &Layout, rounds: &[u64]) -> Option<Durable> {
-    let mut keeper = MemoryKeeper::new(alloc, layout, 0).ok()?;
+/// Whether a keeper in memory makes the changes of a round, each by itself.
+fn is_each_made(keeper: &mut MemoryKeeper, round: &[Change]) -> bool
+    requires { All (IsChange keeper.old.layout keeper.old.site) round.now }
+    ensures layout { keeper.new.layout ≡ keeper.old.layout }
+    ensures site { keeper.new.site ≡ keeper.old.site }
+{
+    for change in round {
+        if keeper.commit(change).is_err() {
+            return false;
+        }
+    }
+    true
+}
+
+/// Whether it makes those of all rounds.
+fn are_each_made(alloc: Global, layout: &Layout, keeper: &mut MemoryKeeper, rounds: &[u64]) -> bool
+    requires layout { keeper.old.layout ≡ layout.now }
+    requires site { keeper.old.site ≡ 0 }
+{
     let mut from = 0u64;
     for count in rounds {
-        let round = round_of(alloc, from, *count).ok()?;
-        for change in &round {
-            if !is_change(layout, change) || keeper.commit(change).is_err() {
-                return None;
-            }
+        let Ok(round) = round_of(alloc, from, *count) else {
+            return false;
+        };
+        if !are_changes(layout, &round) || !is_each_made(keeper, &round) {
+            return false;
         }
         from = from.saturating_add(*count);
+    }
+    true
+}
+
+/// What a keeper in memory holds after rounds, each change of which is made by itself.
+fn each_made(alloc: Global, layout: &Layout, rounds: &[u64]) -> Option<Durable> {
+    let Ok(mut keeper) = MemoryKeeper::new(alloc, layout, 0) else {
+        return None;
+    };
+    if !are_each_made(alloc, layout, &mut keeper, rounds) {
+        return None;
     }
     keeper.load(alloc).ok()
 }
@@ -145,7 +172,9 @@ fn after_rounds<S: Alter + Drop>(
     if !connection.is_autocommit() {
         return None;
     }
-    let mut keeper = SqlKeeper::open(alloc, connection, layout, 0, None).ok()?;
+    let Ok(mut keeper) = SqlKeeper::open(alloc, connection, layout, 0, None) else {
+        return None;
+    };
     if are_made(alloc, layout, &mut keeper, rounds) && holds(alloc, &mut keeper, wanted) {
         Some(keeper.into_connection())
     } else {
