@@ -87,10 +87,11 @@ impl MemoryKeeper {
         })
     }
 
-    /// A copy of it. Linear in what is kept.
-    pub fn try_copy(&self, alloc: Global) -> Result<MemoryKeeper, AllocError>
+    /// A copy of it, whose memory comes from where its own does. Linear in what is kept.
+    pub fn try_copy(&self) -> Result<MemoryKeeper, AllocError>
         ensures { IfOk result (λ k. k ≡ self.now) }
     {
+        let alloc = *self.cells.allocator();
         let layout = self.layout.try_copy(alloc)?;
         let cells = Vec::from_slice(alloc, self.cells.as_slice())?;
         let list = self.sessions.list(alloc)?;
@@ -104,11 +105,6 @@ impl MemoryKeeper {
             cells,
             sessions,
         })
-    }
-
-    /// Where its memory comes from.
-    pub fn alloc(&self) -> Global {
-        *self.cells.allocator()
     }
 }
 

@@ -36,7 +36,7 @@ impl RoundKeeper for MemoryKeeper {
         if are_empty(changes) {
             return Ok(());
         }
-        let mut after = self.try_copy(self.alloc())?;
+        let mut after = self.try_copy()?;
         commit_each(&mut after, changes)?;
         *self = after;
         Ok(())
