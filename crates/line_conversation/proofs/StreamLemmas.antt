@@ -1,8 +1,9 @@
 -- Turns of a conversation with a reader and a writer.
-use Rattle.std.proofs.Common.{◌≡◌, ℕ, ◌+◌, ◌≤◌, ◌⊎◌, inl, inr, Bool, true, false, List, [], ◌∷◌, ◌++◌, length, refl, sym, ap, subst, ◌∙◌, append_assoc, append-nil, length-append, arith}
+use Rattle.std.proofs.Common.{◌≡◌, ℕ, ◌+◌, ◌≤◌, ◌⊎◌, inl, inr, Bool, true, false, suc, List, [], ◌∷◌, ◌++◌, length, refl, sym, ap, subst, ◌∙◌, append_assoc, append-nil, length-append, arith}
 use Rattle.std.specs.Io.KnownBytes.{Appends, Consumes}
-use Rattle.std.specs.Prelude.{is_some}
+use Rattle.std.specs.Prelude.{IsTrue, MatchBool, is_some}
 use Rattle.std.proofs.KnownBytes.{Appends-trans, Consumes-trans}
+use Rattle.text_input.specs.Lines.{HasNoLf}
 use Rattle.text_input.specs.Source.{HasFault}
 use Rattle.text_input.specs.Sink.{SinkState, Writes}
 use denote.Enum.Bare.{sameb}
@@ -11,7 +12,19 @@ use Rattle.line_conversation.specs.declared.conversation.Next.{Next}
 use Rattle.line_conversation.specs.declared.conversation.Next.TheVariants as next
 use Rattle.line_conversation.specs.Begins.{nothing_lost}
 use Rattle.line_conversation.specs.Turns.{IsLine, Line, Whole, TooLong, NoRoom, Torn, Turn, Heard, Told, told_in, heard_by}
-use Rattle.line_conversation.specs.Stream.{CutsLine, Cuts, CutsTurns, HeldState, Hears, MayFail, ReadsLine, StreamState, TookPlace}
+use Rattle.line_conversation.specs.Stream.{CutsLine, Cuts, CutsTurns, HeldState, Hears, MayFail, IsReady, ReadsLine, StreamState, TookPlace}
+
+-- bytes with an LF
+lf_there : (line rest : List ℕ) → HasNoLf (line ++ 10 ∷ rest) → ⊥
+lf_there [] rest none = none 0 (omega arith) refl
+lf_there (b ∷ line) rest none = lf_there line rest (λ i low at. none (suc i) (omega (arith, low)) at)
+
+-- a line was read, where its LF was
+pub ready_by : (found : Bool) (s : StreamState) → s.broken ≡ false
+    → MatchBool found ((line : List ℕ) × (rest : List ℕ) × (s.ahead ≡ line ++ 10 ∷ rest) × HasNoLf line) (HasNoLf s.ahead)
+    → (IsTrue found → IsReady s) × (IsReady s → IsTrue found)
+ready_by true s open_so (line, rest, cut, plain) = (λ yes. record { line = line; rest = rest; cut = (plain, cut); open_so = open_so }, λ ready. cc)
+ready_by false s open_so none = (λ no. absurd (cc), λ ready. absurd (lf_there ready.line ready.rest (subst HasNoLf ready.cut.1 none)))
 
 -- what was heard, where more bytes come behind it, and the input had not ended
 line_longer : (bytes line behind more : List ℕ) → CutsLine bytes line behind → CutsLine (bytes ++ more) line (behind ++ more)

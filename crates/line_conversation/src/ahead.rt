@@ -62,6 +62,16 @@ impl Ahead {
         }
     }
 
+    /// Whether there is an LF.
+    pub fn has_line(&self) -> bool
+        ensures { MatchBool result
+            ((line : List ℕ) × (rest : List ℕ) × (self.now ≡ line ++ 10 ∷ rest) × HasNoLf line)
+            (HasNoLf self.now) }
+    {
+        let (_, ends) = self.part();
+        ends
+    }
+
     /// Leaves the first n bytes out.
     pub fn skip(&mut self, n: usize)
         requires { n ≤ length self.old }

@@ -1,5 +1,5 @@
 //! What a conversation promises.
-ghost use Rattle.std.specs.Prelude.{◌≡◌, List, [], ◌∷◌, ◌++◌, ℕ, None, true, false, IfSome, IsSome};
+ghost use Rattle.std.specs.Prelude.{◌≡◌, List, [], ◌∷◌, ◌++◌, ℕ, None, true, false, IfSome, IsSome, IsTrue, ◌↔◌};
 ghost use Rattle.line_conversation.specs.Turns.{Turn, Told, IsLine, heard_by};
 ghost use Rattle.line_conversation.specs.declared.conversation.Next.TheVariants.{End as AtEnd, Failed as HasFailed};
 
@@ -68,6 +68,10 @@ pub trait RoundConversation: Conversation {
 
     /// The next line was read whole already.
     ghost is_ready: { Self → Type 0 };
+
+    /// Whether the next line was read whole already. It never reads.
+    fn holds_next(&self) -> bool
+        ensures { IsTrue result ↔ is_ready self.now };
 
     /// The next line, if it was read whole already. It never reads, and so never waits; where there is no such line,
     /// nothing changes.

@@ -139,6 +139,13 @@ impl<R: Read, W: Write> RoundConversation for StreamConversation<R, W> {
 
     ghost is_ready = { IsReady };
 
+    fn holds_next(&self) -> bool {
+        if self.broken {
+            return false;
+        }
+        self.ahead.has_line()
+    }
+
     fn next_held(&mut self) -> Option<Next> {
         if self.broken {
             return None;

@@ -129,17 +129,23 @@ fn take_round<K: RoundKeeper, C: RoundConversation, P: StorePlace>(
         Next::Line => {}
         other => return (live, answer_other(conversation, other)),
     }
-    if is_alone(&live, most, place) {
+    if is_alone(&live, most, conversation, place) {
         return answer_alone(alloc, live, marker, conversation, place, text);
     }
     answer_round(alloc, live, marker, most, conversation, place, round, text)
 }
 
-// Whether a line is served by itself: no round has more, the site serves no more, or its store is no longer at its place.
-fn is_alone<K: RoundKeeper, P: StorePlace>(live: &LiveSite<K>, most: usize, place: &P) -> bool
+// Whether a line is served by itself: no round has more, none has come behind it, the site serves no more, or its store is no
+// longer at its place.
+fn is_alone<K: RoundKeeper, C: RoundConversation, P: StorePlace>(
+    live: &LiveSite<K>,
+    most: usize,
+    conversation: &C,
+    place: &P,
+) -> bool
     ensures { result ≡ false → live.now.frozen ≡ false }
 {
-    most < 2 || live.is_frozen() || !place.is_there()
+    most < 2 || !conversation.holds_next() || live.is_frozen() || !place.is_there()
 }
 
 // Answers what is no whole line, or tells that nothing came.

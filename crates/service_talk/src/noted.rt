@@ -106,6 +106,10 @@ impl<C: RoundConversation> RoundConversation for Noted<C> {
 
     ghost is_ready = { λ s. C.is_ready s.talk };
 
+    fn holds_next(&self) -> bool {
+        self.talk.holds_next()
+    }
+
     fn next_held(&mut self) -> Option<Next> {
         self.talk.next_held()
     }
