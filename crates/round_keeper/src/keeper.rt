@@ -1,5 +1,5 @@
 //! A keeper of several changes at once, as its users see it.
-ghost use Rattle.std.specs.Prelude.{◌≡◌, ◌≢◌, All, Err, OnOk};
+ghost use Rattle.std.specs.Prelude.{◌≡◌, ◌≢◌, All, Err, IsTrue, OnOk};
 ghost use Rattle.admission_core.specs.Kept.{DurableState};
 ghost use Rattle.durable_keeper.specs.Keeping.{IsChange};
 ghost use Rattle.durable_keeper.specs.declared.error.KeeperError.TheVariants.{Memory, StoreFault};
@@ -24,4 +24,12 @@ pub trait RoundKeeper: LiveKeeper {
         ensures nothing { All ChangesNothing changes.now → self.new ≡ self.old }
         ensures layout { Self.Keeper.layout self.new ≡ Self.Keeper.layout self.old }
         ensures site { Self.Keeper.site self.new ≡ Self.Keeper.site self.old };
+}
+
+/// Whether each change is empty.
+pub fn are_empty(changes: &[Change]) -> bool
+    ensures empty { IsTrue result → All ChangesNothing changes.now }
+    ensures each { All ChangesNothing changes.now → IsTrue result }
+{
+    changes.iter().all(|change| change.is_empty())
 }

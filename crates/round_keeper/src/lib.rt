@@ -2,7 +2,7 @@
 //! changes wait for that.
 #![tactic(auto)]
 
-pub use keeper::RoundKeeper;
+pub use keeper::{RoundKeeper, are_empty};
 pub use staged::{Base, Staged};
 
 mod keeper;

@@ -1,20 +1,12 @@
 //! A keeper in memory makes several changes at once.
-ghost use Rattle.std.specs.Prelude.{◌≡◌, ◌≢◌, All, Err, IsTrue, OnOk};
+ghost use Rattle.std.specs.Prelude.{◌≡◌, ◌≢◌, All, Err, OnOk};
 ghost use Rattle.durable_keeper.specs.Keeping.{IsChange};
 ghost use Rattle.durable_keeper.specs.declared.error.KeeperError.TheVariants.{StoreFault};
-ghost use Rattle.round_keeper.specs.Rounds.{ChangesNothing, changed_all};
+ghost use Rattle.round_keeper.specs.Rounds.{changed_all};
 
-use crate::keeper::RoundKeeper;
+use crate::keeper::{RoundKeeper, are_empty};
 use admission_core::Change;
 use durable_keeper::{Keeper, KeeperError, MemoryKeeper};
-
-// Whether each change is empty.
-fn are_empty(changes: &[Change]) -> bool
-    ensures empty { IsTrue result → All ChangesNothing changes.now }
-    ensures each { All ChangesNothing changes.now → IsTrue result }
-{
-    changes.iter().all(|change| change.is_empty())
-}
 
 // Makes changes, the first one first, until memory runs out.
 fn commit_each(keeper: &mut MemoryKeeper, changes: &[Change]) -> Result<(), KeeperError>

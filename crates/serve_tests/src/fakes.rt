@@ -1,6 +1,5 @@
 //! A keeper, a conversation and a log whose faults the test chooses.
-ghost use Rattle.std.specs.Prelude.{◌≡◌, All, IfOk, IsTrue, if◌then◌else◌};
-ghost use Rattle.round_keeper.specs.Rounds.{ChangesNothing};
+ghost use Rattle.std.specs.Prelude.{◌≡◌, IfOk, if◌then◌else◌};
 
 use admission_core::{Call, Change, Durable, Reply};
 use durable_keeper::{Keeper, KeeperError, MemoryKeeper};
@@ -9,7 +8,7 @@ use live_keeper::LiveKeeper;
 use live_site::{CallLog, LogFault, StorePlace};
 use log_file::LogFile;
 use merge_core::Layout;
-use round_keeper::RoundKeeper;
+use round_keeper::{RoundKeeper, are_empty};
 use std::alloc::{AllocError, Global};
 use std::cell::Cell;
 use std::io;
@@ -142,13 +141,6 @@ impl LiveKeeper for Failing {
         self.failed = true;
         Err(KeeperError::StoreFault)
     }
-}
-
-// Whether each change is empty.
-fn are_empty(changes: &[Change]) -> bool
-    ensures { All ChangesNothing changes.now → IsTrue result }
-{
-    changes.iter().all(|change| change.is_empty())
 }
 
 // Changes that come together count as one.

@@ -9,7 +9,7 @@ const LIMIT: usize = 6;
 
 // What comes, at most 40 bytes at a call; the call that fails; and what is heard: behind a stroke each time that a line was
 // waited for, and behind a bar each line that was there then. A line past the limit is `!`, a torn one `~`, the end `.`, and
-// a failure `x`.
+// a failure `x`. A line that was said to be there and is not, or the other way round, is `?`.
 type Row = (&'static [u8], usize, &'static str);
 
 static HEARD: [Row; 9] = [
@@ -49,10 +49,11 @@ fn push_heard(said: &mut String, next: Next, line: &[u8]) -> Result<(), AllocErr
 // Writes the lines that are there.
 fn push_held<C: RoundConversation>(talk: &mut C, said: &mut String) -> Result<(), AllocError> {
     for _ in 0..64 {
+        let there = talk.holds_next();
         let Some(next) = talk.next_held() else {
-            return Ok(());
+            return said.push_str(if there { "?" } else { "" });
         };
-        said.push_str("|")?;
+        said.push_str(if there { "|" } else { "?" })?;
         push_heard(said, next, talk.line())?;
     }
     Ok(())

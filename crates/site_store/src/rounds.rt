@@ -5,7 +5,6 @@ ghost use Rattle.sqlite.specs.State.{HasCleanDisk};
 ghost use Rattle.sqlite.specs.Held.{state};
 ghost use Rattle.merge_core.specs.Layout.{LayoutState};
 ghost use Rattle.admission_core.specs.Kept.{ChangeState};
-ghost use Rattle.round_keeper.specs.Rounds.{ChangesNothing};
 ghost use Rattle.store_rows.specs.Rows.{Stored};
 ghost use Rattle.store_rows.specs.Holding.{Keeps, KeepsBeside, KeepsEither};
 ghost use Rattle.store_schema.specs.declared.Version.TheVariants.{Second};
@@ -23,20 +22,12 @@ use crate::error::keeper_error;
 use crate::sql::{SqlKeeper, are_rows};
 use admission_core::Change;
 use durable_keeper::KeeperError;
-use round_keeper::RoundKeeper;
+use round_keeper::{RoundKeeper, are_empty};
 use sqlite::Alter;
 use std::alloc::{AllocError, Global};
 use store_content::{Index, Rows};
 use store_rows::{Content, SessionEdit, StoredCell, StoredNotice};
 use store_tables::{TableError, Tables};
-
-/// Whether each change is empty.
-fn are_empty(changes: &[Change]) -> bool
-    ensures empty { IsTrue result → All ChangesNothing changes.now }
-    ensures each { All ChangesNothing changes.now → IsTrue result }
-{
-    changes.iter().all(|change| change.is_empty())
-}
 
 /// The rows of several changes: those that each puts, in turn.
 #[derive(Drop)]
