@@ -59,7 +59,7 @@ type Row = (
     u64,
 );
 
-static ROWS: [Row; 20] = [
+static ROWS: [Row; 22] = [
     // each call needs those before it, in its round or not
     (
         1,
@@ -127,6 +127,29 @@ static ROWS: [Row; 20] = [
         FIVE_ANSWERS,
         3,
         4,
+    ),
+    // a line behind which none has come has the answer that it has without rounds
+    (
+        256,
+        APART,
+        0,
+        Refusal::Memory,
+        99,
+        Status::Done,
+        "refused Memory\nadmitted\nrefused NotHere\nadmitted\nrefused NoSeat 0\n",
+        3,
+        4,
+    ),
+    (
+        256,
+        APART,
+        0,
+        Refusal::Fault,
+        99,
+        Status::Fault,
+        "refused StoreFault\nrefused Frozen\nrefused Frozen\nrefused Frozen\nrefused Frozen\n",
+        1,
+        1,
     ),
     // the store fails: the lines before the first change have their answers, and no other has
     (
