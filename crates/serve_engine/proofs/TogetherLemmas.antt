@@ -15,12 +15,21 @@ use Rattle.line_conversation.specs.declared.conversation.Conversation.{Ghosts as
 use Rattle.live_site.specs.Live.{LiveState, IsFreshSite}
 use Rattle.serve_engine.specs.declared.marks.Marker.{Marker}
 use Rattle.serve_engine.specs.declared.marks.Marking.{Marking}
+use Rattle.serve_engine.specs.declared.turns.Turned.{Turned}
 use Rattle.serve_engine.specs.Requests.{Terms, terms_of}
 use Rattle.serve_engine.specs.Exchanges.{Exchange}
 use Rattle.serve_engine.specs.Rounds.{EndsEarlyTogether, EndsServingTogether, EndsSiteTogether, EndsWellTogether, HasServedTogether, ServedTogether, ServingTogether, no_block}
 use Rattle.serve_engine.specs.Steps.{AreTerms, ended}
-use Rattle.serve_engine.specs.Together.{FailsInBlock, HasHeard, Start, StandsTogether}
+use Rattle.serve_engine.specs.Together.{FailsInBlock, HasHeard, Start, StandsTogether, TurnsTogether}
 use Rattle.serve_engine.proofs.RoundLemmas.{reaches_weaker}
+
+-- a turn, told of the same site, conversation and answer
+pub turned_same : {K C : Type 0} (g : Ghosts K) (m : K → Type 0) (c : TalkGhosts C) (s : Start K C) (live same_live : LiveState K) (talk same_talk : C) (n : ℕ) (turned same_turned : Turned)
+    → same_live ≡ live → same_talk ≡ talk → same_turned ≡ turned → TurnsTogether g m c s live talk n turned → TurnsTogether g m c s same_live same_talk n same_turned
+turned_same {K} {C} g m c s live same_live talk same_talk n turned same_turned live_is talk_is turned_is was =
+    subst (λ (l : LiveState K). TurnsTogether g m c s l same_talk n same_turned) (sym live_is)
+    (subst (λ (t : C). TurnsTogether g m c s live t n same_turned) (sym talk_is)
+    (subst (λ (t : Turned). TurnsTogether g m c s live talk n t) (sym turned_is) was))
 
 module _ {K C : Type 0} (g : Ghosts K) (m : K → Type 0) (c : TalkGhosts C) (most : ℕ) (terms : Terms) (layout : LayoutState) (i : ℕ) (a : Account) where
   -- the start of a site that was opened

@@ -1,5 +1,5 @@
 //! The engine of `serve` where the changes of calls that wait are committed together.
-ghost use Rattle.std.specs.Prelude.{◌≡◌, ◌<◌, ◌∷◌, ◌++◌, ℕ, List, [], false};
+ghost use Rattle.std.specs.Prelude.{◌≡◌, ◌<◌, ◌∷◌, ◌++◌, ℕ, List, MatchOption, None, [], false};
 ghost use Rattle.std.specs.Option.{option_copied};
 ghost use Rattle.admission_model.specs.Account.{Account};
 ghost use Rattle.admission_core.specs.Core.{Stands};
@@ -84,17 +84,31 @@ fn serve_rounds<K: RoundKeeper, C: RoundConversation, P: StorePlace>(
     let mut text = String::new(alloc);
     let mut count = 0u64;
     while count < u64::MAX {
-        let (after, turned) = take_round(
+        let turned = match take_alone(
             alloc,
-            live,
+            &mut live,
             marker,
             most,
             conversation,
             place,
-            &mut round,
             &mut text,
-        );
-        live = after;
+        ) {
+            Some(turned) => turned,
+            None => {
+                let (after, turned) = answer_round(
+                    alloc,
+                    live,
+                    marker,
+                    most,
+                    conversation,
+                    place,
+                    &mut round,
+                    &mut text,
+                );
+                live = after;
+                turned
+            }
+        };
         match turned {
             Turned::Next => count += 1,
             Turned::End => {
@@ -107,32 +121,34 @@ fn serve_rounds<K: RoundKeeper, C: RoundConversation, P: StorePlace>(
     (live, Status::Io)
 }
 
-// Reads a line, and answers it and those of its round.
-fn take_round<K: RoundKeeper, C: RoundConversation, P: StorePlace>(
+// Reads a line, and answers it if it is served by itself. Nothing, where it begins a round: it is not served yet.
+fn take_alone<K: RoundKeeper, C: RoundConversation, P: StorePlace>(
     alloc: Global,
-    live: LiveSite<K>,
+    live: &mut LiveSite<K>,
     marker: &Marker,
     most: usize,
     conversation: &mut C,
     place: &P,
-    round: &mut Round,
     text: &mut String,
-) -> (LiveSite<K>, Turned)
-    ensures turned { (s : Start K C) (n : ℕ) → IsAt s live marker.now → s.most ≡ most
-        → HasHeard K.Keeper K.is_outdated C.Conversation s live conversation.old [] n
-        → TurnsTogether K.Keeper K.is_outdated C.Conversation s result.0 conversation.new n result.1 }
-    ensures layout { result.0.core.layout ≡ live.core.layout }
-    ensures site { result.0.core.site ≡ live.core.site }
-    ensures honest { K.is_honest result.0.keeper → K.is_honest live.keeper }
+) -> Option<Turned>
+    ensures taken { (s : Start K C) (n : ℕ) → IsAt s live.old marker.now
+        → HasHeard K.Keeper K.is_outdated C.Conversation s live.old conversation.old [] n
+        → MatchOption result
+        (HasHeard K.Keeper K.is_outdated C.Conversation s live.new conversation.new (Whole (C.kept conversation.new) ∷ []) n)
+        (TurnsTogether K.Keeper K.is_outdated C.Conversation s live.new conversation.new n) }
+    ensures running { result ≡ None → live.new.frozen ≡ false }
+    ensures layout { live.new.core.layout ≡ live.old.core.layout }
+    ensures site { live.new.core.site ≡ live.old.core.site }
+    ensures honest { K.is_honest live.new.keeper → K.is_honest live.old.keeper }
 {
     match conversation.next_line() {
         Next::Line => {}
-        other => return (live, answer_other(conversation, other)),
+        other => return Some(answer_other(conversation, other)),
     }
-    if is_alone(&live, most, conversation, place) {
-        return answer_alone(alloc, live, marker, conversation, place, text);
+    if !is_alone(live, most, conversation, place) {
+        return None;
     }
-    answer_round(alloc, live, marker, most, conversation, place, round, text)
+    Some(answer_alone(alloc, live, marker, conversation, place, text))
 }
 
 // Whether a line is served by itself: no round has more, none has come behind it, the site serves no more, or its store is no
@@ -164,30 +180,28 @@ fn answer_other<C: RoundConversation>(conversation: &mut C, next: Next) -> Turne
 // Answers the line that is kept where no change waits.
 fn answer_alone<K: RoundKeeper, C: RoundConversation, P: StorePlace>(
     alloc: Global,
-    live: LiveSite<K>,
+    live: &mut LiveSite<K>,
     marker: &Marker,
     conversation: &mut C,
     place: &P,
     text: &mut String,
-) -> (LiveSite<K>, Turned)
-    ensures answered { (s : Start K C) (n : ℕ) → IsAt s live marker.now
-        → InBlock K.Keeper K.is_outdated C.Conversation s live conversation.old (Whole (C.kept conversation.old) ∷ []) [] n
-        → BlockTo K.Keeper K.is_outdated C.Conversation s result.0 conversation.new [] [] n result.1 }
-    ensures layout { result.0.core.layout ≡ live.core.layout }
-    ensures site { result.0.core.site ≡ live.core.site }
-    ensures honest { K.is_honest result.0.keeper → K.is_honest live.keeper }
+) -> Turned
+    ensures answered { (s : Start K C) (n : ℕ) → IsAt s live.old marker.now
+        → InBlock K.Keeper K.is_outdated C.Conversation s live.old conversation.old (Whole (C.kept conversation.old) ∷ []) [] n
+        → BlockTo K.Keeper K.is_outdated C.Conversation s live.new conversation.new [] [] n result }
+    ensures layout { live.new.core.layout ≡ live.old.core.layout }
+    ensures site { live.new.core.site ≡ live.old.core.site }
+    ensures honest { K.is_honest live.new.keeper → K.is_honest live.old.keeper }
 {
-    let mut live = live;
-    let turned = answer_line(
+    answer_line(
         alloc,
-        &mut live,
+        live,
         marker,
         conversation,
         &mut NoLog {},
         place,
         text,
-    );
-    (live, turned)
+    )
 }
 
 // Answers the line that is kept, those of its round, and what was heard behind them.
@@ -271,7 +285,11 @@ fn answer_behind<K: RoundKeeper, C: RoundConversation, P: StorePlace>(
 {
     match behind {
         Behind::Nothing => (live, Turned::Next),
-        Behind::Alone => answer_alone(alloc, live, marker, conversation, place, text),
+        Behind::Alone => {
+            let mut live = live;
+            let turned = answer_alone(alloc, &mut live, marker, conversation, place, text);
+            (live, turned)
+        }
         Behind::TooLong => (live, answer_other(conversation, Next::TooLong)),
         Behind::Memory => (live, answer_other(conversation, Next::Memory)),
     }

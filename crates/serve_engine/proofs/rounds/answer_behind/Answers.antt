@@ -10,7 +10,7 @@ returns-in-Nothing-clause-answered g c = λ s n at b.
 
 pub returns-in-Alone-clause-answered : goal.returns-in-Alone-clause-answered
 returns-in-Alone-clause-answered g c = λ s n at b.
-    c.answer_alone.ensures.answered s n at
+    c.answer_alone-turned.ensures.answered s n at
     (subst (λ (k : Behind). InBlock g.K.Keeper g.K.LiveKeeper.is_outdated g.C.Conversation s c.args.live c.args.conversation.now (lines_behind k (g.C.Conversation.kept c.args.conversation.now)) [] n) c.in-Alone.is b)
 
 pub returns-in-TooLong-clause-answered : goal.returns-in-TooLong-clause-answered
