@@ -53,8 +53,9 @@ fn answered(core: &mut SiteCore, call: &Call) -> Result<Reply, AllocError>
 
 // Replays an entry: whether its reply is the model's. No call of the model is answered by a fault of the store; any other
 // entry is carried out, whether its reply is the model's or not.
-fn follow_one(core: &mut SiteCore, entry: &Entry) -> Result<bool, AllocError>
+pub(crate) fn follow_one(core: &mut SiteCore, entry: &Entry) -> Result<bool, AllocError>
     ensures same { IfOk result (λ ok. (a : Account) → Stands a core.old → IsTrue ok ↔ (entry.now.reply ≡ reply_of (view_of a) entry.now.call)) }
+    ensures fault { IfOk result (λ ok. IsTrue ok → is_fault entry.now.reply ≡ false) }
     ensures stands { IfOk result (λ ok. (a : Account) → Stands a core.old → Stands (if is_fault entry.now.reply then a else after a entry.now.call) core.new) }
 {
     if is_fault(&entry.reply) {

@@ -4,8 +4,11 @@
 
 pub use own::OwnRows;
 pub use replay::{Flags, History, Replayed, replay_runs};
+pub use stream::{LogFault, SiteReplay, Stage};
 
+mod done;
 mod entries;
 mod joint;
 mod own;
 mod replay;
+mod stream;

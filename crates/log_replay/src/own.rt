@@ -31,13 +31,31 @@ impl Model for OwnRows {
 }
 
 impl OwnRows {
-    ghost use Rattle.std.specs.Prelude.{◌≡◌};
+    ghost use Rattle.std.specs.Prelude.{◌≡◌, IfOk};
+
+    /// Equal rows. Linear in them.
+    pub(crate) fn try_copy(&self, alloc: Global) -> Result<OwnRows, AllocError>
+        ensures { IfOk result (λ copy. copy ≡ self.now) }
+    {
+        let mut rows = Vec::with_capacity(alloc, self.rows.len())?;
+        'rows: for row in self.rows.as_slice() {
+            rows.push(row.try_copy(alloc)?)?;
+        }
+        Ok(OwnRows { rows })
+    }
 
     /// The rows.
     pub fn as_slice(&self) -> &[Row]
         ensures { result.now ≡ self.now }
     {
         self.rows.as_slice()
+    }
+}
+
+/// No rows.
+pub(crate) fn no_rows(alloc: Global) -> OwnRows {
+    OwnRows {
+        rows: Vec::new(alloc),
     }
 }
 

@@ -1,0 +1,115 @@
+-- Replaying a site's entries as they come, whatever comes behind them: of all runs of the site, these entries of the last
+-- run that has begun, and these runs, are still to come (no public contract of another crate cites these).
+use Rattle.std.specs.Prelude.{◌≡◌, ℕ, ◌+◌, ◌<◌, ◌≤◌, Bool, List, [], ◌∷◌, ◌++◌, length, true, false, if◌then◌else◌, Option, None, Some}
+use Rattle.merge_core.specs.declared.delta.Row.{Row}
+use Rattle.merge_core.specs.Layout.{LayoutState, at_sites}
+use Rattle.admission_model.specs.Account.{Account, start_origin}
+use Rattle.admission_core.specs.Core.{Core, Stands}
+use Rattle.desk_log.specs.declared.entry.Entry.{Entry}
+use Rattle.desk_log.specs.declared.transcript.Run.{Run}
+use Rattle.desk_log.specs.Log.{is_fault}
+use Rattle.log_replay.specs.declared.stream.LogFault.{LogFault}
+use Rattle.log_replay.specs.declared.stream.LogFault.TheVariants.{BadJoint, BadReply}
+use Rattle.log_replay.specs.declared.stream.Stage.{Stage}
+use Rattle.log_replay.specs.declared.stream.Stage.TheVariants.{Fresh, Open, Ended}
+use Rattle.log_replay.specs.declared.stream.SiteReplay.{SiteReplay}
+use Rattle.log_replay.specs.Legal.{started, was_kept, Begins, IsBadJoint, IsBadReply, first_sites, start_account, account_at}
+use Rattle.log_replay.specs.Replay.{IsPath, IsWay, IsEnd, TellsOwn}
+
+-- how many entries runs have together
+abbrev pub count_of : List Run → ℕ
+count_of [] = 0
+count_of (run ∷ later) = length run.entries + count_of later
+
+-- the first fault of runs
+abbrev pub IsFaultOf : LayoutState → ℕ → List Run → LogFault → Type 0
+IsFaultOf layout i runs BadJoint = IsBadJoint layout i (start_account layout i runs) runs
+IsFaultOf layout i runs (BadReply at) = IsBadReply layout i (start_account layout i runs) runs at
+
+-- A run has begun, behind so many entries: its first ones are answered as in the model, and then one may be in doubt.
+pub record IsInRun (layout : LayoutState) (i : ℕ) (runs : List Run) (more : List Entry) (later : List Run) (core : Core) (left : List Entry) (at : ℕ) : Type 0 where
+  pub account : Account
+  pub run : Run
+  pub flags : List Bool
+  pub before : ℕ
+  pub origin : account.origin ≡ start_origin (at_sites (first_sites layout runs) layout) i
+  pub path : IsPath layout i (start_account layout i runs) runs flags before account (run ∷ later)
+  pub begins : Begins layout i account run
+  pub n : ℕ
+  pub reached : Account
+  pub way : IsWay (started account run) run.entries n reached (left ++ more)
+  pub stands : Stands reached core
+  pub ends : IsEnd reached left
+  pub number : at ≡ (before + n) + length left
+
+-- how far the replay has come
+abbrev pub IsStage : LayoutState → ℕ → List Run → List Entry → List Run → ℕ → Stage → Type 0
+IsStage layout i runs more later at Fresh = (more ≡ []) × ((later ≡ runs) × (at ≡ 0))
+IsStage layout i runs more later at (Open core left) = IsInRun layout i runs more later core left.items at
+IsStage layout i runs more later at (Ended fault) = IsFaultOf layout i runs fault
+
+-- the entry in doubt, if the last one is
+abbrev pub left_of : Stage → List Entry
+left_of Fresh = []
+left_of (Open core left) = left.items
+left_of (Ended fault) = []
+
+-- there is a fault
+abbrev pub HasEnded : Stage → Type 0
+HasEnded Fresh = ⊥
+HasEnded (Open core left) = ⊥
+HasEnded (Ended fault) = Unit {0}
+
+-- what an entry whose reply is not the model's makes of a run
+abbrev pub IsDoubted : Account → Entry → Stage → Type 0
+IsDoubted a e Fresh = ⊥
+IsDoubted a e (Open core left) = IsEnd a (e ∷ []) × Stands a core
+IsDoubted a e (Ended fault) = ¬ IsEnd a (e ∷ [])
+
+-- it is kept, or the run ends there
+abbrev pub IsDoubtKept : Entry → ℕ → Stage → Type 0
+IsDoubtKept e at Fresh = ⊥
+IsDoubtKept e at (Open core left) = left.items ≡ e ∷ []
+IsDoubtKept e at (Ended fault) = fault ≡ BadReply at
+
+-- an entry is handed back where its reply is the model's, and else kept as the one in doubt, or the run ends there
+abbrev pub IsHandedBack : Entry → Stage → Option Entry → Type 0
+IsHandedBack e (Open core left) (Some x) = (x ≡ e) × ((left.items ≡ []) × (is_fault e.reply ≡ false))
+IsHandedBack e (Open core left) None = left.items ≡ e ∷ []
+IsHandedBack e Fresh x = x ≡ None
+IsHandedBack e (Ended fault) x = x ≡ None
+
+-- A run is followed by these. Its last entry is in doubt, is the one in front of so many, and is carried out where it is
+-- among those that were kept.
+pub record IsSettled (layout : LayoutState) (i : ℕ) (runs next : List Run) (at : ℕ) (d : Entry) (kept : List Entry) : Type 0 where
+  pub account : Account
+  pub run : Run
+  pub flags : List Bool
+  pub before : ℕ
+  pub path : IsPath layout i (start_account layout i runs) runs flags before account (run ∷ next)
+  pub n : ℕ
+  pub reached : Account
+  pub way : IsWay (started account run) run.entries n reached (d ∷ [])
+  pub number : at ≡ (before + n) + 1
+  pub fault : is_fault d.reply ≡ true
+  pub is_kept : kept ≡ (if was_kept account run next then d ∷ [] else [])
+
+-- The cut is not behind yet, or these are the own rows there.
+abbrev pub IsMarkedAt : LayoutState → ℕ → List Run → Option ℕ → ℕ → Option (List Row) → Type 0
+IsMarkedAt layout i runs None at None = Unit {0}
+IsMarkedAt layout i runs (Some cut) at None = at ≤ cut
+IsMarkedAt layout i runs None at (Some rows) = ⊥
+IsMarkedAt layout i runs (Some cut) at (Some rows) =
+    (cut < at) × TellsOwn (length layout.records) rows (account_at (start_account layout i runs) cut runs)
+
+-- what is known of a site of which these entries and runs are still to come
+pub record IsReplaying (layout : LayoutState) (i : ℕ) (runs : List Run) (more : List Entry) (later : List Run) (it : SiteReplay) : Type 0 where
+  pub stage : IsStage layout i runs more later it.at it.stage
+  pub mark : (¬ HasEnded it.stage) → IsMarkedAt layout i runs it.cut it.at it.own
+  pub entries : it.at + (length more + count_of later) ≡ count_of runs
+  pub run_number : it.runs + length later ≡ length runs
+
+-- the length of a cut at runs: without one, all their entries
+abbrev pub length_by : Option ℕ → ℕ → ℕ
+length_by None all = all
+length_by (Some cut) all = cut
