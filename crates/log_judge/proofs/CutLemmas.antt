@@ -10,7 +10,7 @@ length_below : (ts : List Transcript) (n : ℕ) → length (lengths_below ts n) 
 length_below ts zero = refl
 length_below ts (suc n) = grind (arith, length-append (lengths_below ts n) (entries_in (runs_at ts n) ∷ []), length_below ts n)
 
-length_at : (ts : List Transcript) (n i : ℕ) → i < n → get_or (lengths_below ts n) i 0 ≡ entries_in (runs_at ts i)
+pub length_at : (ts : List Transcript) (n i : ℕ) → i < n → get_or (lengths_below ts n) i 0 ≡ entries_in (runs_at ts i)
 length_at ts zero i below = absurd (omega arith)
 length_at ts (suc n) i below = at (cases_eq i n) (λ lower. length_at ts n i lower)
   where

@@ -1,5 +1,7 @@
 pub mod CutLemmas
 pub mod ExcessLemmas
+pub mod StreamLemmas
+pub mod LogsLemmas
 pub mod LeadsLemmas
 pub mod HeardLemmas
 pub mod TellsLemmas

@@ -16,6 +16,10 @@ abbrev pub cut_line : Transcript → ℕ → List ℕ
 cut_line t n =
     number_in 4 t.site ++ (number_in 9 n ++ (number_in 9 (entries_in t.runs) ++ (number_in 6 (length t.runs) ++ 10 ∷ [])))
 
+-- .. by these numbers; private contracts alone cite it
+abbrev pub counts_line : ℕ → ℕ → ℕ → ℕ → List ℕ
+counts_line site n entries runs = number_in 4 site ++ (number_in 9 n ++ (number_in 9 entries ++ (number_in 6 runs ++ 10 ∷ [])))
+
 -- the lines of the first n transcripts, in their order
 abbrev pub cut_lines : List Transcript → List ℕ → ℕ → List ℕ
 cut_lines ts cut zero = []

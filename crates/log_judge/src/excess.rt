@@ -73,7 +73,7 @@ fn is_ahead(row: &Row, tables: &[OwnRows]) -> bool
 }
 
 // The first of rising rows that is above what its site had done.
-fn first_ahead(rows: &[Row], tables: &[OwnRows]) -> Option<Named>
+pub(crate) fn first_ahead(rows: &[Row], tables: &[OwnRows]) -> Option<Named>
     requires { IsRising rows.now }
     ensures { IsFoundIn tables.now rows.now result }
 {
@@ -91,7 +91,7 @@ fn first_ahead(rows: &[Row], tables: &[OwnRows]) -> Option<Named>
 }
 
 // Whether a merge was carried out.
-fn is_accepted(kept: bool, reply: &Reply) -> bool
+pub(crate) fn is_accepted(kept: bool, reply: &Reply) -> bool
     ensures { result ≡ is_accepted kept reply.now }
 {
     match reply {

@@ -3,6 +3,7 @@
 
 pub use cut::{full_cut, is_cut};
 pub use judging::{are_of_sites, judge};
+pub use stream::Logs;
 pub use table::cut_table;
 pub use verdict::Verdict;
 
@@ -10,5 +11,6 @@ mod cut;
 mod excess;
 mod judging;
 pub mod laws;
+mod stream;
 mod table;
 mod verdict;

@@ -1,7 +1,7 @@
 //! The table of a cut through closed logs.
 ghost use Rattle.std.specs.Prelude.{◌≡◌, ◌++◌, ◌+◌, string_bytes, IfOk};
 ghost use Rattle.log_judge.specs.Verdict.{IsCut};
-ghost use Rattle.log_judge.specs.Table.{blanks, number_in, cut_line, cut_table};
+ghost use Rattle.log_judge.specs.Table.{blanks, counts_line, cut_header, number_in, cut_line, cut_table};
 
 use crate::cut::count_entries;
 use desk_log::Transcript;
@@ -28,16 +28,42 @@ fn push_number(text: &mut String, places: usize, n: u64) -> Result<(), AllocErro
     text.push_str(digits)
 }
 
+// Writes the line of a site, by its numbers.
+pub(crate) fn push_counts(
+    text: &mut String,
+    site: u64,
+    length: u64,
+    entries: u64,
+    runs: u64,
+) -> Result<(), AllocError>
+    ensures { IfOk result (λ _. string_bytes text.new ≡ string_bytes text.old ++ counts_line site length entries runs) }
+{
+    push_number(text, 4, site)?;
+    push_number(text, 9, length)?;
+    push_number(text, 9, entries)?;
+    push_number(text, 6, runs)?;
+    text.push_str("\n")
+}
+
+// The line above those of the sites.
+pub(crate) fn table_header(alloc: Global) -> Result<String, AllocError>
+    ensures { IfOk result (λ text. string_bytes text ≡ cut_header) }
+{
+    String::from_str(alloc, "site      cut  entries  runs\n")
+}
+
 // Writes the line of a site.
 fn push_line(text: &mut String, transcript: &Transcript, length: u64) -> Result<(), AllocError>
     ensures { IfOk result (λ _. string_bytes text.new ≡ string_bytes text.old ++ cut_line transcript.now length) }
 {
     let entries = count_entries(transcript.runs.as_slice())?;
-    push_number(text, 4, u64::from(transcript.site))?;
-    push_number(text, 9, length)?;
-    push_number(text, 9, entries)?;
-    push_number(text, 6, transcript.runs.len() as u64)?;
-    text.push_str("\n")
+    push_counts(
+        text,
+        u64::from(transcript.site),
+        length,
+        entries,
+        transcript.runs.len() as u64,
+    )
 }
 
 /// Where a cut goes through closed logs.
@@ -53,7 +79,7 @@ pub fn cut_table(
     requires { IsCut transcripts.now cut.now }
     ensures { IfOk result (λ text. string_bytes text ≡ cut_table transcripts.now cut.now) }
 {
-    let mut text = String::from_str(alloc, "site      cut  entries  runs\n")?;
+    let mut text = table_header(alloc)?;
     'sites: for i in 0..transcripts.len() {
         let transcript = &transcripts[i];
         push_line(&mut text, transcript, cut[i])?;

@@ -1,0 +1,385 @@
+//! The closed logs of all sites, judged entry by entry as they come.
+ghost use Rattle.std.specs.Prelude.{◌≡◌, ◌≢◌, ◌+◌, ◌<◌, ◌↔◌, ◌∷◌, [], ◌≤◌, ℕ, List, IfOk, IsTrue, MatchOption, None, Some, false, true, length, slice_index, string_bytes};
+ghost use Rattle.merge_core.specs.declared.cell.Cell.{Cell as CellThere};
+ghost use Rattle.merge_core.specs.Layout.{LayoutState};
+ghost use Rattle.merge_core.specs.Rows.{counter_in, counters_of};
+ghost use Rattle.merge_core.specs.declared.delta.Row.{Row as RowThere};
+ghost use Rattle.admission_model.specs.Account.{Account as AccountThere, own};
+ghost use Rattle.desk_log.specs.declared.entry.Entry.{Entry as EntryThere};
+ghost use Rattle.desk_log.specs.declared.transcript.Run.{Run as RunThere};
+ghost use Rattle.desk_log.specs.declared.transcript.Transcript.{Transcript as TranscriptThere};
+ghost use Rattle.log_replay.specs.Stream.{count_of, length_by};
+ghost use Rattle.log_judge.specs.Cut.{cut_account, full_cut, is_accepted, merge_rows, rows_brought, runs_at};
+ghost use Rattle.log_judge.specs.Table.{cut_table};
+ghost use Rattle.log_judge.specs.Verdict.{AreOfSites, IsCut, IsVerdict};
+ghost use Rattle.log_judge.specs.Excess.{IsFoundAt};
+ghost use Rattle.log_judge.specs.Stream.{AreAllLogs, AreDone, AreLogs, AreTables, AreTaken, HasNoFault, IsLog, Takes, TakesBack, TakesKept, TellAll, no_entries};
+
+use crate::excess::{Place, first_ahead, is_accepted};
+use crate::table::{push_counts, table_header};
+use crate::verdict::Verdict;
+use admission_core::{Call, Durable};
+use desk_log::Entry;
+use log_replay::{LogFault, OwnRows, SiteReplay};
+use merge_core::{Delta, Layout, Row};
+use std::alloc::{AllocError, Global};
+
+/// A merge that was carried out before the cut and may tell more than its sites had done: the number of its entry, and its
+/// delta.
+#[derive(Debug, Drop)]
+pub struct Taken {
+    pub at: u64,
+    pub delta: Delta,
+}
+
+/// What is kept of the log of one site.
+#[derive(Debug, Drop)]
+pub struct SiteLog {
+    pub replay: SiteReplay,
+    pub taken: Vec<Taken>,
+}
+
+/// What is kept of the closed logs of all sites.
+#[derive(Debug, Drop)]
+pub struct Logs {
+    pub sites: Vec<SiteLog>,
+}
+
+// Whether a row may tell more than its site has done at the cut, by what was seen of its log.
+fn is_open(row: &Row, sites: &[SiteLog]) -> bool
+    requires { (layout : LayoutState) × (ts : List TranscriptThere) × (cut : List ℕ) × (more : ℕ → List EntryThere) × (later : ℕ → List RunThere) × AreLogs layout ts cut more later sites.now }
+    ensures { result ≡ false → (layout : LayoutState) (ts : List TranscriptThere) (cut : List ℕ) (more : ℕ → List EntryThere) (later : ℕ → List RunThere) → AreLogs layout ts cut more later sites.now
+        → (cell : CellThere) → counter_in (counters_of row.now) cell ≤ own (cut_account layout ts cut row.now.s) row.now.r cell }
+{
+    let s = usize::from(row.s);
+    if s >= sites.len() {
+        return true;
+    }
+    let log = &sites[s];
+    !log.replay.has_done(row)
+}
+
+// Whether some row does.
+fn some_open(rows: &[Row], sites: &[SiteLog]) -> bool
+    requires { (layout : LayoutState) × (ts : List TranscriptThere) × (cut : List ℕ) × (more : ℕ → List EntryThere) × (later : ℕ → List RunThere) × AreLogs layout ts cut more later sites.now }
+    ensures { result ≡ false → (layout : LayoutState) (ts : List TranscriptThere) (cut : List ℕ) (more : ℕ → List EntryThere) (later : ℕ → List RunThere) → AreLogs layout ts cut more later sites.now
+        → AreDone (cut_account layout ts cut) rows.now }
+{
+    let mut rest = rows;
+    'rows: while let [row, later @ ..] = rest {
+        if is_open(row, sites) {
+            return true;
+        }
+        rest = later;
+    }
+    false
+}
+
+// Whether an entry is a merge that was carried out, of which some row does.
+fn is_open_merge(entry: &Entry, sites: &[SiteLog]) -> bool
+    requires { (layout : LayoutState) × (ts : List TranscriptThere) × (cut : List ℕ) × (more : ℕ → List EntryThere) × (later : ℕ → List RunThere) × AreLogs layout ts cut more later sites.now }
+    ensures done { result ≡ false → (layout : LayoutState) (ts : List TranscriptThere) (cut : List ℕ) (more : ℕ → List EntryThere) (later : ℕ → List RunThere) → AreLogs layout ts cut more later sites.now
+        → AreDone (cut_account layout ts cut) (rows_brought false entry.now) }
+    ensures merged { result ≡ true → is_accepted false entry.now.reply ≡ true }
+{
+    if !is_accepted(false, &entry.reply) {
+        return false;
+    }
+    match &entry.call {
+        Call::Merge(delta) => some_open(delta.rows(), sites),
+        _ => false,
+    }
+}
+
+// Whether an entry of this number is before the cut.
+fn is_before(at: u64, cut: Option<u64>) -> bool
+    ensures { IsTrue result ↔ MatchOption cut (Unit {0}) (λ length. at < length) }
+{
+    match cut {
+        Some(length) => at < length,
+        None => true,
+    }
+}
+
+// The first row above what its site had done, of merges that were carried out.
+fn first_taken(taken: &[Taken], tables: &[OwnRows]) -> Option<Place>
+    ensures { (accounts : ℕ → AccountThere) (lists : List (List RowThere)) (to : ℕ) → AreTaken accounts lists 0 to taken.now → TellAll tables.now accounts → IsFoundAt tables.now lists to result }
+{
+    let mut rest = taken;
+    'taken: while let [it, later @ ..] = rest {
+        if let Some(named) = first_ahead(it.delta.rows(), tables) {
+            return Some(Place {
+                at: it.at,
+                rec: named.rec,
+                origin: named.origin,
+            });
+        }
+        rest = later;
+    }
+    None
+}
+
+impl SiteLog {
+    // Keeps the rows of an entry that was carried out, if it is before the cut.
+    fn take(&mut self, at: u64, entry: Entry) -> Result<(), AllocError>
+        ensures { IfOk result (λ _. Takes self.old self.new at (merge_rows entry.call)) }
+    {
+        if !is_before(at, self.replay.cut) {
+            return Ok(());
+        }
+        let Entry { call, .. } = entry;
+        match call {
+            Call::Merge(delta) => {
+                self.taken.push(Taken { at, delta })?;
+                Ok(())
+            }
+            Call::Ask(_) => Ok(()),
+            Call::Snapshot => Ok(()),
+        }
+    }
+
+    // Keeps those of a call in doubt that was carried out, if there is one, of so many entries the last.
+    fn take_kept(&mut self, at: u64, kept: Vec<Entry>) -> Result<(), AllocError>
+        ensures { IfOk result (λ _. TakesKept self.old self.new at kept.items) }
+    {
+        let mut kept = kept;
+        match kept.pop() {
+            Some(entry) => self.take(at.saturating_sub(1), entry),
+            None => Ok(()),
+        }
+    }
+
+    // Keeps those of an entry that was handed back, if they are asked for.
+    fn take_back(&mut self, at: u64, wanted: bool, back: Option<Entry>) -> Result<(), AllocError>
+        ensures { IfOk result (λ _. TakesBack self.old self.new at wanted back) }
+    {
+        if !wanted {
+            return Ok(());
+        }
+        match back {
+            Some(entry) => self.take(at, entry),
+            None => Ok(()),
+        }
+    }
+
+    // A run begins.
+    fn begin_run(
+        &mut self,
+        alloc: Global,
+        layout: &Layout,
+        site: u16,
+        sites: u16,
+        first: Durable,
+    ) -> Result<(), AllocError>
+        requires site { site < layout.now.sites }
+        requires there { (ts : List TranscriptThere) × (cut : List ℕ) × (es : List EntryThere) × (later : List RunThere)
+            × IsLog layout.now ts cut site [] (record { sites = sites; first = first; entries = es } ∷ later) self.old }
+        ensures { IfOk result (λ _. (ts : List TranscriptThere) (cut : List ℕ) (es : List EntryThere) (later : List RunThere)
+            → IsLog layout.now ts cut site [] (record { sites = sites; first = first; entries = es } ∷ later) self.old → IsLog layout.now ts cut site es later self.new) }
+    {
+        let at = self.replay.at;
+        let kept = self.replay.begin_run(alloc, layout, site, sites, first)?;
+        self.take_kept(at, kept)
+    }
+
+    // The last run has one entry more; its rows are kept where they may tell more than was done.
+    fn add_entry(&mut self, alloc: Global, entry: Entry, wanted: bool) -> Result<(), AllocError>
+        requires { (layout : LayoutState) × (ts : List TranscriptThere) × (cut : List ℕ) × (i : ℕ) × (more : List EntryThere) × (later : List RunThere) × IsLog layout ts cut i (entry ∷ more) later self.old }
+        ensures { IfOk result (λ _. (layout : LayoutState) (ts : List TranscriptThere) (cut : List ℕ) (i : ℕ) (more : List EntryThere) (later : List RunThere)
+            → (wanted ≡ false → AreDone (cut_account layout ts cut) (rows_brought false entry)) → (wanted ≡ true → is_accepted false entry.reply ≡ true)
+            → IsLog layout ts cut i (entry ∷ more) later self.old → IsLog layout ts cut i more later self.new) }
+    {
+        let at = self.replay.at;
+        let back = self.replay.add_entry(alloc, entry)?;
+        self.take_back(at, wanted, back)
+    }
+}
+
+// The length of a cut at a site; 0 where it has none.
+fn length_at(lengths: &[u64], i: usize) -> u64
+    ensures { result ≡ slice_index lengths.now i }
+{
+    if i < lengths.len() {
+        return lengths[i];
+    }
+    0
+}
+
+// The log of a site before its first line.
+fn fresh_log(alloc: Global, cut: Option<u64>) -> SiteLog
+    ensures { (layout : LayoutState) (ts : List TranscriptThere) (lengths : List ℕ) (i : ℕ) → slice_index lengths i ≡ length_by cut (count_of (runs_at ts i))
+        → IsLog layout ts lengths i [] (runs_at ts i) result }
+{
+    SiteLog {
+        replay: SiteReplay::new(cut),
+        taken: Vec::new(alloc),
+    }
+}
+
+impl Logs {
+    /// Before the first line, for the cut at the end of each log.
+    pub fn at_end(alloc: Global, layout: &Layout) -> Result<Logs, AllocError>
+        ensures { IfOk result (λ logs. (ts : List TranscriptThere) → length ts ≡ layout.now.sites → AreLogs layout.now ts (full_cut ts) no_entries (runs_at ts) logs.sites.items) }
+    {
+        let mut sites = Vec::with_capacity(alloc, usize::from(layout.sites()))?;
+        'sites: for _i in 0..layout.sites() {
+            sites.push(fresh_log(alloc, None))?;
+        }
+        Ok(Logs { sites })
+    }
+
+    /// Before the first line, for a cut of these lengths.
+    pub fn at_lengths(alloc: Global, layout: &Layout, lengths: &[u64]) -> Result<Logs, AllocError>
+        ensures { IfOk result (λ logs. (ts : List TranscriptThere) → length ts ≡ layout.now.sites → AreLogs layout.now ts lengths.now no_entries (runs_at ts) logs.sites.items) }
+    {
+        let mut sites = Vec::with_capacity(alloc, usize::from(layout.sites()))?;
+        'sites: for i in 0..layout.sites() {
+            let length = length_at(lengths, usize::from(i));
+            sites.push(fresh_log(alloc, Some(length)))?;
+        }
+        Ok(Logs { sites })
+    }
+
+    /// A run of a site begins.
+    pub fn begin_run(
+        &mut self,
+        alloc: Global,
+        layout: &Layout,
+        site: u16,
+        sites: u16,
+        first: Durable,
+    ) -> Result<(), AllocError>
+        requires site { site < layout.now.sites }
+        requires there { (ts : List TranscriptThere) × (cut : List ℕ) × (more : ℕ → List EntryThere) × (later : ℕ → List RunThere) × (es : List EntryThere) × (rest : List RunThere)
+            × (more site ≡ []) × (later site ≡ record { sites = sites; first = first; entries = es } ∷ rest) × AreLogs layout.now ts cut more later self.old.sites.items }
+        ensures { IfOk result (λ _. (ts : List TranscriptThere) (cut : List ℕ) (more more2 : ℕ → List EntryThere) (later later2 : ℕ → List RunThere) (es : List EntryThere) (rest : List RunThere)
+            → more site ≡ [] → later site ≡ record { sites = sites; first = first; entries = es } ∷ rest → more2 site ≡ es → later2 site ≡ rest
+            → ((j : ℕ) → j ≢ site → (more2 j ≡ more j) × (later2 j ≡ later j))
+            → AreLogs layout.now ts cut more later self.old.sites.items → AreLogs layout.now ts cut more2 later2 self.new.sites.items) }
+    {
+        self.sites[usize::from(site)].begin_run(alloc, layout, site, sites, first)
+    }
+
+    /// The last run of a site has one entry more. Linear in a merge's rows, for each in the sites.
+    pub fn add_entry(&mut self, alloc: Global, site: u16, entry: Entry) -> Result<(), AllocError>
+        requires { (layout : LayoutState) × (ts : List TranscriptThere) × (cut : List ℕ) × (more : ℕ → List EntryThere) × (later : ℕ → List RunThere) × (rest : List EntryThere)
+            × (site < layout.sites) × (more site ≡ entry ∷ rest) × AreLogs layout ts cut more later self.old.sites.items }
+        ensures { IfOk result (λ _. (layout : LayoutState) (ts : List TranscriptThere) (cut : List ℕ) (more more2 : ℕ → List EntryThere) (later : ℕ → List RunThere) (rest : List EntryThere)
+            → site < layout.sites → more site ≡ entry ∷ rest → more2 site ≡ rest → ((j : ℕ) → j ≢ site → more2 j ≡ more j)
+            → AreLogs layout ts cut more later self.old.sites.items → AreLogs layout ts cut more2 later self.new.sites.items) }
+    {
+        let wanted = is_open_merge(&entry, self.sites.as_slice());
+        self.sites[usize::from(site)].add_entry(alloc, entry, wanted)
+    }
+
+    /// The cut at the end of each log, once all entries came.
+    pub fn full_cut(&self, alloc: Global) -> Result<Vec<u64>, AllocError>
+        ensures { (layout : LayoutState) (ts : List TranscriptThere) (cut : List ℕ) → AreAllLogs layout ts cut self.now.sites.items → IfOk result (λ lengths. lengths.items ≡ full_cut ts) }
+    {
+        let mut cut = Vec::with_capacity(alloc, self.sites.len())?;
+        'sites: for i in 0..self.sites.len() {
+            let log = &self.sites[i];
+            cut.push(log.replay.at)?;
+        }
+        Ok(cut)
+    }
+
+    /// Whether these lengths are a cut through the logs.
+    pub fn is_cut(&self, lengths: &[u64]) -> bool
+        ensures { (layout : LayoutState) (ts : List TranscriptThere) (cut : List ℕ) → AreAllLogs layout ts cut self.now.sites.items → IsTrue result ↔ IsCut ts lengths.now }
+    {
+        if lengths.len() != self.sites.len() {
+            return false;
+        }
+        'sites: for i in 0..lengths.len() {
+            let log = &self.sites[i];
+            if lengths[i] > log.replay.at {
+                return false;
+            }
+        }
+        true
+    }
+
+    /// Where a cut goes through the logs, of which the caller shows that it is one.
+    pub fn cut_table(&self, alloc: Global, lengths: &[u64]) -> Result<String, AllocError>
+        requires { length lengths.now ≡ length self.now.sites.items }
+        ensures { (layout : LayoutState) (ts : List TranscriptThere) (cut : List ℕ) → AreOfSites layout ts → AreAllLogs layout ts cut self.now.sites.items
+            → IfOk result (λ text. string_bytes text ≡ cut_table ts lengths.now) }
+    {
+        let mut text = table_header(alloc)?;
+        'sites: for i in 0..lengths.len() {
+            let log = &self.sites[i];
+            push_counts(
+                &mut text,
+                i as u64,
+                lengths[i],
+                log.replay.at,
+                log.replay.runs,
+            )?;
+        }
+        Ok(text)
+    }
+
+    // The first fault of a log.
+    fn first_fault(&self, sites: u16) -> Option<Verdict>
+        requires { sites ≡ length self.now.sites.items }
+        ensures { MatchOption result (HasNoFault self.now.sites.items)
+            (λ verdict. (layout : LayoutState) (ts : List TranscriptThere) (cut : List ℕ) → AreAllLogs layout ts cut self.now.sites.items → IsCut ts cut → IsVerdict layout ts cut verdict) }
+    {
+        'sites: for site in 0..sites {
+            let log = &self.sites[usize::from(site)];
+            match log.replay.fault() {
+                Some(LogFault::BadJoint) => return Some(Verdict::BadJoint { site }),
+                Some(LogFault::BadReply(at)) => return Some(Verdict::BadReply { site, at }),
+                None => {}
+            }
+        }
+        None
+    }
+
+    // The own rows of all sites at the cut.
+    fn own_tables(&self, alloc: Global, layout: &Layout) -> Result<Vec<OwnRows>, AllocError>
+        requires { (ts : List TranscriptThere) × (cut : List ℕ) × AreAllLogs layout.now ts cut self.now.sites.items }
+        ensures { IfOk result (λ tables. (ts : List TranscriptThere) (cut : List ℕ) → AreAllLogs layout.now ts cut self.now.sites.items → IsCut ts cut → HasNoFault self.now.sites.items
+            → AreTables layout.now ts cut layout.now.sites tables.items) }
+    {
+        let mut tables = Vec::with_capacity(alloc, self.sites.len())?;
+        'sites: for site in 0..layout.sites() {
+            let log = &self.sites[usize::from(site)];
+            tables.push(log.replay.own_rows(alloc, layout, site)?)?;
+        }
+        Ok(tables)
+    }
+
+    // Compares what was merged before the cut with what was done there.
+    fn compared(&self, layout: &Layout, tables: &[OwnRows]) -> Verdict
+        requires { length self.now.sites.items ≡ layout.now.sites }
+        ensures { (ts : List TranscriptThere) (cut : List ℕ) → AreAllLogs layout.now ts cut self.now.sites.items → IsCut ts cut → HasNoFault self.now.sites.items
+            → AreTables layout.now ts cut layout.now.sites tables.now → IsVerdict layout.now ts cut result }
+    {
+        'sites: for site in 0..layout.sites() {
+            let log = &self.sites[usize::from(site)];
+            if let Some(it) = first_taken(log.taken.as_slice(), tables) {
+                return Verdict::Exceeds {
+                    site,
+                    at: it.at,
+                    rec: it.rec,
+                    origin: it.origin,
+                };
+            }
+        }
+        Verdict::Consistent
+    }
+
+    /// The verdict on the logs and the cut, once all entries came and where the cut is one.
+    pub fn verdict(&self, alloc: Global, layout: &Layout) -> Result<Verdict, AllocError>
+        requires { (ts : List TranscriptThere) × (cut : List ℕ) × AreAllLogs layout.now ts cut self.now.sites.items }
+        ensures { IfOk result (λ verdict. (ts : List TranscriptThere) (cut : List ℕ) → AreAllLogs layout.now ts cut self.now.sites.items → IsCut ts cut → IsVerdict layout.now ts cut verdict) }
+    {
+        if let Some(verdict) = self.first_fault(layout.sites()) {
+            return Ok(verdict);
+        }
+        let tables = self.own_tables(alloc, layout)?;
+        Ok(self.compared(layout, tables.as_slice()))
+    }
+}
