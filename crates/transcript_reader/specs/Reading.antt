@@ -1,5 +1,5 @@
 -- What reading lines as the runs of all sites answers.
-use Rattle.std.specs.Prelude.{◌≡◌, ◌≢◌, ℕ, zero, suc, ◌+◌, ◌==◌, ◌⊎◌, List, [], ◌∷◌, ◌++◌, length, map, if◌then◌else◌}
+use Rattle.std.specs.Prelude.{◌≡◌, ◌≢◌, Bool, IsTrue, ℕ, zero, suc, ◌+◌, ◌==◌, ◌⊎◌, List, [], ◌∷◌, ◌++◌, length, map, if◌then◌else◌}
 use Rattle.std.specs.List.{All}
 use Rattle.merge_core.specs.declared.layout.RecordSpec.{RecordSpec}
 use Rattle.merge_core.specs.Layout.{LayoutState}
@@ -9,6 +9,8 @@ use Rattle.desk_log.specs.declared.transcript.Run.{Run}
 use Rattle.desk_log.specs.declared.transcript.Transcript.{Transcript}
 use Rattle.transcript_reader.specs.declared.runs.SiteRun.{SiteRun}
 use Rattle.transcript_reader.specs.declared.openings.Opening.{Opening}
+use Rattle.transcript_reader.specs.declared.lines.Line.{Line}
+use Rattle.transcript_reader.specs.declared.lines.Line.TheVariants.{Begins, Adds}
 use Rattle.transcript_reader.specs.declared.reading.ReadError.{ReadError}
 use Rattle.transcript_reader.specs.declared.reading.ReadError.TheVariants.{NotTranscript, Memory}
 use Rattle.transcript_text.specs.Texts.{entry_text, opening_text, short_opening_text, MayBegin}
@@ -27,6 +29,11 @@ BeginsNoRun layout line = (it : Opening) → ¬ BeginsRun layout line it
 -- the line is that of no entry
 abbrev pub IsNoEntry : List RecordSpec → List ℕ → Type 0
 IsNoEntry records line = (e : Entry) → FitsEntry e → line ≢ entry_text records e
+
+-- what a line says: a run begins with it; or it is an entry, where one has begun
+abbrev pub IsLine : LayoutState → Bool → List ℕ → Line → Type 0
+IsLine layout begun line (Begins it) = BeginsRun layout line it
+IsLine layout begun line (Adds e) = IsTrue begun × (FitsEntry e × (line ≡ entry_text layout.records e))
 
 -- how a run begins
 abbrev pub opening_of : SiteRun → Opening

@@ -29,7 +29,7 @@ fn pass_behind(bytes: &[u8]) -> Result<(u16, &[u8]), Unread>
 }
 
 // The entry of a line. Linear in it and in the records. Nothing is copied but what the entry keeps.
-fn entry_in(alloc: Global, layout: &Layout, line: &[u8]) -> Result<Entry, Unread>
+pub(crate) fn entry_in(alloc: Global, layout: &Layout, line: &[u8]) -> Result<Entry, Unread>
     ensures sound { IfOk result (λ e. line.now ≡ entry_text layout.now.records e) }
     ensures fits { IfOk result FitsEntry }
     ensures refused { result ≡ Err Unread.Refused → IsNoEntry layout.now.records line.now }

@@ -1,6 +1,7 @@
 //! Transcripts from their text: the runs of all sites, read off lines.
 #![tactic(auto)]
 
+pub use lines::{Line, line_in};
 pub use openings::Opening;
 pub use reading::{ReadError, read_transcripts};
 pub use runs::SiteRun;
@@ -9,6 +10,7 @@ mod asks;
 mod deltas;
 mod entries;
 pub mod laws;
+mod lines;
 mod numbers;
 mod openings;
 mod quoted;
