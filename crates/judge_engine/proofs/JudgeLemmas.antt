@@ -1,5 +1,5 @@
 -- What was read is judged, and the text of the judgement.
-use Rattle.std.proofs.Common.{◌≡◌, ℕ, List, [], ◌++◌, length, refl, sym, ap, subst, ◌∙◌, arith}
+use Rattle.std.proofs.Common.{◌≡◌, ℕ, List, ◌++◌, ◌+◌, Option, None, Some, Ok, inl, inr, refl, sym, ap, subst, arith}
 use Rattle.merge_core.specs.Layout.{LayoutState}
 use Rattle.merge_core.specs.declared.layout.RecordSpec.{RecordSpec}
 use Rattle.desk_log.specs.declared.transcript.Transcript.{Transcript}
@@ -8,9 +8,20 @@ use Rattle.log_judge.specs.declared.verdict.Verdict.TheVariants.{BadCut, BadJoin
 use Rattle.log_judge.specs.Cut.{no_transcript}
 use Rattle.log_judge.specs.Table.{cut_table}
 use Rattle.log_judge.specs.Verdict.{AreOfSites, IsSafeCut, IsVerdict}
-use Rattle.transcript_reader.specs.Reading.{AreTranscriptsOf, transcripts_below}
+use Rattle.transcript_reader.specs.Reading.{AreTranscriptsOf, IsRefusedAt, transcripts_below}
 use Rattle.transcript_reader.proofs.ReadingLemmas.{length_below, transcript_at}
-use Rattle.judge_engine.specs.Engine.{IsJudgement, judgement_text}
+use Rattle.text_input.specs.Input.{LosesSome, ReadsInput, input_limit}
+use Rattle.text_input.specs.Lines.{lines_of}
+use Rattle.text_input.specs.Sink.{SinkState}
+use Rattle.text_input.specs.Source.{SourceState}
+use Rattle.exit_status.specs.declared.status.Status.{Status}
+use Rattle.exit_status.specs.declared.status.Status.TheVariants.{Done, Usage, NoLayout, NoStore, Fault, Refused, Memory, Io}
+use Rattle.log_judge.specs.declared.stream.SiteLog.{SiteLog}
+use Rattle.log_judge.specs.Stream.{AreAllLogs}
+use Rattle.judge_engine.specs.Cuts.{lengths_of}
+use Rattle.judge_engine.specs.Reading.{EndsBy, EndsReading}
+use Rattle.judge_engine.proofs.ReadingLemmas.{logs_end}
+use Rattle.judge_engine.specs.Engine.{AnswersLogs, EndsJudge, IsJudgement, judgement_text}
 use Rattle.judge_engine.specs.Verdicts.{verdict_line}
 
 -- what was read is a transcript for each site, in order of sites
@@ -37,3 +48,34 @@ pub judged : (layout : LayoutState) (ts : List Transcript) (cut lengths text : L
     → (v ≡ Consistent → (r : ℕ) → IsSafeCut layout ts lengths r) → text ≡ judgement_text layout.records ts lengths v → IsJudgement layout ts cut text
 judged layout ts cut lengths text v same right safe is =
     subst (λ (l : List ℕ). IsJudgement layout ts l text) same (record { verdict = v; right = right; safe = safe; is_text = is })
+
+-- what the lines of all bytes are, where none was refused
+pub all_read : (layout : LayoutState) (cut : Option (List ℕ)) (bytes : List ℕ) (its : LayoutState) (refused site : Option ℕ) (logs : List SiteLog) → refused ≡ None → EndsReading layout cut bytes its refused site logs
+    → (ts : List Transcript) × AreTranscriptsOf layout bytes ts × AreOfSites layout ts × AreAllLogs layout ts (lengths_of cut ts) logs
+all_read layout cut bytes its refused site logs none ends =
+    let knows = subst (λ (o : Option ℕ). EndsBy layout cut bytes o site logs) none ends.1 in
+    let end = logs_end layout cut (lines_of bytes) site logs knows in
+    let ts = transcripts_below end.0 layout.sites in
+    let read : AreTranscriptsOf layout bytes ts = (end.0, (end.1, refl)) in
+    (ts, read, of_sites layout bytes ts read, end.2)
+
+-- the line that was refused
+pub one_refused : (layout : LayoutState) (cut : Option (List ℕ)) (bytes : List ℕ) (its : LayoutState) (refused site : Option ℕ) (logs : List SiteLog) (n : ℕ) → refused ≡ Some n → EndsReading layout cut bytes its refused site logs
+    → IsRefusedAt layout (lines_of bytes) n
+one_refused layout cut bytes its refused site logs n is ends = subst (λ (o : Option ℕ). EndsBy layout cut bytes o site logs) is ends.1
+
+-- of an input within the limit no more is lost than a byte past it
+some_lost : (bytes : List ℕ) (source read : SourceState) → ReadsInput source read (Ok bytes) → LosesSome source read (input_limit + 1)
+some_lost bytes source read reads = (bytes, record { lost = reads.0.lost; bounded = omega (arith, reads.0.bounded) })
+
+-- the whole engine, once the input was read and answered
+pub ends_judge : (layout : LayoutState) (cut : Option (List ℕ)) (bytes : List ℕ) (source read : SourceState) (sink written : SinkState) (status : Status) → ReadsInput source read (Ok bytes)
+    → AnswersLogs layout cut bytes sink written status → EndsJudge layout cut source read sink written status
+ends_judge layout cut bytes source read sink written Done reads answered = (bytes, reads, answered)
+ends_judge layout cut bytes source read sink written Refused reads answered = inl (bytes, reads, answered)
+ends_judge layout cut bytes source read sink written Memory reads same = (some_lost bytes source read reads, inl reads.2, same)
+ends_judge layout cut bytes source read sink written Io reads fault = (some_lost bytes source read reads, inr fault)
+ends_judge layout cut bytes source read sink written Usage reads never = never
+ends_judge layout cut bytes source read sink written (NoLayout fault) reads never = never
+ends_judge layout cut bytes source read sink written (NoStore refusal) reads never = never
+ends_judge layout cut bytes source read sink written Fault reads never = never

@@ -1,1 +1,2 @@
 mod JudgeLemmas
+mod ReadingLemmas

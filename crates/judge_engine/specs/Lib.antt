@@ -1,3 +1,4 @@
 pub mod Cuts
 pub mod Verdicts
 pub mod Engine
+pub mod Reading

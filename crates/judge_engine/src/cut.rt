@@ -1,9 +1,13 @@
 //! The cut that is asked for.
-ghost use Rattle.std.specs.Prelude.{◌≡◌, Some, None, IfOk, MatchResult};
+ghost use Rattle.std.specs.Prelude.{◌≡◌, ℕ, List, Some, None, IfOk, MatchResult, length};
+ghost use Rattle.merge_core.specs.Layout.{LayoutState};
+ghost use Rattle.desk_log.specs.declared.transcript.Transcript.{Transcript as TranscriptThere};
+ghost use Rattle.log_judge.specs.Cut.{runs_at};
+ghost use Rattle.log_judge.specs.Stream.{AreAllLogs, AreLogs, no_entries};
 ghost use Rattle.judge_engine.specs.Cuts.{IsCutFault, cut_in, lengths_of};
 
-use desk_log::Transcript;
-use log_judge::full_cut;
+use log_judge::Logs;
+use merge_core::Layout;
 use std::alloc::{AllocError, Global};
 use std::marker::Model;
 use text_parts::{Number, Unread, joined_at};
@@ -63,13 +67,19 @@ impl Cut {
         }
     }
 
+    // The logs before their first line.
+    pub(crate) fn fresh_logs(&self, alloc: Global, layout: &Layout) -> Result<Logs, AllocError>
+        ensures { IfOk result (λ logs. (ts : List TranscriptThere) → length ts ≡ layout.now.sites → AreLogs layout.now ts (lengths_of self.now ts) no_entries (runs_at ts) logs.sites.items) }
+    {
+        match &self.lengths {
+            Some(lengths) => Logs::at_lengths(alloc, layout, lengths.as_slice()),
+            None => Logs::at_end(alloc, layout),
+        }
+    }
+
     // The cut through these logs, as one length for each.
-    pub(crate) fn lengths(
-        &self,
-        alloc: Global,
-        transcripts: &[Transcript],
-    ) -> Result<Vec<u64>, AllocError>
-        ensures { IfOk result (λ lengths. lengths.items ≡ lengths_of self.now transcripts.now) }
+    pub(crate) fn lengths(&self, alloc: Global, logs: &Logs) -> Result<Vec<u64>, AllocError>
+        ensures { (layout : LayoutState) (ts : List TranscriptThere) (cut : List ℕ) → AreAllLogs layout ts cut logs.now.sites.items → IfOk result (λ lengths. lengths.items ≡ lengths_of self.now ts) }
     {
         match &self.lengths {
             Some(lengths) => {
@@ -77,7 +87,7 @@ impl Cut {
                 copied.extend_from_slice(lengths.as_slice())?;
                 Ok(copied)
             }
-            None => full_cut(alloc, transcripts),
+            None => logs.full_cut(alloc),
         }
     }
 }

@@ -1,18 +1,20 @@
-ghost use Rattle.std.specs.Prelude.{◌≡◌, ◌++◌, Ok, string_bytes, IfOk};
+ghost use Rattle.std.specs.Prelude.{◌≡◌, ◌++◌, ℕ, List, Ok, string_bytes, IfOk};
+ghost use Rattle.desk_log.specs.declared.transcript.Transcript.{Transcript as TranscriptThere};
 ghost use Rattle.log_judge.specs.Verdict.{AreOfSites};
+ghost use Rattle.log_judge.specs.Stream.{AreAllLogs};
 ghost use Rattle.judge_engine.specs.Cuts.{lengths_of};
 ghost use Rattle.judge_engine.specs.Engine.{AnswersLogs, EndsJudge, IsJudgement, refusal_line};
+ghost use Rattle.judge_engine.specs.Reading.{IsTakenIn};
 
 use crate::cut::Cut;
+use crate::intake::Intake;
 use crate::verdict::verdict_line;
-use desk_log::Transcript;
 use exit_status::{Status, write_too_long};
-use log_judge::{Verdict, cut_table, judge};
+use log_judge::{Logs, Verdict};
 use merge_core::Layout;
 use std::alloc::{AllocError, Global};
 use std::io::{Read, Write};
-use text_input::{InputError, Sink, Source, read_input};
-use transcript_reader::{ReadError, read_transcripts};
+use text_input::{INPUT_LIMIT, InputError, Sink, Source, read_into};
 
 /// Reads the whole input as the closed logs of all sites, and writes the table of a cut through them and the verdict on it;
 /// where it is no cut, the verdict alone; or the refusal of the first line that is none of a log.
@@ -25,8 +27,11 @@ pub fn judge_engine<R: Read, W: Write>(
 ) -> Status
     ensures { EndsJudge layout.now cut.now source.old source.new sink.old sink.new result }
 {
-    match read_input(alloc, source) {
-        Ok(input) => answer_logs(alloc, layout, cut, input.as_slice(), sink),
+    let Ok(mut intake) = Intake::new(alloc, layout, cut) else {
+        return Status::Memory;
+    };
+    match read_into(source, INPUT_LIMIT, &mut intake) {
+        Ok(()) => answer_logs(alloc, layout, cut, intake, sink),
         Err(InputError::TooLong) => {
             if !write_too_long(sink) {
                 return Status::Io;
@@ -43,14 +48,18 @@ fn answer_logs<W: Write>(
     alloc: Global,
     layout: &Layout,
     cut: &Cut,
-    bytes: &[u8],
+    intake: Intake,
     sink: &mut Sink<W>,
 ) -> Status
-    ensures { AnswersLogs layout.now cut.now bytes.now sink.old sink.new result }
+    requires { (bytes : List ℕ) × IsTakenIn layout.now cut.now bytes intake }
+    ensures { (bytes : List ℕ) → IsTakenIn layout.now cut.now bytes intake → AnswersLogs layout.now cut.now bytes sink.old sink.new result }
 {
-    match read_transcripts(alloc, layout, bytes) {
-        Ok(transcripts) => {
-            let Ok(text) = judgement(alloc, layout, transcripts.as_slice(), cut) else {
+    let Ok(reading) = intake.finish() else {
+        return Status::Memory;
+    };
+    match reading.refused {
+        None => {
+            let Ok(text) = judgement(alloc, layout, reading.logs, cut) else {
                 return Status::Memory;
             };
             if !sink.write_and_flush(text.as_str()) {
@@ -58,7 +67,7 @@ fn answer_logs<W: Write>(
             }
             Status::Done
         }
-        Err(ReadError::NotTranscript { line }) => {
+        Some(line) => {
             let Ok(text) = refusal_line(alloc, line) else {
                 return Status::Memory;
             };
@@ -67,31 +76,26 @@ fn answer_logs<W: Write>(
             }
             Status::Refused
         }
-        Err(ReadError::Memory) => Status::Memory,
     }
 }
 
 // The table of the cut and the verdict on it.
-fn judgement(
-    alloc: Global,
-    layout: &Layout,
-    transcripts: &[Transcript],
-    cut: &Cut,
-) -> Result<String, AllocError>
-    requires { AreOfSites layout.now transcripts.now }
-    ensures { IfOk result (λ text. IsJudgement layout.now transcripts.now (lengths_of cut.now transcripts.now) (string_bytes text)) }
+fn judgement(alloc: Global, layout: &Layout, logs: Logs, cut: &Cut) -> Result<String, AllocError>
+    requires { (ts : List TranscriptThere) × AreOfSites layout.now ts × AreAllLogs layout.now ts (lengths_of cut.now ts) logs.sites.items }
+    ensures { IfOk result (λ text. (ts : List TranscriptThere) → AreOfSites layout.now ts → AreAllLogs layout.now ts (lengths_of cut.now ts) logs.sites.items
+        → IsJudgement layout.now ts (lengths_of cut.now ts) (string_bytes text)) }
 {
-    let lengths = cut.lengths(alloc, transcripts)?;
-    let verdict = judge(alloc, layout, transcripts, lengths.as_slice())?;
-    let line = verdict_line(alloc, layout, verdict)?;
-    match verdict {
-        Verdict::BadCut => Ok(line),
-        _ => {
-            let mut text = cut_table(alloc, transcripts, lengths.as_slice())?;
-            text.push_str(line.as_str())?;
-            Ok(text)
-        }
+    let _sites = layout.sites(); // tells that the layout is one
+    let lengths = cut.lengths(alloc, &logs)?;
+    let lengths = lengths.as_slice();
+    if !logs.is_cut(lengths) {
+        return verdict_line(alloc, layout, Verdict::BadCut);
     }
+    let mut text = logs.cut_table(alloc, lengths)?;
+    let verdict = logs.verdict(alloc, layout)?;
+    let line = verdict_line(alloc, layout, verdict)?;
+    text.push_str(line.as_str())?;
+    Ok(text)
 }
 
 // The line that tells of a refused line.

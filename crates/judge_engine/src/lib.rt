@@ -7,5 +7,7 @@ pub use verdict::verdict_line;
 
 mod cut;
 mod engine;
+mod intake;
 pub mod laws;
+mod reading;
 mod verdict;

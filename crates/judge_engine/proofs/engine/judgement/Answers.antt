@@ -1,18 +1,48 @@
-use Rattle.std.proofs.Common.{◌≡◌, ◌++◌, ◌∙◌, ℕ, List, ap, ap₂, sym}
-use Rattle.log_judge.specs.Table.{cut_table}
+use Rattle.std.proofs.Common.{rules, ◌≡◌, ◌++◌, ◌∙◌, ℕ, List, true, false, ap₂, sym, subst}
+use Rattle.std.proofs.lemmas.Bool.{false≢true}
+use Rattle.std.proofs.lemmas.Result.{IfOk-weaker}
+use Rattle.log_judge.specs.declared.verdict.Verdict.{Verdict}
+use Rattle.log_judge.specs.declared.verdict.Verdict.TheVariants.{BadCut, Consistent}
+use Rattle.log_judge.specs.Verdict.{IsCut, IsVerdict}
+use Rattle.log_judge.proofs.VerdictLemmas.{safe_verdict}
 use Rattle.judge_engine.specs.Cuts.{lengths_of}
 use Rattle.judge_engine.proofs.JudgeLemmas.{behind_table, judged}
 use Rattle.judge_engine.proofs.engine.judgement.Goals as goal
 
-pub returns : goal.returns
-returns c =
+pub returns-then-not-is_cut : goal.returns-then-not-is_cut
+returns-then-not-is_cut c =
     let layout = c.args.layout.now in
-    let ts = c.args.transcripts.now in
-    let lengths = c.as_slice.result.now in
+    let slice = c.as_slice-lengths.result.now in
+    let no : c.is_cut.result ≡ false = search rules in
+    IfOk-weaker c.verdict_line.result _ _
+    (λ text is ts of all.
+    let cut = lengths_of c.args.cut.now ts in
+    let same : slice ≡ cut = c.as_slice-lengths.ensures.value ∙ c.in_ok-lengths.ensures layout ts cut all in
+    judged layout ts cut slice _ BadCut same
+    (λ is_cut. false≢true (sym no ∙ (c.is_cut.ensures layout ts cut all).1 is_cut))
+    (λ wrong. absurd (let differ : ◌≡◌ {A = Verdict} BadCut Consistent = wrong in cc)) is)
+    c.verdict_line.ensures
+
+pub cut_table-requires : goal.cut_table-requires
+cut_table-requires c =
+    let it = c.requires in
+    let yes : c.is_cut.result ≡ true = search rules in
+    let is_cut = (c.is_cut.ensures c.args.layout.now it.0 (lengths_of c.args.cut.now it.0) it.2).0 yes in
+    is_cut.number ∙ (it.2.number ∙ sym it.2.sites)
+
+pub returns : goal.returns
+returns c = λ ts of all.
+    let layout = c.args.layout.now in
+    let cut = lengths_of c.args.cut.now ts in
+    let slice = c.as_slice-lengths.result.now in
     let verdict = c.in_ok-verdict.verdict in
-    let again = c.as_slice-in_default.ensures.value ∙ sym c.as_slice.ensures.value in
-    let text = c.in_ok-push_str-in_default.ensures.bytes
-    ∙ ap₂ (λ (a b : List ℕ). a ++ b) (c.in_ok-text-in_default.ensures ∙ ap (λ (l : List ℕ). cut_table ts l) again) (c.as_str.ensures.value ∙ c.in_ok-line.ensures)
-    ∙ behind_table layout.records ts lengths verdict c.in_default.not-BadCut in
-    judged layout ts (lengths_of c.args.cut.now ts) lengths _ verdict (c.as_slice.ensures.value ∙ c.in_ok-lengths.ensures)
-    c.in_ok-verdict.ensures.verdict (λ consistent. c.in_ok-verdict.ensures.safe (cc)) text
+    let same : slice ≡ cut = c.as_slice-lengths.ensures.value ∙ c.in_ok-lengths.ensures layout ts cut all in
+    let yes : c.is_cut.result ≡ true = search rules in
+    let is_cut : IsCut ts slice = (c.is_cut.ensures layout ts cut all).0 yes in
+    let judgement : IsVerdict layout ts cut verdict = c.in_ok-verdict.ensures ts cut all (subst (IsCut ts) same is_cut) in
+    let right : IsVerdict layout ts slice verdict = subst (λ (l : List ℕ). IsVerdict layout ts l verdict) (sym same) judgement in
+    let other : ¬ (verdict ≡ BadCut) = λ bad. (subst (IsVerdict layout ts slice) bad right) is_cut in
+    judged layout ts cut slice _ verdict same right (safe_verdict layout ts slice verdict c.sites-sites.ensures.layout all.number right)
+    (c.in_ok-push_str.ensures.bytes
+    ∙ (ap₂ (λ (a b : List ℕ). a ++ b) (c.in_ok-text.ensures layout ts cut of all) (c.as_str.ensures.value ∙ c.in_ok-line.ensures)
+    ∙ behind_table layout.records ts slice verdict other))

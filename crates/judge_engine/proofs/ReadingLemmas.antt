@@ -1,0 +1,335 @@
+-- The lines of closed logs as they come, whatever comes behind them.
+use Rattle.std.proofs.Common.{◌≡◌, ℕ, ◌+◌, ◌<◌, ◌⊎◌, inl, inr, true, false, eqb, List, [], ◌∷◌, ◌++◌, length, map, get_or, Option, None, Some, refl, sym, ap, subst, ◌∙◌, append_assoc, append-nil, length-append, arith}
+use Rattle.std.specs.Prelude.{is_some}
+use Rattle.std.specs.List.{All}
+use Rattle.std.proofs.lemmas.List.Elements.{All-cons, All-from_recursion}
+use Rattle.std.proofs.lemmas.Bool.{cond-true, cond-false, cond_both, eq-eqb, ne_eqb}
+use Rattle.merge_core.specs.Layout.{LayoutState}
+use Rattle.text_input.specs.Lines.{lines_of, EndsLine}
+use Rattle.text_input.proofs.LineLemmas.{lines_behind}
+use Rattle.desk_log.specs.declared.entry.Entry.{Entry}
+use Rattle.desk_log.specs.declared.transcript.Run.{Run}
+use Rattle.desk_log.specs.declared.transcript.Transcript.{Transcript}
+use Rattle.log_judge.specs.declared.stream.SiteLog.{SiteLog}
+use Rattle.log_judge.specs.Cut.{no_transcript, runs_at}
+use Rattle.log_judge.specs.Stream.{AreAllLogs, AreLogs, IsLog, no_entries, no_more_runs}
+use Rattle.transcript_text.specs.Texts.{entry_text}
+use Rattle.transcript_reader.specs.declared.openings.Opening.{Opening}
+use Rattle.transcript_reader.specs.declared.runs.SiteRun.{SiteRun}
+use Rattle.transcript_reader.specs.Fits.{FitsEntry}
+use Rattle.transcript_reader.specs.Reading.{AreLines, BeginsRun, BeginsNoRun, IsNoEntry, IsRefusedAt, runs_of, transcripts_below}
+use Rattle.transcript_reader.proofs.ReadingLemmas.{length_below, transcript_at}
+use Rattle.judge_engine.specs.Cuts.{lengths_of}
+use Rattle.judge_engine.specs.Reading.{AreLeft, AreRead, AreReadBytes, EndsBy, EndsReading, Follows, Knows, MayAdd, ReadsBytes, ReadsLines, left_at}
+use Rattle.judge_engine.specs.declared.reading.Reading.{Reading}
+
+-- the same entries and runs are to come
+logs_same : (layout : LayoutState) (ts : List Transcript) (cut : List ℕ) (more more2 : ℕ → List Entry) (later later2 : ℕ → List Run) (logs : List SiteLog) → ((i : ℕ) → i < length logs → (more2 i ≡ more i) × (later2 i ≡ later i)) → AreLogs layout ts cut more later logs → AreLogs layout ts cut more2 later2 logs
+logs_same layout ts cut more more2 later later2 logs same all = record {
+  sites = all.sites;
+  number = all.number;
+  each = λ i below none.
+      let s = same i below in
+      subst (λ (m : List Entry). IsLog layout ts cut i m (later2 i) (get_or logs i none)) (sym s.0)
+      (subst (λ (l : List Run). IsLog layout ts cut i (more i) l (get_or logs i none)) (sym s.1) (all.each i below none));
+}
+
+-- before the first line
+pub fresh_knows : (layout : LayoutState) (cut : Option (List ℕ)) (logs : List SiteLog) → ((ts : List Transcript) → length ts ≡ layout.sites → AreLogs layout ts (lengths_of cut ts) no_entries (runs_at ts) logs) → Knows layout cut [] None logs
+fresh_knows layout cut logs fresh = record {
+  none_begun = λ none. refl;
+  there = λ s none. absurd (let wrong : ◌≡◌ {A = Option ℕ} None (Some s) = none in cc);
+  any = λ tail more rs left may.
+      let ts = transcripts_below rs layout.sites in
+      let all = fresh ts (length_below rs layout.sites) in
+      let empty : tail ≡ left.0 = left.2 ∙ ap (λ (es : List Entry). map (entry_text layout.records) es ++ left.0) may in
+      record {
+        runs = rs;
+        lines = subst (λ (ls : List (List ℕ)). AreLines layout ls rs) (sym empty) left.3;
+        known = logs_same layout ts (lengths_of cut ts) no_entries (left_at None more) (runs_at ts) (λ i. runs_of i rs) logs
+            (λ i below. (refl, sym (ap (λ (t : Transcript). t.runs) (transcript_at rs layout.sites i no_transcript (omega (arith, below, all.sites)))))) all;
+      };
+}
+
+-- ---- an entry
+
+entry_left : (layout : LayoutState) (tail : List (List ℕ)) (more : List Entry) (rs : List SiteRun) (line : List ℕ) (e : Entry) → FitsEntry e → line ≡ entry_text layout.records e → AreLeft layout tail more rs → AreLeft layout (line ∷ tail) (e ∷ more) rs
+entry_left layout tail more rs line e fits is left = (left.0, All-cons FitsEntry e more fits left.1, (λ k. is k ∷ left.2 k), left.3)
+
+-- what the code needs to know before it takes the entry
+pub adds_there : (layout : LayoutState) (cut : Option (List ℕ)) (front : List (List ℕ)) (site : ℕ) (logs : List SiteLog) (line : List ℕ) (e : Entry) (tail : List (List ℕ)) (more : List Entry) (rs : List SiteRun) → FitsEntry e → line ≡ entry_text layout.records e → Knows layout cut front (Some site) logs → AreLeft layout tail more rs
+    → Follows layout cut front (line ∷ tail) (Some site) (e ∷ more) rs logs
+adds_there layout cut front site logs line e tail more rs fits is knows left = knows.any (line ∷ tail) (e ∷ more) rs (entry_left layout tail more rs line e fits is left) tt
+
+pub left_here : (site : ℕ) (more : List Entry) → left_at (Some site) more site ≡ more
+left_here site more = cond-true (eqb site site) more [] (eq-eqb site site refl)
+
+pub left_other : (site j : ℕ) (more : List Entry) → (j ≡ site → ⊥) → left_at (Some site) more j ≡ []
+left_other site j more apart = cond-false (eqb j site) more [] (ne_eqb j site apart)
+
+pub adds_knows : (layout : LayoutState) (cut : Option (List ℕ)) (front : List (List ℕ)) (site : ℕ) (old new : List SiteLog) (line : List ℕ) (e : Entry) → FitsEntry e → line ≡ entry_text layout.records e → Knows layout cut front (Some site) old
+    → ((layout2 : LayoutState) (ts : List Transcript) (lengths : List ℕ) (more more2 : ℕ → List Entry) (later : ℕ → List Run) (rest : List Entry) → site < layout2.sites → more site ≡ e ∷ rest → more2 site ≡ rest → ((j : ℕ) → (j ≡ site → ⊥) → more2 j ≡ more j) → AreLogs layout2 ts lengths more later old → AreLogs layout2 ts lengths more2 later new)
+    → Knows layout cut (front ++ line ∷ []) (Some site) new
+adds_knows layout cut front site old new line e fits is knows step = record {
+  none_begun = λ none. absurd (let wrong : ◌≡◌ {A = Option ℕ} (Some site) None = none in cc);
+  there = knows.there;
+  any = λ tail more rs left may.
+      let f = adds_there layout cut front site old line e tail more rs fits is knows left in
+      let ts = transcripts_below f.runs layout.sites in
+      record {
+        runs = f.runs;
+        lines = subst (λ (ls : List (List ℕ)). AreLines layout ls f.runs) (sym (append_assoc front (line ∷ []) tail)) f.lines;
+        known = step layout ts (lengths_of cut ts) (left_at (Some site) (e ∷ more)) (left_at (Some site) more) (λ i. runs_of i rs) more (knows.there site refl) (left_here site (e ∷ more)) (left_here site more)
+            (λ j apart. left_other site j more apart ∙ sym (left_other site j (e ∷ more) apart)) f.known;
+      };
+}
+
+-- ---- a run
+
+abbrev pub run_of : Opening → List Entry → SiteRun
+run_of it es = record { site = it.site; run = record { sites = it.sites; first = it.first; entries = es } }
+
+run_left : (layout : LayoutState) (tail : List (List ℕ)) (more : List Entry) (rs : List SiteRun) (line : List ℕ) (it : Opening) → BeginsRun layout line it → AreLeft layout tail more rs → AreLeft layout (line ∷ tail) [] (run_of it more ∷ rs)
+run_left layout tail more rs line it begins left = (line ∷ tail, none_fit, refl, (line, left.0, (begins, (left.1, ((λ k. line ∷ left.2 k), left.3)))))
+  where
+    none_fit : All FitsEntry []
+    none_fit = All-from_recursion FitsEntry [] tt
+
+may_none : (site : Option ℕ) → MayAdd site []
+may_none None = refl
+may_none (Some s) = tt
+
+left_none : (site : Option ℕ) (j : ℕ) → left_at site [] j ≡ []
+left_none None j = refl
+left_none (Some s) j = cond_both (eqb j s) [] [] (λ (xs : List Entry). xs ≡ []) (λ is. refl) (λ is. refl)
+
+runs_here : (it : Opening) (es : List Entry) (rs : List SiteRun) → runs_of it.site (run_of it es ∷ rs) ≡ (run_of it es).run ∷ runs_of it.site rs
+runs_here it es rs = cond-true (eqb it.site it.site) ((run_of it es).run ∷ runs_of it.site rs) (runs_of it.site rs) (eq-eqb it.site it.site refl)
+
+runs_other : (it : Opening) (es : List Entry) (rs : List SiteRun) (j : ℕ) → (j ≡ it.site → ⊥) → runs_of j (run_of it es ∷ rs) ≡ runs_of j rs
+runs_other it es rs j apart = cond-false (eqb it.site j) ((run_of it es).run ∷ runs_of j rs) (runs_of j rs) (ne_eqb it.site j (λ same. apart (sym same)))
+
+pub begins_there : (layout : LayoutState) (cut : Option (List ℕ)) (front : List (List ℕ)) (site : Option ℕ) (logs : List SiteLog) (line : List ℕ) (it : Opening) (tail : List (List ℕ)) (more : List Entry) (rs : List SiteRun) → BeginsRun layout line it → Knows layout cut front site logs → AreLeft layout tail more rs
+    → (runs : List SiteRun) × AreLines layout (front ++ line ∷ tail) runs × AreLogs layout (transcripts_below runs layout.sites) (lengths_of cut (transcripts_below runs layout.sites)) (left_at site []) (λ i. runs_of i (run_of it more ∷ rs)) logs
+begins_there layout cut front site logs line it tail more rs begins knows left =
+    let f = knows.any (line ∷ tail) [] (run_of it more ∷ rs) (run_left layout tail more rs line it begins left) (may_none site) in
+    (f.runs, f.lines, f.known)
+
+pub site_fits : (layout : LayoutState) (line : List ℕ) (it : Opening) → BeginsRun layout line it → it.site < layout.sites
+site_fits layout line it begins = omega (arith, begins.may_begin.site_there, begins.may_begin.no_more)
+
+pub begins_knows : (layout : LayoutState) (cut : Option (List ℕ)) (front : List (List ℕ)) (site : Option ℕ) (old new : List SiteLog) (line : List ℕ) (it : Opening) → BeginsRun layout line it → Knows layout cut front site old
+    → ((ts : List Transcript) (lengths : List ℕ) (more more2 : ℕ → List Entry) (later later2 : ℕ → List Run) (es : List Entry) (rest : List Run) → more it.site ≡ [] → later it.site ≡ record { sites = it.sites; first = it.first; entries = es } ∷ rest → more2 it.site ≡ es → later2 it.site ≡ rest
+    → ((j : ℕ) → (j ≡ it.site → ⊥) → (more2 j ≡ more j) × (later2 j ≡ later j)) → AreLogs layout ts lengths more later old → AreLogs layout ts lengths more2 later2 new)
+    → Knows layout cut (front ++ line ∷ []) (Some it.site) new
+begins_knows layout cut front site old new line it begins knows step = record {
+  none_begun = λ none. absurd (let wrong : ◌≡◌ {A = Option ℕ} (Some it.site) None = none in cc);
+  there = λ s is. subst (λ (o : Option ℕ). IsThere o) is (site_fits layout line it begins);
+  any = λ tail more rs left may.
+      let f = begins_there layout cut front site old line it tail more rs begins knows left in
+      let ts = transcripts_below f.0 layout.sites in
+      record {
+        runs = f.0;
+        lines = subst (λ (ls : List (List ℕ)). AreLines layout ls f.0) (sym (append_assoc front (line ∷ []) tail)) f.1;
+        known = step ts (lengths_of cut ts) (left_at site []) (left_at (Some it.site) more) (λ i. runs_of i (run_of it more ∷ rs)) (λ i. runs_of i rs) more (runs_of it.site rs) (left_none site it.site) (runs_here it more rs) (left_here it.site more) refl
+            (λ j apart. (left_other it.site j more apart ∙ sym (left_none site j), sym (runs_other it more rs j apart))) f.2;
+      };
+}
+  where
+    IsThere : Option ℕ → Type 0
+    IsThere None = ⊥
+    IsThere (Some s) = s < layout.sites
+
+-- ---- a line that is refused
+
+-- nothing is to come
+pub none_left : (layout : LayoutState) → AreLeft layout [] [] []
+none_left layout = ([], none_fit, refl, refl)
+  where
+    none_fit : All FitsEntry []
+    none_fit = All-from_recursion FitsEntry [] tt
+
+no_runs : (layout : LayoutState) (rs : List SiteRun) → AreLines layout [] rs → rs ≡ []
+no_runs layout [] are = refl
+no_runs layout (r ∷ rs) are = absurd (let wrong : ◌≡◌ {A = List (List ℕ)} [] (are.0 ∷ (map (entry_text layout.records) r.run.entries ++ are.1)) = are.2.1.1.0 in cc)
+
+pub refused_line : (layout : LayoutState) (cut : Option (List ℕ)) (front : List (List ℕ)) (site : Option ℕ) (logs : List SiteLog) (line : List ℕ) (number : ℕ) → Knows layout cut front site logs → number ≡ length front + 1 → BeginsNoRun layout line → ((s : ℕ) → site ≡ Some s → IsNoEntry layout.records line)
+    → (rest : List (List ℕ)) → IsRefusedAt layout ((front ++ line ∷ []) ++ rest) number
+refused_line layout cut front site logs line number knows is no_run no_entry rest =
+    let f = knows.any [] [] [] (none_left layout) (may_none site) in
+    let lines : AreLines layout front f.runs = subst (λ (ls : List (List ℕ)). AreLines layout ls f.runs) (append-nil front) f.lines in
+    record {
+      runs = f.runs;
+      front = front;
+      line = line;
+      rest = rest;
+      is_front = append_assoc front (line ∷ []) rest;
+      is_number = is;
+      are_runs = lines;
+      no_run = no_run;
+      no_entry = at site refl f.runs lines;
+    }
+  where
+    at : (o : Option ℕ) → site ≡ o → (runs : List SiteRun) → AreLines layout front runs → (runs ≡ []) ⊎ IsNoEntry layout.records line
+    at None none runs lines = inl (no_runs layout runs (subst (λ (ls : List (List ℕ)). AreLines layout ls runs) (knows.none_begun none) lines))
+    at (Some s) some runs lines = inr (no_entry s some)
+
+-- ---- lines and bytes
+
+-- a number that is there
+pub some_there : (o : Option ℕ) → is_some o ≡ true → (n : ℕ) × (o ≡ Some n)
+some_there None is = absurd (let wrong : false ≡ true = is in cc)
+some_there (Some n) is = (n, refl)
+
+-- what is refused stays refused
+pub read_more : (layout : LayoutState) (cut : Option (List ℕ)) (lines more : List (List ℕ)) (r : Reading) (n : ℕ) → r.refused ≡ Some n → ReadsLines layout cut lines r → ReadsLines layout cut (lines ++ more) r
+read_more layout cut lines more r n is reads = (
+  reads.0,
+  subst (λ (o : Option ℕ). AreRead layout cut (lines ++ more) o r.lines r.site r.logs.sites.items) (sym is)
+      (λ rest. subst (λ (ls : List (List ℕ)). IsRefusedAt layout ls n) (sym (append_assoc lines more rest)) (subst (λ (o : Option ℕ). AreRead layout cut lines o r.lines r.site r.logs.sites.items) is reads.1 (more ++ rest))),
+)
+
+pub knows_now : (layout : LayoutState) (cut : Option (List ℕ)) (lines : List (List ℕ)) (r : Reading) → r.refused ≡ None → ReadsLines layout cut lines r → (r.lines ≡ length lines) × Knows layout cut lines r.site r.logs.sites.items
+knows_now layout cut lines r none reads = subst (λ (o : Option ℕ). AreRead layout cut lines o r.lines r.site r.logs.sites.items) none reads.1
+
+pub line_read : (layout : LayoutState) (cut : Option (List ℕ)) (lines : List (List ℕ)) (line : List ℕ) (new : Reading) → new.layout ≡ layout → new.refused ≡ None → new.lines ≡ length lines + 1 → Knows layout cut (lines ++ line ∷ []) new.site new.logs.sites.items → ReadsLines layout cut (lines ++ line ∷ []) new
+line_read layout cut lines line new same none number knows = (
+  same,
+  subst (λ (o : Option ℕ). AreRead layout cut (lines ++ line ∷ []) o new.lines new.site new.logs.sites.items) (sym none) (omega (arith, number, length-append lines (line ∷ [])), knows),
+)
+
+pub line_refused : (layout : LayoutState) (cut : Option (List ℕ)) (lines : List (List ℕ)) (line : List ℕ) (n : ℕ) (new : Reading) → new.layout ≡ layout → new.refused ≡ Some n → ((rest : List (List ℕ)) → IsRefusedAt layout ((lines ++ line ∷ []) ++ rest) n) → ReadsLines layout cut (lines ++ line ∷ []) new
+line_refused layout cut lines line n new same is refused = (same, subst (λ (o : Option ℕ). AreRead layout cut (lines ++ line ∷ []) o new.lines new.site new.logs.sites.items) (sym is) refused)
+
+-- before the first byte
+pub bytes_none : (layout : LayoutState) (cut : Option (List ℕ)) (r : Reading) → r.layout ≡ layout → r.refused ≡ None → r.pending.items ≡ [] → r.lines ≡ 0 → r.site ≡ None → Knows layout cut [] None r.logs.sites.items → ReadsBytes layout cut [] r
+bytes_none layout cut r same none empty number site knows = (
+  same,
+  subst (λ (o : Option ℕ). AreReadBytes layout cut [] o r.pending.items r.lines r.site r.logs.sites.items) (sym none)
+      ([], (λ more. ap (λ (p : List ℕ). lines_of (p ++ more)) (sym empty)), (number, subst (λ (o : Option ℕ). Knows layout cut [] o r.logs.sites.items) (sym site) knows)),
+)
+
+-- where no line is refused, the lines are known whose ends came
+pub reads_front : (layout : LayoutState) (cut : Option (List ℕ)) (bytes : List ℕ) (r : Reading) → r.refused ≡ None → ReadsBytes layout cut bytes r → (front : List (List ℕ)) × ReadsLines layout cut front r
+reads_front layout cut bytes r none reads =
+    let so = subst (λ (o : Option ℕ). AreReadBytes layout cut bytes o r.pending.items r.lines r.site r.logs.sites.items) none reads.1 in
+    (so.0, (reads.0, subst (λ (o : Option ℕ). AreRead layout cut so.0 o r.lines r.site r.logs.sites.items) (sym none) so.2))
+
+-- all is pending
+pub bytes_wait : (layout : LayoutState) (cut : Option (List ℕ)) (bytes part : List ℕ) (old new : Reading) → old.refused ≡ None → new.layout ≡ old.layout → new.refused ≡ old.refused → new.lines ≡ old.lines → new.site ≡ old.site → new.logs ≡ old.logs → new.pending.items ≡ old.pending.items ++ part
+    → ReadsBytes layout cut bytes old → ReadsBytes layout cut (bytes ++ part) new
+bytes_wait layout cut bytes part old new none same refused number site logs pending reads =
+    let so = subst (λ (o : Option ℕ). AreReadBytes layout cut bytes o old.pending.items old.lines old.site old.logs.sites.items) none reads.1 in
+    let split : (more : List ℕ) → lines_of ((bytes ++ part) ++ more) ≡ so.0 ++ lines_of (new.pending.items ++ more) = λ more.
+    ap lines_of (append_assoc bytes part more) ∙ (so.1 (part ++ more) ∙ ap (λ (p : List ℕ). so.0 ++ lines_of p) (sym (ap (λ (p : List ℕ). p ++ more) pending ∙ append_assoc old.pending.items part more))) in
+    let read : AreRead layout cut so.0 None new.lines new.site new.logs.sites.items = (number ∙ so.2.0, subst (λ (o : Option ℕ). Knows layout cut so.0 o new.logs.sites.items) (sym site) (subst (λ (l : _). Knows layout cut so.0 old.site l.sites.items) (sym logs) so.2.1)) in
+    (same ∙ reads.0, subst (λ (o : Option ℕ). AreReadBytes layout cut (bytes ++ part) o new.pending.items new.lines new.site new.logs.sites.items) (sym (refused ∙ none)) (so.0, split, read))
+
+-- a line was refused before
+pub bytes_refused : (layout : LayoutState) (cut : Option (List ℕ)) (bytes part : List ℕ) (r : Reading) (n : ℕ) → r.refused ≡ Some n → ReadsBytes layout cut bytes r → ReadsBytes layout cut (bytes ++ part) r
+bytes_refused layout cut bytes part r n is reads =
+    let so = subst (λ (o : Option ℕ). AreReadBytes layout cut bytes o r.pending.items r.lines r.site r.logs.sites.items) is reads.1 in
+    (reads.0, subst (λ (o : Option ℕ). AreReadBytes layout cut (bytes ++ part) o r.pending.items r.lines r.site r.logs.sites.items) (sym is) (λ more. subst (λ (b : List ℕ). IsRefusedAt layout (lines_of b) n) (sym (append_assoc bytes part more)) (so (part ++ more))))
+
+whole_lines : (pending before rest more : List ℕ) → lines_of (pending ++ (((before ++ 10 ∷ []) ++ rest) ++ more)) ≡ lines_of (pending ++ (before ++ 10 ∷ [])) ++ lines_of (rest ++ more)
+whole_lines pending before rest more =
+    ap lines_of (
+    ap (λ (l : List ℕ). pending ++ l) (append_assoc (before ++ 10 ∷ []) rest more ∙ append_assoc before (10 ∷ []) (rest ++ more))
+    ∙ sym (append_assoc pending before (10 ∷ (rest ++ more)))
+    )
+    ∙ (lines_behind (pending ++ before) (rest ++ more)
+    ∙ ap (λ (l : List ℕ). lines_of l ++ lines_of (rest ++ more)) (append_assoc pending before (10 ∷ [])))
+
+-- whole lines came behind what was pending, and then the front of another one
+pub bytes_lines : (layout : LayoutState) (cut : Option (List ℕ)) (bytes part lines rest : List ℕ) (old mid new : Reading) → old.refused ≡ None → part ≡ lines ++ rest → EndsLine lines → ReadsBytes layout cut bytes old
+    → ((front : List (List ℕ)) → ReadsLines layout cut front old → ReadsLines layout cut (front ++ lines_of (old.pending.items ++ lines)) mid)
+    → new.layout ≡ mid.layout → new.refused ≡ mid.refused → new.lines ≡ mid.lines → new.site ≡ mid.site → new.logs ≡ mid.logs → new.pending.items ≡ rest → ReadsBytes layout cut (bytes ++ part) new
+bytes_lines layout cut bytes part lines rest old mid new none cut_part ended reads step same refused number site logs pending = go mid.refused refl
+  where
+    so : AreReadBytes layout cut bytes None old.pending.items old.lines old.site old.logs.sites.items
+    so = subst (λ (o : Option ℕ). AreReadBytes layout cut bytes o old.pending.items old.lines old.site old.logs.sites.items) none reads.1
+
+    front : List (List ℕ)
+    front = so.0 ++ lines_of (old.pending.items ++ lines)
+
+    before : ReadsLines layout cut so.0 old
+    before = (reads.0, subst (λ (o : Option ℕ). AreRead layout cut so.0 o old.lines old.site old.logs.sites.items) (sym none) so.2)
+
+    after : ReadsLines layout cut front mid
+    after = step so.0 before
+
+    split : (more : List ℕ) → lines_of ((bytes ++ part) ++ more) ≡ front ++ lines_of (rest ++ more)
+    split more =
+        ap lines_of (append_assoc bytes part more) ∙ (so.1 (part ++ more)
+        ∙ (ap (λ (ls : List (List ℕ)). so.0 ++ ls) (ap (λ (p : List ℕ). lines_of (old.pending.items ++ (p ++ more))) cut_part
+        ∙ (ap (λ (l : List ℕ). lines_of (old.pending.items ++ ((l ++ rest) ++ more))) ended.1
+        ∙ (whole_lines old.pending.items ended.0 rest more ∙ ap (λ (l : List ℕ). lines_of (old.pending.items ++ l) ++ lines_of (rest ++ more)) (sym ended.1))))
+        ∙ sym (append_assoc so.0 (lines_of (old.pending.items ++ lines)) (lines_of (rest ++ more)))))
+
+    go : (o : Option ℕ) → mid.refused ≡ o → ReadsBytes layout cut (bytes ++ part) new
+    go None is =
+        let read = knows_now layout cut front mid is after in
+        let there : AreRead layout cut front None new.lines new.site new.logs.sites.items = (number ∙ read.0, subst (λ (x : Option ℕ). Knows layout cut front x new.logs.sites.items) (sym site) (subst (λ (l : _). Knows layout cut front mid.site l.sites.items) (sym logs) read.1)) in (
+          same ∙ after.0,
+          subst (λ (x : Option ℕ). AreReadBytes layout cut (bytes ++ part) x new.pending.items new.lines new.site new.logs.sites.items) (sym (refused ∙ is))
+              (front, (λ more. split more ∙ ap (λ (p : List ℕ). front ++ lines_of (p ++ more)) (sym pending)), there),
+        )
+    go (Some n) is =
+        let stop = subst (λ (x : Option ℕ). AreRead layout cut front x mid.lines mid.site mid.logs.sites.items) is after.1 in (
+          same ∙ after.0,
+          subst (λ (x : Option ℕ). AreReadBytes layout cut (bytes ++ part) x new.pending.items new.lines new.site new.logs.sites.items) (sym (refused ∙ is))
+              (λ more. subst (λ (ls : List (List ℕ)). IsRefusedAt layout ls n) (sym (split more)) (stop (lines_of (rest ++ more)))),
+        )
+
+-- the last line came
+pub bytes_end : (layout : LayoutState) (cut : Option (List ℕ)) (bytes : List ℕ) (old new : Reading) → old.refused ≡ None → ReadsBytes layout cut bytes old
+    → ((front : List (List ℕ)) → ReadsLines layout cut front old → ReadsLines layout cut (front ++ lines_of (old.pending.items ++ [])) new) → EndsReading layout cut bytes new.layout new.refused new.site new.logs.sites.items
+bytes_end layout cut bytes old new none reads step = (after.0, go new.refused refl)
+  where
+    so : AreReadBytes layout cut bytes None old.pending.items old.lines old.site old.logs.sites.items
+    so = subst (λ (o : Option ℕ). AreReadBytes layout cut bytes o old.pending.items old.lines old.site old.logs.sites.items) none reads.1
+
+    before : ReadsLines layout cut so.0 old
+    before = (reads.0, subst (λ (o : Option ℕ). AreRead layout cut so.0 o old.lines old.site old.logs.sites.items) (sym none) so.2)
+
+    all : so.0 ++ lines_of (old.pending.items ++ []) ≡ lines_of bytes
+    all = sym (so.1 []) ∙ ap lines_of (append-nil bytes)
+
+    after : ReadsLines layout cut (lines_of bytes) new
+    after = subst (λ (ls : List (List ℕ)). ReadsLines layout cut ls new) all (step so.0 before)
+
+    go : (o : Option ℕ) → new.refused ≡ o → EndsBy layout cut bytes o new.site new.logs.sites.items
+    go None is = (knows_now layout cut (lines_of bytes) new is after).1
+    go (Some n) is = subst (λ (ls : List (List ℕ)). IsRefusedAt layout ls n) (append-nil (lines_of bytes)) (subst (λ (x : Option ℕ). AreRead layout cut (lines_of bytes) x new.lines new.site new.logs.sites.items) is after.1 [])
+
+pub bytes_over : (layout : LayoutState) (cut : Option (List ℕ)) (bytes : List ℕ) (r : Reading) (n : ℕ) → r.refused ≡ Some n → ReadsBytes layout cut bytes r → EndsReading layout cut bytes r.layout r.refused r.site r.logs.sites.items
+bytes_over layout cut bytes r n is reads = (
+  reads.0,
+  subst (λ (o : Option ℕ). EndsBy layout cut bytes o r.site r.logs.sites.items) (sym is)
+      (subst (λ (b : List ℕ). IsRefusedAt layout (lines_of b) n) (append-nil bytes) (subst (λ (o : Option ℕ). AreReadBytes layout cut bytes o r.pending.items r.lines r.site r.logs.sites.items) is reads.1 [])),
+)
+
+-- ---- all lines came
+
+pub logs_end : (layout : LayoutState) (cut : Option (List ℕ)) (lines : List (List ℕ)) (site : Option ℕ) (logs : List SiteLog) → Knows layout cut lines site logs
+    → (rs : List SiteRun) × AreLines layout lines rs × AreAllLogs layout (transcripts_below rs layout.sites) (lengths_of cut (transcripts_below rs layout.sites)) logs
+logs_end layout cut lines site logs knows =
+    let f = knows.any [] [] [] (none_left layout) (may_none site) in
+    let ts = transcripts_below f.runs layout.sites in (
+      f.runs,
+      subst (λ (ls : List (List ℕ)). AreLines layout ls f.runs) (append-nil lines) f.lines,
+      logs_same layout ts (lengths_of cut ts) (left_at site []) no_entries (λ i. runs_of i []) no_more_runs logs (λ i below. (sym (left_none site i), refl)) f.known,
+    )
+
+-- what the judge of the logs asks for
+pub begins_ready : (layout : LayoutState) (cut : Option (List ℕ)) (front : List (List ℕ)) (site : Option ℕ) (logs : List SiteLog) (line : List ℕ) (it : Opening) → BeginsRun layout line it → Knows layout cut front site logs
+    → (ts : List Transcript) × (lengths : List ℕ) × (more : ℕ → List Entry) × (later : ℕ → List Run) × (es : List Entry) × (rest : List Run) × (more it.site ≡ []) × (later it.site ≡ record { sites = it.sites; first = it.first; entries = es } ∷ rest) × AreLogs layout ts lengths more later logs
+begins_ready layout cut front site logs line it begins knows =
+    let f = begins_there layout cut front site logs line it [] [] [] begins knows (none_left layout) in
+    (transcripts_below f.0 layout.sites, lengths_of cut (transcripts_below f.0 layout.sites), left_at site [], (λ i. runs_of i (run_of it [] ∷ [])), [], runs_of it.site [], left_none site it.site, runs_here it [] [], f.2)
+
+pub adds_ready : (layout : LayoutState) (cut : Option (List ℕ)) (front : List (List ℕ)) (site : ℕ) (logs : List SiteLog) (e : Entry) → FitsEntry e → Knows layout cut front (Some site) logs
+    → (layout2 : LayoutState) × (ts : List Transcript) × (lengths : List ℕ) × (more : ℕ → List Entry) × (later : ℕ → List Run) × (rest : List Entry) × (site < layout2.sites) × (more site ≡ e ∷ rest) × AreLogs layout2 ts lengths more later logs
+adds_ready layout cut front site logs e fits knows =
+    let f = adds_there layout cut front site logs (entry_text layout.records e) e [] [] [] fits refl knows (none_left layout) in
+    (layout, transcripts_below f.runs layout.sites, lengths_of cut (transcripts_below f.runs layout.sites), left_at (Some site) (e ∷ []), (λ i. runs_of i []), [], knows.there site refl, left_here site (e ∷ []), f.known)

@@ -1,0 +1,180 @@
+//! The lines of closed logs are judged while they come: of them only the front of one that is not whole yet is kept.
+ghost use Rattle.std.specs.Prelude.{◌≡◌, ◌+◌, ◌++◌, ◌∷◌, [], ℕ, List, Option, IfOk, Some, None};
+ghost use Rattle.merge_core.specs.Layout.{LayoutState};
+ghost use Rattle.text_input.specs.Lines.{lines_of};
+ghost use Rattle.transcript_text.specs.Texts.{entry_text};
+ghost use Rattle.transcript_reader.specs.Fits.{FitsEntry};
+ghost use Rattle.transcript_reader.specs.Reading.{BeginsRun};
+ghost use Rattle.judge_engine.specs.Reading.{EndsReading, Knows, ReadsBytes, ReadsLines};
+
+use crate::cut::Cut;
+use desk_log::Entry;
+use log_judge::Logs;
+use merge_core::Layout;
+use std::alloc::{AllocError, Global};
+use std::mem;
+use text_input::{cut_line, cut_whole_lines};
+use text_parts::Unread;
+use transcript_reader::{Line, Opening, line_in};
+
+/// What the lines of an input came to so far.
+#[derive(Drop)]
+pub(crate) struct Reading {
+    alloc: Global,
+    layout: Layout,
+    pub logs: Logs,
+    // The site of the last run.
+    site: Option<u16>,
+    // How many lines there were, while none is refused.
+    lines: u64,
+    // The number of the first that is refused; what comes behind it is not looked at.
+    pub refused: Option<u64>,
+    // The front of a line whose end has not come yet.
+    pending: Vec<u8>,
+}
+
+// The number of the next line. No memory holds so many lines that there is none.
+fn next_line(n: u64) -> Result<u64, AllocError>
+    ensures { IfOk result (λ m. m ≡ n + 1) }
+{
+    match n.checked_add(1) {
+        Some(m) => Ok(m),
+        None => Err(AllocError),
+    }
+}
+
+// A run begins: its site.
+fn begin_run(
+    alloc: Global,
+    layout: &Layout,
+    logs: &mut Logs,
+    opening: Opening,
+) -> Result<u16, AllocError>
+    requires { (cut : Option (List ℕ)) × (front : List (List ℕ)) × (site : Option ℕ) × (line : List ℕ) × BeginsRun layout.now line opening × Knows layout.now cut front site logs.old.sites.items }
+    ensures { IfOk result (λ s. (cut : Option (List ℕ)) (front : List (List ℕ)) (site : Option ℕ) (line : List ℕ) → BeginsRun layout.now line opening → Knows layout.now cut front site logs.old.sites.items
+        → Knows layout.now cut (front ++ line ∷ []) (Some s) logs.new.sites.items) }
+{
+    let Opening { site, sites, first } = opening;
+    logs.begin_run(alloc, layout, site, sites, first)?;
+    Ok(site)
+}
+
+// The last run has one entry more.
+fn add_entry(alloc: Global, logs: &mut Logs, site: u16, entry: Entry) -> Result<(), AllocError>
+    requires { (layout : LayoutState) × (cut : Option (List ℕ)) × (front : List (List ℕ)) × FitsEntry entry × Knows layout cut front (Some site) logs.old.sites.items }
+    ensures { IfOk result (λ _. (layout : LayoutState) (cut : Option (List ℕ)) (front : List (List ℕ)) (line : List ℕ) → FitsEntry entry → line ≡ entry_text layout.records entry → Knows layout cut front (Some site) logs.old.sites.items
+        → Knows layout cut (front ++ line ∷ []) (Some site) logs.new.sites.items) }
+{
+    logs.add_entry(alloc, site, entry)
+}
+
+impl Reading {
+    /// Before the first byte.
+    pub fn new(alloc: Global, layout: &Layout, cut: &Cut) -> Result<Reading, AllocError>
+        ensures { IfOk result (ReadsBytes layout.now cut.now []) }
+    {
+        let logs = cut.fresh_logs(alloc, layout)?;
+        let layout = layout.try_copy(alloc)?;
+        Ok(Reading {
+            alloc,
+            layout,
+            logs,
+            site: None,
+            lines: 0,
+            refused: None,
+            pending: Vec::new(alloc),
+        })
+    }
+
+    // Judges the next line, or refuses it.
+    fn read_line(&mut self, line: &[u8]) -> Result<(), AllocError>
+        requires none { self.old.refused ≡ None }
+        requires there { (layout : LayoutState) × (cut : Option (List ℕ)) × (front : List (List ℕ)) × ReadsLines layout cut front self.old }
+        ensures read { IfOk result (λ _. (layout : LayoutState) (cut : Option (List ℕ)) (front : List (List ℕ)) → ReadsLines layout cut front self.old → ReadsLines layout cut (front ++ line.now ∷ []) self.new) }
+        ensures kept { IfOk result (λ _. self.new.pending ≡ self.old.pending) }
+    {
+        let number = next_line(self.lines)?;
+        match line_in(self.alloc, &self.layout, self.site.is_some(), line) {
+            Ok(Line::Adds(entry)) => {
+                let Some(site) = self.site else {
+                    return Ok(());
+                };
+                add_entry(self.alloc, &mut self.logs, site, entry)?;
+                self.lines = number;
+                Ok(())
+            }
+            Ok(Line::Begins(opening)) => {
+                let site = begin_run(self.alloc, &self.layout, &mut self.logs, opening)?;
+                self.site = Some(site);
+                self.lines = number;
+                Ok(())
+            }
+            Err(Unread::Refused) => {
+                self.refused = Some(number);
+                Ok(())
+            }
+            Err(Unread::Memory) => Err(AllocError),
+        }
+    }
+
+    // Judges these lines, up to the first that is refused.
+    fn read_lines(&mut self, bytes: &[u8]) -> Result<(), AllocError>
+        requires { (layout : LayoutState) × (cut : Option (List ℕ)) × (front : List (List ℕ)) × ReadsLines layout cut front self.old }
+        ensures read { IfOk result (λ _. (layout : LayoutState) (cut : Option (List ℕ)) (front : List (List ℕ)) → ReadsLines layout cut front self.old → ReadsLines layout cut (front ++ lines_of bytes.now) self.new) }
+        ensures kept { IfOk result (λ _. self.new.pending ≡ self.old.pending) }
+    {
+        let mut rest = bytes;
+        'lines: while !rest.is_empty() {
+            if self.refused.is_some() {
+                return Ok(());
+            }
+            let (line, tail) = cut_line(rest);
+            self.read_line(line)?;
+            rest = tail;
+        }
+        Ok(())
+    }
+
+    // Judges what is pending with these lines behind it.
+    fn read_pending(&mut self, lines: &[u8]) -> Result<(), AllocError>
+        requires { (layout : LayoutState) × (cut : Option (List ℕ)) × (front : List (List ℕ)) × ReadsLines layout cut front self.old }
+        ensures read { IfOk result (λ _. (layout : LayoutState) (cut : Option (List ℕ)) (front : List (List ℕ)) → ReadsLines layout cut front self.old
+            → ReadsLines layout cut (front ++ lines_of (self.old.pending.items ++ lines.now)) self.new) }
+        ensures empty { IfOk result (λ _. self.new.pending.items ≡ []) }
+    {
+        self.pending.extend_from_slice(lines)?;
+        let whole = mem::replace(&mut self.pending, Vec::new(self.alloc));
+        self.read_lines(whole.as_slice())
+    }
+
+    /// Takes the next part in.
+    pub fn add(&mut self, part: &[u8]) -> Result<(), AllocError>
+        requires { (layout : LayoutState) × (cut : Option (List ℕ)) × (bytes : List ℕ) × ReadsBytes layout cut bytes self.old }
+        ensures { IfOk result (λ _. (layout : LayoutState) (cut : Option (List ℕ)) (bytes : List ℕ) → ReadsBytes layout cut bytes self.old
+            → ReadsBytes layout cut (bytes ++ part.now) self.new) }
+    {
+        if self.refused.is_some() {
+            return Ok(());
+        }
+        match cut_whole_lines(part) {
+            Some((lines, rest)) => {
+                self.read_pending(lines)?;
+                self.pending.extend_from_slice(rest)?;
+            }
+            None => self.pending.extend_from_slice(part)?,
+        }
+        Ok(())
+    }
+
+    /// Takes the last line in, which may lack its LF.
+    pub fn finish(&mut self) -> Result<(), AllocError>
+        requires { (layout : LayoutState) × (cut : Option (List ℕ)) × (bytes : List ℕ) × ReadsBytes layout cut bytes self.old }
+        ensures { IfOk result (λ _. (layout : LayoutState) (cut : Option (List ℕ)) (bytes : List ℕ) → ReadsBytes layout cut bytes self.old
+            → EndsReading layout cut bytes self.new.layout self.new.refused self.new.site self.new.logs.sites.items) }
+    {
+        if self.refused.is_some() {
+            return Ok(());
+        }
+        self.read_pending(&[])
+    }
+}
