@@ -1,4 +1,4 @@
--- What the lines of closed logs came to so far, whatever comes behind them. For private clauses.
+-- What the lines of closed logs came to so far, whatever comes behind them (no public contract cites these).
 use Rattle.std.specs.Prelude.{◌≡◌, ℕ, ◌<◌, ◌==◌, List, [], ◌++◌, length, map, if◌then◌else◌, Option, None, Some}
 use Rattle.std.specs.List.{All}
 use Rattle.merge_core.specs.Layout.{LayoutState}
@@ -34,7 +34,8 @@ pub record Follows (layout : LayoutState) (cut : Option (List ℕ)) (front tail 
   pub lines : AreLines layout (front ++ tail) runs
   pub known : AreLogs layout (transcripts_below runs layout.sites) (lengths_of cut (transcripts_below runs layout.sites)) (left_at site more) (λ i. runs_of i rs) logs
 
--- so it is whatever comes behind them
+-- The logs know the lines so far: with whatever further entries and runs behind them these are lines of runs, of which the
+-- logs know all but what is to come.
 pub record Knows (layout : LayoutState) (cut : Option (List ℕ)) (front : List (List ℕ)) (site : Option ℕ) (logs : List SiteLog) : Type 0 where
   pub none_begun : site ≡ None → front ≡ []
   pub there : (s : ℕ) → site ≡ Some s → s < layout.sites

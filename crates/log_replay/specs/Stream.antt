@@ -1,5 +1,5 @@
 -- Replaying a site's entries as they come, whatever comes behind them: of all runs of the site, these entries of the last
--- run that has begun, and these runs, are still to come (no public contract of another crate cites these).
+-- run that has begun, and these runs, are still to come (this project's own).
 use Rattle.std.specs.Prelude.{◌≡◌, ℕ, ◌+◌, ◌<◌, ◌≤◌, Bool, List, [], ◌∷◌, ◌++◌, length, true, false, if◌then◌else◌, Option, None, Some}
 use Rattle.merge_core.specs.declared.delta.Row.{Row}
 use Rattle.merge_core.specs.Layout.{LayoutState, at_sites}
@@ -54,7 +54,7 @@ left_of Fresh = []
 left_of (Open core left) = left.items
 left_of (Ended fault) = []
 
--- there is a fault
+-- the replay has ended at a fault
 abbrev pub HasEnded : Stage → Type 0
 HasEnded Fresh = ⊥
 HasEnded (Open core left) = ⊥
