@@ -84,8 +84,23 @@ const FORGOTTEN: &str = "\
 {\"call\":\"give a 1 1\",\"pass\":0,\"reply\":\"given\"}\n\
 {\"book\":\"{\\\"from\\\":0,\\\"rows\\\":[],\\\"v\\\":1}\",\"sessions\":[],\"site\":0,\"sites\":2}\n";
 
+// Site 0 of two gives a seat away; site 1 merges that while its store fails, and its second run shows that the merge was
+// carried out. The log of site 1 comes first.
+const MERGED_IN_DOUBT: &str = "\
+{\"book\":\"{\\\"from\\\":1,\\\"rows\\\":[],\\\"v\\\":1}\",\"sessions\":[],\"site\":1,\"sites\":2}\n\
+{\"call\":\"take {\\\"from\\\":0,\\\"rows\\\":[{\\\"ann\\\":0,\\\"fin\\\":0,\\\"out\\\":[2,1],\\\"r\\\":0,\\\"s\\\":0,\\\"taken\\\":0}],\\\"v\\\":1}\",\"pass\":2,\"reply\":\"refused StoreFault\"}\n\
+{\"book\":\"{\\\"from\\\":1,\\\"rows\\\":[{\\\"ann\\\":0,\\\"fin\\\":0,\\\"out\\\":[2,1],\\\"r\\\":0,\\\"s\\\":0,\\\"taken\\\":0}],\\\"v\\\":1}\",\"sessions\":[],\"site\":1,\"sites\":2}\n\
+{\"book\":\"{\\\"from\\\":0,\\\"rows\\\":[],\\\"v\\\":1}\",\"sessions\":[],\"site\":0,\"sites\":2}\n\
+{\"call\":\"give a 1 1\",\"pass\":0,\"reply\":\"given\"}\n";
+
+// The second run of site 1 shows that the merge was not carried out, and site 0 has no log.
+const DOUBTED_IN_VAIN: &str = "\
+{\"book\":\"{\\\"from\\\":1,\\\"rows\\\":[],\\\"v\\\":1}\",\"sessions\":[],\"site\":1,\"sites\":2}\n\
+{\"call\":\"take {\\\"from\\\":0,\\\"rows\\\":[{\\\"ann\\\":0,\\\"fin\\\":0,\\\"out\\\":[2,1],\\\"r\\\":0,\\\"s\\\":0,\\\"taken\\\":0}],\\\"v\\\":1}\",\"pass\":2,\"reply\":\"refused StoreFault\"}\n\
+{\"book\":\"{\\\"from\\\":1,\\\"rows\\\":[],\\\"v\\\":1}\",\"sessions\":[],\"site\":1,\"sites\":2}\n";
+
 // Each verdict; a cut that is none is told alone.
-static VERDICTS: [Story; 11] = [
+static VERDICTS: [Story; 14] = [
     (
         THREE_SITES,
         "full",
@@ -181,6 +196,42 @@ site      cut  entries  runs
    0        1        1     2
    1        0        0     0
 bad joint site 0
+",
+    ),
+    (
+        TWO_SITES,
+        "full",
+        MERGED_IN_DOUBT,
+        Status::Done,
+        "\
+site      cut  entries  runs
+   0        1        1     1
+   1        1        1     2
+consistent
+",
+    ),
+    (
+        TWO_SITES,
+        "0,1",
+        MERGED_IN_DOUBT,
+        Status::Done,
+        "\
+site      cut  entries  runs
+   0        0        1     1
+   1        1        1     2
+exceeds site 1 at 0 record a origin 0
+",
+    ),
+    (
+        TWO_SITES,
+        "full",
+        DOUBTED_IN_VAIN,
+        Status::Done,
+        "\
+site      cut  entries  runs
+   0        0        0     0
+   1        1        1     2
+consistent
 ",
     ),
 ];
