@@ -145,7 +145,7 @@ def measure(keep):
             f"{os.path.getsize(whole) / 1e6:.2f}", lines, f"{judged:.3f}", f"{part:.3f}", f"{judged / part:.2f}", f"{lines / judged:.0f}",
             f"{join.peak_of(words, whole):.1f}", f"{join.peak_of(words, half):.1f}", f"{played:.3f}", f"{judged / played:.2f}",
             instructions(words, f"{keep}/{number}_{{}}.logs"),
-            instructions(words, f"{keep}/{number}_{{}}.logs", ["log_judge::judging::judge"]),
+            instructions(words, f"{keep}/{number}_{{}}.logs", ["log_replay::entries::follow_one", "log_judge::stream::SiteLog::take"]),
             instructions(other, f"{keep}/{number}_{{}}.script"))
         print(f"{name:<20}" + "".join(f"{it:>9}" for it in figures), flush=True)
 
