@@ -30,28 +30,28 @@ loop-count-preserved g c = record {
       let m = c.match-take_alone in
       let taken = c.take_alone.new in
       let turned : TurnsTogether g.K.Keeper g.K.LiveKeeper.is_outdated g.C.Conversation start m.live m.conversation l.count m.turned = elim m.branch [
-        in-Some w ↦ turned_same g.K.Keeper g.K.LiveKeeper.is_outdated g.C.Conversation start taken.live m.live taken.conversation m.conversation l.count w.in-Some.turned m.turned w.live-is w.conversation-is w.turned-is
-          (w.in-Some.ensures.taken start l.count at (l.invariant.heard terms a are stands))
+        | in-Some w ↦ turned_same g.K.Keeper g.K.LiveKeeper.is_outdated g.C.Conversation start taken.live m.live taken.conversation m.conversation l.count w.in-Some.turned m.turned w.live-is w.conversation-is w.turned-is
+            (w.in-Some.ensures.taken start l.count at (l.invariant.heard terms a are stands))
         | in-None w ↦
-          let r = w.answer_round-after in
-          turned_same g.K.Keeper g.K.LiveKeeper.is_outdated g.C.Conversation start r.result.0 m.live r.new.conversation m.conversation l.count r.result.1 m.turned w.live-is w.conversation-is w.turned-is
-          (block_turn g.K.Keeper g.K.LiveKeeper.is_outdated g.C.Conversation start r.result.0 taken.conversation r.new.conversation l.count r.result.1
-          (r.ensures.answered start l.count (at_same start l.live taken.live c.args.marker.now c.take_alone.ensures.layout c.take_alone.ensures.site at) refl
-          (w.in-None.ensures.taken start l.count at (l.invariant.heard terms a are stands))))
+            let r = w.answer_round-after in
+            turned_same g.K.Keeper g.K.LiveKeeper.is_outdated g.C.Conversation start r.result.0 m.live r.new.conversation m.conversation l.count r.result.1 m.turned w.live-is w.conversation-is w.turned-is
+            (block_turn g.K.Keeper g.K.LiveKeeper.is_outdated g.C.Conversation start r.result.0 taken.conversation r.new.conversation l.count r.result.1
+            (r.ensures.answered start l.count (at_same start l.live taken.live c.args.marker.now c.take_alone.ensures.layout c.take_alone.ensures.site at) refl
+            (w.in-None.ensures.taken start l.count at (l.invariant.heard terms a are stands))))
       ] in
       let turned = subst (λ (t : Turned). TurnsTogether g.K.Keeper g.K.LiveKeeper.is_outdated g.C.Conversation start m.live m.conversation l.count t) c.in-Next.is turned in
       turned;
   layout = elim c.match-take_alone.branch [
-      in-Some w ↦ ap (λ (s : LiveState g.row.K.Denot). s.core.layout) w.live-is ∙ (c.take_alone.ensures.layout ∙ c.loop-count.invariant.layout)
-      | in-None w ↦ ap (λ (s : LiveState g.row.K.Denot). s.core.layout) w.live-is ∙ (w.answer_round-after.ensures.layout ∙ (c.take_alone.ensures.layout ∙ c.loop-count.invariant.layout))
+    | in-Some w ↦ ap (λ (s : LiveState g.row.K.Denot). s.core.layout) w.live-is ∙ (c.take_alone.ensures.layout ∙ c.loop-count.invariant.layout)
+    | in-None w ↦ ap (λ (s : LiveState g.row.K.Denot). s.core.layout) w.live-is ∙ (w.answer_round-after.ensures.layout ∙ (c.take_alone.ensures.layout ∙ c.loop-count.invariant.layout))
   ];
   site = elim c.match-take_alone.branch [
-      in-Some w ↦ ap (λ (s : LiveState g.row.K.Denot). s.core.site) w.live-is ∙ (c.take_alone.ensures.site ∙ c.loop-count.invariant.site)
-      | in-None w ↦ ap (λ (s : LiveState g.row.K.Denot). s.core.site) w.live-is ∙ (w.answer_round-after.ensures.site ∙ (c.take_alone.ensures.site ∙ c.loop-count.invariant.site))
+    | in-Some w ↦ ap (λ (s : LiveState g.row.K.Denot). s.core.site) w.live-is ∙ (c.take_alone.ensures.site ∙ c.loop-count.invariant.site)
+    | in-None w ↦ ap (λ (s : LiveState g.row.K.Denot). s.core.site) w.live-is ∙ (w.answer_round-after.ensures.site ∙ (c.take_alone.ensures.site ∙ c.loop-count.invariant.site))
   ];
   honest = elim c.match-take_alone.branch [
-      in-Some w ↦ λ honest. c.loop-count.invariant.honest (c.take_alone.ensures.honest (subst (λ (s : LiveState g.row.K.Denot). g.K.Keeper.is_honest s.keeper) w.live-is honest))
-      | in-None w ↦ λ honest. c.loop-count.invariant.honest (c.take_alone.ensures.honest (w.answer_round-after.ensures.honest (subst (λ (s : LiveState g.row.K.Denot). g.K.Keeper.is_honest s.keeper) w.live-is honest)))
+    | in-Some w ↦ λ honest. c.loop-count.invariant.honest (c.take_alone.ensures.honest (subst (λ (s : LiveState g.row.K.Denot). g.K.Keeper.is_honest s.keeper) w.live-is honest))
+    | in-None w ↦ λ honest. c.loop-count.invariant.honest (c.take_alone.ensures.honest (w.answer_round-after.ensures.honest (subst (λ (s : LiveState g.row.K.Denot). g.K.Keeper.is_honest s.keeper) w.live-is honest)))
   ];
 }
 
@@ -63,14 +63,14 @@ returns-in-End-clause-ended g c = λ terms a are stands.
     let m = c.match-take_alone in
     let taken = c.take_alone.new in
     let turned : TurnsTogether g.K.Keeper g.K.LiveKeeper.is_outdated g.C.Conversation start m.live m.conversation l.count m.turned = elim m.branch [
-      in-Some w ↦ turned_same g.K.Keeper g.K.LiveKeeper.is_outdated g.C.Conversation start taken.live m.live taken.conversation m.conversation l.count w.in-Some.turned m.turned w.live-is w.conversation-is w.turned-is
-        (w.in-Some.ensures.taken start l.count at (l.invariant.heard terms a are stands))
+      | in-Some w ↦ turned_same g.K.Keeper g.K.LiveKeeper.is_outdated g.C.Conversation start taken.live m.live taken.conversation m.conversation l.count w.in-Some.turned m.turned w.live-is w.conversation-is w.turned-is
+          (w.in-Some.ensures.taken start l.count at (l.invariant.heard terms a are stands))
       | in-None w ↦
-        let r = w.answer_round-after in
-        turned_same g.K.Keeper g.K.LiveKeeper.is_outdated g.C.Conversation start r.result.0 m.live r.new.conversation m.conversation l.count r.result.1 m.turned w.live-is w.conversation-is w.turned-is
-        (block_turn g.K.Keeper g.K.LiveKeeper.is_outdated g.C.Conversation start r.result.0 taken.conversation r.new.conversation l.count r.result.1
-        (r.ensures.answered start l.count (at_same start l.live taken.live c.args.marker.now c.take_alone.ensures.layout c.take_alone.ensures.site at) refl
-        (w.in-None.ensures.taken start l.count at (l.invariant.heard terms a are stands))))
+          let r = w.answer_round-after in
+          turned_same g.K.Keeper g.K.LiveKeeper.is_outdated g.C.Conversation start r.result.0 m.live r.new.conversation m.conversation l.count r.result.1 m.turned w.live-is w.conversation-is w.turned-is
+          (block_turn g.K.Keeper g.K.LiveKeeper.is_outdated g.C.Conversation start r.result.0 taken.conversation r.new.conversation l.count r.result.1
+          (r.ensures.answered start l.count (at_same start l.live taken.live c.args.marker.now c.take_alone.ensures.layout c.take_alone.ensures.site at) refl
+          (w.in-None.ensures.taken start l.count at (l.invariant.heard terms a are stands))))
     ] in
     let turned = subst (λ (t : Turned). TurnsTogether g.K.Keeper g.K.LiveKeeper.is_outdated g.C.Conversation start m.live m.conversation l.count t) c.in-End.is turned in
     subst (λ (x : Status). EndsSiteTogether g.K.Keeper g.K.LiveKeeper.is_outdated g.C.Conversation c.args.most terms c.args.live.core.layout c.args.live.core.site a (durable_of a) c.args.live.keeper m.live.keeper c.args.conversation.now m.conversation x)
@@ -84,14 +84,14 @@ returns-in-Failed-clause-ended g c = λ terms a are stands.
     let m = c.match-take_alone in
     let taken = c.take_alone.new in
     let turned : TurnsTogether g.K.Keeper g.K.LiveKeeper.is_outdated g.C.Conversation start m.live m.conversation l.count m.turned = elim m.branch [
-      in-Some w ↦ turned_same g.K.Keeper g.K.LiveKeeper.is_outdated g.C.Conversation start taken.live m.live taken.conversation m.conversation l.count w.in-Some.turned m.turned w.live-is w.conversation-is w.turned-is
-        (w.in-Some.ensures.taken start l.count at (l.invariant.heard terms a are stands))
+      | in-Some w ↦ turned_same g.K.Keeper g.K.LiveKeeper.is_outdated g.C.Conversation start taken.live m.live taken.conversation m.conversation l.count w.in-Some.turned m.turned w.live-is w.conversation-is w.turned-is
+          (w.in-Some.ensures.taken start l.count at (l.invariant.heard terms a are stands))
       | in-None w ↦
-        let r = w.answer_round-after in
-        turned_same g.K.Keeper g.K.LiveKeeper.is_outdated g.C.Conversation start r.result.0 m.live r.new.conversation m.conversation l.count r.result.1 m.turned w.live-is w.conversation-is w.turned-is
-        (block_turn g.K.Keeper g.K.LiveKeeper.is_outdated g.C.Conversation start r.result.0 taken.conversation r.new.conversation l.count r.result.1
-        (r.ensures.answered start l.count (at_same start l.live taken.live c.args.marker.now c.take_alone.ensures.layout c.take_alone.ensures.site at) refl
-        (w.in-None.ensures.taken start l.count at (l.invariant.heard terms a are stands))))
+          let r = w.answer_round-after in
+          turned_same g.K.Keeper g.K.LiveKeeper.is_outdated g.C.Conversation start r.result.0 m.live r.new.conversation m.conversation l.count r.result.1 m.turned w.live-is w.conversation-is w.turned-is
+          (block_turn g.K.Keeper g.K.LiveKeeper.is_outdated g.C.Conversation start r.result.0 taken.conversation r.new.conversation l.count r.result.1
+          (r.ensures.answered start l.count (at_same start l.live taken.live c.args.marker.now c.take_alone.ensures.layout c.take_alone.ensures.site at) refl
+          (w.in-None.ensures.taken start l.count at (l.invariant.heard terms a are stands))))
     ] in
     let turned = subst (λ (t : Turned). TurnsTogether g.K.Keeper g.K.LiveKeeper.is_outdated g.C.Conversation start m.live m.conversation l.count t) c.in-Failed.is turned in
     ended_early g.K.Keeper g.K.LiveKeeper.is_outdated g.C.Conversation start m.live m.conversation turned
