@@ -1,6 +1,7 @@
 -- Replaying a site's entries as they come, whatever comes behind them: of all runs of the site, these entries of the last
 -- run that has begun, and these runs, are still to come (this project's own).
-use Rattle.std.specs.Prelude.{◌≡◌, ℕ, ◌+◌, ◌<◌, ◌≤◌, Bool, List, [], ◌∷◌, ◌++◌, length, true, false, if◌then◌else◌, Option, None, Some}
+use Rattle.std.specs.Prelude.{◌≡◌, ℕ, ◌+◌, ◌<◌, ◌≤◌, Bool, List, [], ◌∷◌, ◌++◌, length, true, false, if◌then◌else◌, Option, None, Some, Vec}
+use Rattle.std.specs.Global.{Global}
 use Rattle.merge_core.specs.declared.delta.Row.{Row}
 use Rattle.merge_core.specs.Layout.{LayoutState, at_sites}
 use Rattle.admission_model.specs.Account.{Account, start_origin}
@@ -53,6 +54,15 @@ abbrev pub left_of : Stage → List Entry
 left_of Fresh = []
 left_of (Open core left) = left.items
 left_of (Ended fault) = []
+
+-- the stage behind an entry, which ends at a fault, if there is one
+abbrev pub stage_or : Stage → Option LogFault → Stage
+stage_or stage None = stage
+stage_or stage (Some fault) = Ended fault
+
+-- the same where a run is open
+abbrev pub stage_behind : Core → Vec Entry Global → Option LogFault → Stage
+stage_behind core left fault = stage_or (Open core left) fault
 
 -- the replay has ended at a fault
 abbrev pub HasEnded : Stage → Type 0

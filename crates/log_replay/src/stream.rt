@@ -11,7 +11,7 @@ ghost use Rattle.desk_log.specs.Log.{is_fault};
 ghost use Rattle.log_replay.specs.Legal.{start_account, account_at};
 ghost use Rattle.log_replay.specs.Replay.{TellsOwn};
 ghost use Rattle.log_replay.specs.declared.stream.Stage.TheVariants.{Ended as EndedThere};
-ghost use Rattle.log_replay.specs.Stream.{HasEnded, IsDoubted, IsDoubtKept, IsHandedBack, IsInRun, IsMarkedAt, IsReplaying, IsSettled, IsStage, count_of, left_of, length_by};
+ghost use Rattle.log_replay.specs.Stream.{HasEnded, IsDoubted, IsDoubtKept, IsHandedBack, IsInRun, IsMarkedAt, IsReplaying, IsSettled, IsStage, count_of, left_of, length_by, stage_behind, stage_or};
 
 use crate::done::{is_done_by, is_done_in};
 use crate::entries::{follow_one, may_end};
@@ -148,72 +148,94 @@ fn begun_stage(
     }
 }
 
-// The stage behind an entry whose reply is not the model's: it is in doubt, or can't stand.
-fn doubted(core: SiteCore, left: Vec<Entry>, entry: Entry, at: u64) -> Result<Stage, AllocError>
-    requires { left.items ≡ [] }
-    ensures answer { IfOk result (λ stage. (a : Account) → (is_fault entry.reply ≡ true → Stands a core) → IsDoubted a entry stage) }
-    ensures kept { IfOk result (IsDoubtKept entry at) }
-{
-    let mut core = core;
-    let mut left = left;
-    left.push(entry)?;
-    if may_end(&mut core, left.as_slice())? {
-        return Ok(Stage::Open(core, left));
-    }
-    Ok(Stage::Ended(LogFault::BadReply(at)))
-}
-
-// The stage behind one entry more, where nothing is in doubt, and the entry, if its reply is the model's.
-fn followed_clear(
-    core: SiteCore,
-    left: Vec<Entry>,
+// An entry whose reply is not the model's is in doubt, or can't stand: the fault then.
+fn doubted(
+    core: &mut SiteCore,
+    left: &mut Vec<Entry>,
     entry: Entry,
     at: u64,
-) -> Result<(Stage, Option<Entry>), AllocError>
-    requires { left.items ≡ [] }
-    ensures stage { IfOk result (λ x. (layout : LayoutState) (i : ℕ) (runs : List RunThere) (more : List EntryThere) (later : List RunThere)
-        → IsInRun layout i runs (entry ∷ more) later core left.items at → IsStage layout i runs more later (at + 1) x.0) }
-    ensures back { IfOk result (λ x. IsHandedBack entry x.0 x.1) }
-    ensures free { IfOk result (λ x. (¬ HasEnded x.0) → left.items ≡ []) }
+) -> Result<Option<LogFault>, AllocError>
+    requires { left.old.items ≡ [] }
+    ensures answer { IfOk result (λ fault. (a : Account) → (is_fault entry.reply ≡ true → Stands a core.old) → IsDoubted a entry (stage_behind core.new left.new fault)) }
+    ensures kept { IfOk result (λ fault. IsDoubtKept entry at (stage_behind core.new left.new fault)) }
 {
-    let mut core = core;
-    if follow_one(&mut core, &entry)? {
-        return Ok((Stage::Open(core, left), Some(entry)));
+    left.push(entry)?;
+    if may_end(core, left.as_slice())? {
+        return Ok(None);
+    }
+    Ok(Some(LogFault::BadReply(at)))
+}
+
+// Follows one entry more, where nothing is in doubt: the fault where it can't stand, and the entry, if its reply is the
+// model's.
+fn followed_clear(
+    core: &mut SiteCore,
+    left: &mut Vec<Entry>,
+    entry: Entry,
+    at: u64,
+) -> Result<(Option<LogFault>, Option<Entry>), AllocError>
+    requires { left.old.items ≡ [] }
+    ensures stage { IfOk result (λ x. (layout : LayoutState) (i : ℕ) (runs : List RunThere) (more : List EntryThere) (later : List RunThere)
+        → IsInRun layout i runs (entry ∷ more) later core.old left.old.items at → IsStage layout i runs more later (at + 1) (stage_behind core.new left.new x.0)) }
+    ensures back { IfOk result (λ x. IsHandedBack entry (stage_behind core.new left.new x.0) x.1) }
+    ensures free { IfOk result (λ x. (¬ HasEnded (stage_behind core.new left.new x.0)) → left.old.items ≡ []) }
+{
+    if follow_one(core, &entry)? {
+        return Ok((None, Some(entry)));
     }
     Ok((doubted(core, left, entry, at)?, None))
 }
 
 // The same, whatever is in doubt.
 fn followed(
-    core: SiteCore,
-    left: Vec<Entry>,
+    core: &mut SiteCore,
+    left: &mut Vec<Entry>,
     entry: Entry,
     at: u64,
-) -> Result<(Stage, Option<Entry>), AllocError>
+) -> Result<(Option<LogFault>, Option<Entry>), AllocError>
     ensures stage { IfOk result (λ x. (layout : LayoutState) (i : ℕ) (runs : List RunThere) (more : List EntryThere) (later : List RunThere)
-        → IsInRun layout i runs (entry ∷ more) later core left.items at → IsStage layout i runs more later (at + 1) x.0) }
-    ensures back { IfOk result (λ x. IsHandedBack entry x.0 x.1) }
-    ensures free { IfOk result (λ x. (¬ HasEnded x.0) → left.items ≡ []) }
+        → IsInRun layout i runs (entry ∷ more) later core.old left.old.items at → IsStage layout i runs more later (at + 1) (stage_behind core.new left.new x.0)) }
+    ensures back { IfOk result (λ x. IsHandedBack entry (stage_behind core.new left.new x.0) x.1) }
+    ensures free { IfOk result (λ x. (¬ HasEnded (stage_behind core.new left.new x.0)) → left.old.items ≡ []) }
 {
     if !left.is_empty() {
-        return Ok((Stage::Ended(LogFault::BadReply(at.saturating_sub(1))), None));
+        return Ok((Some(LogFault::BadReply(at.saturating_sub(1))), None));
     }
     followed_clear(core, left, entry, at)
 }
 
-// The same behind any stage.
-fn added(stage: Stage, entry: Entry, at: u64) -> Result<(Stage, Option<Entry>), AllocError>
+// The same at any stage.
+fn followed_at(
+    stage: &mut Stage,
+    entry: Entry,
+    at: u64,
+) -> Result<(Option<LogFault>, Option<Entry>), AllocError>
     ensures stage { IfOk result (λ x. (layout : LayoutState) (i : ℕ) (runs : List RunThere) (more : List EntryThere) (later : List RunThere)
-        → IsStage layout i runs (entry ∷ more) later at stage → IsStage layout i runs more later (at + 1) x.0) }
-    ensures back { IfOk result (λ x. IsHandedBack entry x.0 x.1) }
-    ensures free { IfOk result (λ x. (¬ HasEnded x.0) → left_of stage ≡ []) }
-    ensures ended { IfOk result (λ x. HasEnded stage → HasEnded x.0) }
+        → IsStage layout i runs (entry ∷ more) later at stage.old → IsStage layout i runs more later (at + 1) (stage_or stage.new x.0)) }
+    ensures back { IfOk result (λ x. IsHandedBack entry (stage_or stage.new x.0) x.1) }
+    ensures free { IfOk result (λ x. (¬ HasEnded (stage_or stage.new x.0)) → left_of stage.old ≡ []) }
+    ensures ended { IfOk result (λ x. HasEnded stage.old → HasEnded (stage_or stage.new x.0)) }
 {
     match stage {
-        Stage::Fresh => Ok((Stage::Fresh, None)),
         Stage::Open(core, left) => followed(core, left, entry, at),
-        Stage::Ended(fault) => Ok((Stage::Ended(fault), None)),
+        Stage::Fresh => Ok((None, None)),
+        Stage::Ended(_) => Ok((None, None)),
     }
+}
+
+// Adds an entry to a stage, and hands it back if its reply is the model's.
+fn add_to(stage: &mut Stage, entry: Entry, at: u64) -> Result<Option<Entry>, AllocError>
+    ensures stage { IfOk result (λ _. (layout : LayoutState) (i : ℕ) (runs : List RunThere) (more : List EntryThere) (later : List RunThere)
+        → IsStage layout i runs (entry ∷ more) later at stage.old → IsStage layout i runs more later (at + 1) stage.new) }
+    ensures back { IfOk result (λ back. IsHandedBack entry stage.new back) }
+    ensures free { IfOk result (λ _. (¬ HasEnded stage.new) → left_of stage.old ≡ []) }
+    ensures ended { IfOk result (λ _. HasEnded stage.old → HasEnded stage.new) }
+{
+    let (fault, back) = followed_at(stage, entry, at)?;
+    if let Some(fault) = fault {
+        *stage = Stage::Ended(fault);
+    }
+    Ok(back)
 }
 
 impl SiteReplay {
@@ -299,10 +321,7 @@ impl SiteReplay {
         self.mark_cut(alloc)?;
         let at = self.at;
         self.at = one_more(at)?;
-        let stage = mem::replace(&mut self.stage, Stage::Fresh);
-        let (stage, back) = added(stage, entry, at)?;
-        self.stage = stage;
-        Ok(back)
+        add_to(&mut self.stage, entry, at)
     }
 
     /// The first fault, if there is one.

@@ -65,8 +65,39 @@ fn written(alloc: Global, file: &Fuse<Memory>) -> Option<Memory> {
     Some(copy)
 }
 
-/// The files as a process leaves them that dies: with all that it had written. They do not stop any more.
-pub fn left_by_process(alloc: Global, files: &Files<Fuse<Memory>>) -> Option<Files<Fuse<Memory>>> {
+/// What stops: the machine, and what was not synced is lost; or the process alone, and all that it wrote stays.
+#[derive(Clone, Copy, PartialEq, Eq)]
+pub enum StoppedBy {
+    Machine,
+    Process,
+}
+
+/// A file that stops, and with what.
+#[derive(Clone, Copy)]
+pub struct Stop {
+    pub of_log: bool,
+    pub by: StoppedBy,
+}
+
+/// Empty files of which one stops after so many calls.
+pub fn stopping(alloc: Global, stop: Stop, calls: u64) -> Files<Fuse<Memory>> {
+    if stop.of_log {
+        fused(empty_files(alloc), calls, 10000)
+    } else {
+        fused(empty_files(alloc), 10000, calls)
+    }
+}
+
+/// Files that crash next, as a stop leaves them: those of a process with all that it had written, and they do not stop any
+/// more.
+pub fn left_by(
+    alloc: Global,
+    files: Files<Fuse<Memory>>,
+    by: StoppedBy,
+) -> Option<Files<Fuse<Memory>>> {
+    if by == StoppedBy::Machine {
+        return Some(files);
+    }
     let log = written(alloc, &files.log)?;
     let db = written(alloc, &files.db)?;
     Some(fused(Files { log, db }, u64::MAX, u64::MAX))

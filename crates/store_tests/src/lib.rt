@@ -28,6 +28,8 @@ mod moves_stopped;
 #[cfg(test)]
 mod rounds;
 #[cfg(test)]
+mod rounds_stopped;
+#[cfg(test)]
 mod shells;
 #[cfg(test)]
 mod sites;

@@ -3,7 +3,8 @@
 use crate::databases::layout;
 use crate::desks::{GIVE, READ_7, READ_8, Told};
 use crate::files::{
-    Work, closed_after, empty_files, found_after_crash, fused, left_after, left_by_process,
+    Stop, StoppedBy, Work, closed_after, empty_files, found_after_crash, left_after, left_by,
+    stopping,
 };
 use crate::sites::{At, run_site};
 use admission_core::Ask;
@@ -160,36 +161,22 @@ fn verdict_on_both(alloc: Global, first: Transcript, later: Transcript) -> Optio
     verdict_on(alloc, all, &[entries.saturating_add(1), 0])
 }
 
-/// What stops: the machine, and what was not synced is lost; or the process alone, and all that it wrote stays.
-#[derive(Clone, Copy, PartialEq, Eq)]
-enum Stops {
-    Machine,
-    Process,
-}
-
-/// A file that stops, and with what.
-#[derive(Clone, Copy)]
-struct Row {
-    of_log: bool,
-    stops: Stops,
-}
-
 /// Each file of a machine that stops.
-static MACHINE: [Row; 2] = [
-    Row {
+static MACHINE: [Stop; 2] = [
+    Stop {
         of_log: true,
-        stops: Stops::Machine,
+        by: StoppedBy::Machine,
     },
-    Row {
+    Stop {
         of_log: false,
-        stops: Stops::Machine,
+        by: StoppedBy::Machine,
     },
 ];
 
 /// The log of a process that dies.
-const PROCESS: Row = Row {
+const PROCESS: Stop = Stop {
     of_log: true,
-    stops: Stops::Process,
+    by: StoppedBy::Process,
 };
 
 /// What the next opening of a site leaves after a stop.
@@ -197,33 +184,19 @@ fn next_opening<R: Wait>(
     rt: &R,
     alloc: Global,
     files: Files<Fuse<Memory>>,
-    stops: Stops,
+    by: StoppedBy,
 ) -> Option<(Transcript, usize)> {
-    let left = if stops == Stops::Process {
-        left_by_process(alloc, &files)?
-    } else {
-        files
-    };
-    found_after_crash(rt, alloc, left, &GoesOn)
-}
-
-/// The files of a row, which stop after so many calls of one of them.
-fn files_of(alloc: Global, row: Row, calls: u64) -> Files<Fuse<Memory>> {
-    if row.of_log {
-        fused(empty_files(alloc), calls, 10000)
-    } else {
-        fused(empty_files(alloc), 10000, calls)
-    }
+    found_after_crash(rt, alloc, left_by(alloc, files, by)?, &GoesOn)
 }
 
 /// How far a site came that was stopped after so many calls, how many sessions it then began with, and the verdict on both
 /// openings; without a log of the first one there is nothing to judge.
-fn stopped<R: Wait>(rt: &R, alloc: Global, row: Row, calls: u64) -> Option<(At, usize, Verdict)> {
-    let (first, files) = left_after(rt, alloc, files_of(alloc, row, calls), &TWO_ENTER)?;
+fn stopped<R: Wait>(rt: &R, alloc: Global, row: Stop, calls: u64) -> Option<(At, usize, Verdict)> {
+    let (first, files) = left_after(rt, alloc, stopping(alloc, row, calls), &TWO_ENTER)?;
     let Some((at, Some(first))) = first else {
         return Some((At::Unopened, 0, Verdict::Consistent));
     };
-    let (later, began_with) = next_opening(rt, alloc, files, row.stops)?;
+    let (later, began_with) = next_opening(rt, alloc, files, row.by)?;
     Some((at, began_with, verdict_on_both(alloc, first, later)?))
 }
 
@@ -255,7 +228,7 @@ fn with_stop(count: Count, at: At, began_with: usize) -> Count {
 }
 
 /// The stops of a row at each call, one after another, if each log is consistent.
-fn counted<R: Wait>(rt: &R, alloc: Global, row: Row) -> Option<Count> {
+fn counted<R: Wait>(rt: &R, alloc: Global, row: Stop) -> Option<Count> {
     let mut count = NONE;
     for calls in 0..600u64 {
         let (at, began_with, verdict) = stopped(rt, alloc, row, calls)?;

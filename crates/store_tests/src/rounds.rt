@@ -107,7 +107,7 @@ fn are_each_made(alloc: Global, layout: &Layout, keeper: &mut MemoryKeeper, roun
 }
 
 /// What a keeper in memory holds after rounds, each change of which is made by itself.
-fn each_made(alloc: Global, layout: &Layout, rounds: &[u64]) -> Option<Durable> {
+pub fn each_made(alloc: Global, layout: &Layout, rounds: &[u64]) -> Option<Durable> {
     let Ok(mut keeper) = MemoryKeeper::new(alloc, layout, 0) else {
         return None;
     };
@@ -130,31 +130,33 @@ fn is_made<S: Alter>(keeper: &mut SqlKeeper<S>, round: &[Change]) -> bool
     }
 }
 
-/// Whether a keeper makes the changes of each round together.
-fn are_made<S: Alter>(
+/// How many of these rounds a keeper makes, the changes of each together, until it does not make one.
+pub fn made_of<S: Alter>(
     alloc: Global,
     layout: &Layout,
     keeper: &mut SqlKeeper<S>,
     rounds: &[u64],
-) -> bool
+) -> usize
     requires layout { layout_of keeper.old ≡ layout.now }
     requires site { site_of keeper.old ≡ 0 }
 {
+    let mut made = 0usize;
     let mut from = 0u64;
     for count in rounds {
         let Ok(round) = round_of(alloc, from, *count) else {
-            return false;
+            return made;
         };
         if !are_changes(layout, &round) || !is_made(keeper, &round) {
-            return false;
+            return made;
         }
+        made = made.saturating_add(1);
         from = from.saturating_add(*count);
     }
-    true
+    made
 }
 
 /// Whether a keeper holds what another one does.
-fn holds<K: Keeper>(alloc: Global, keeper: &mut K, wanted: &Durable) -> bool {
+pub fn holds<K: Keeper>(alloc: Global, keeper: &mut K, wanted: &Durable) -> bool {
     match keeper.load(alloc) {
         Ok(found) => found.cells() == wanted.cells() && found.sessions() == wanted.sessions(),
         Err(_) => false,
@@ -175,7 +177,8 @@ fn after_rounds<S: Alter + Drop>(
     let Ok(mut keeper) = SqlKeeper::open(alloc, connection, layout, 0, None) else {
         return None;
     };
-    if are_made(alloc, layout, &mut keeper, rounds) && holds(alloc, &mut keeper, wanted) {
+    let made = made_of(alloc, layout, &mut keeper, rounds);
+    if made == rounds.len() && holds(alloc, &mut keeper, wanted) {
         Some(keeper.into_connection())
     } else {
         None
