@@ -49,6 +49,14 @@ AreRead layout cut lines (Some refused) number site logs = (rest : List (List �
 abbrev pub ReadsLines : LayoutState → Option (List ℕ) → List (List ℕ) → Reading → Type 0
 ReadsLines layout cut lines r = (r.layout ≡ layout) × AreRead layout cut lines r.refused r.lines r.site r.logs.sites.items
 
+-- some lines were read, under some layout and for some cut
+abbrev pub HasReadLines : Reading → Type 0
+HasReadLines r = (layout : LayoutState) × (cut : Option (List ℕ)) × (front : List (List ℕ)) × ReadsLines layout cut front r
+
+-- behind whatever was read these lines were read
+abbrev pub ReadsOn : Reading → List (List ℕ) → Reading → Type 0
+ReadsOn old lines new = (layout : LayoutState) (cut : Option (List ℕ)) (front : List (List ℕ)) → ReadsLines layout cut front old → ReadsLines layout cut (front ++ lines) new
+
 -- what is known once these bytes came: of all lines whose ends came, the front of one more being pending; or that one is
 -- refused, whatever follows
 abbrev pub AreReadBytes : LayoutState → Option (List ℕ) → List ℕ → Option ℕ → List ℕ → ℕ → Option ℕ → List SiteLog → Type 0
@@ -67,6 +75,10 @@ EndsBy layout cut bytes (Some refused) site logs = IsRefusedAt layout (lines_of 
 abbrev pub EndsReading : LayoutState → Option (List ℕ) → List ℕ → LayoutState → Option ℕ → Option ℕ → List SiteLog → Type 0
 EndsReading layout cut bytes its refused site logs = (its ≡ layout) × EndsBy layout cut bytes refused site logs
 
+-- some bytes were read, under some layout and for some cut
+abbrev pub HasReadBytes : Reading → Type 0
+HasReadBytes r = (layout : LayoutState) × (cut : Option (List ℕ)) × (bytes : List ℕ) × ReadsBytes layout cut bytes r
+
 -- what was kept is what these bytes came to, and memory did not run out
 abbrev pub IsTakenIn : LayoutState → Option (List ℕ) → List ℕ → Option Reading → Type 0
 IsTakenIn layout cut bytes None = ⊥
@@ -75,4 +87,4 @@ IsTakenIn layout cut bytes (Some r) = ReadsBytes layout cut bytes r
 -- what is kept is what some bytes came to, for some layout and cut
 abbrev pub IsOfBytes : Option Reading → Type 0
 IsOfBytes None = Unit {0}
-IsOfBytes (Some r) = (layout : LayoutState) × (cut : Option (List ℕ)) × (bytes : List ℕ) × ReadsBytes layout cut bytes r
+IsOfBytes (Some r) = HasReadBytes r

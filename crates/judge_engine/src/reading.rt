@@ -5,7 +5,7 @@ ghost use Rattle.text_input.specs.Lines.{lines_of};
 ghost use Rattle.transcript_text.specs.Texts.{entry_text};
 ghost use Rattle.transcript_reader.specs.Fits.{FitsEntry};
 ghost use Rattle.transcript_reader.specs.Reading.{BeginsRun};
-ghost use Rattle.judge_engine.specs.Reading.{EndsReading, Knows, ReadsBytes, ReadsLines};
+ghost use Rattle.judge_engine.specs.Reading.{EndsReading, HasReadBytes, HasReadLines, Knows, ReadsBytes, ReadsOn};
 
 use crate::cut::Cut;
 use desk_log::Entry;
@@ -50,8 +50,10 @@ fn begin_run(
     logs: &mut Logs,
     opening: Opening,
 ) -> Result<u16, AllocError>
-    requires { (cut : Option (List ℕ)) × (front : List (List ℕ)) × (site : Option ℕ) × (line : List ℕ) × BeginsRun layout.now line opening × Knows layout.now cut front site logs.old.sites.items }
-    ensures { IfOk result (λ s. (cut : Option (List ℕ)) (front : List (List ℕ)) (site : Option ℕ) (line : List ℕ) → BeginsRun layout.now line opening → Knows layout.now cut front site logs.old.sites.items
+    requires { (cut : Option (List ℕ)) × (front : List (List ℕ)) × (site : Option ℕ) × (line : List ℕ)
+        × BeginsRun layout.now line opening × Knows layout.now cut front site logs.old.sites.items }
+    ensures { IfOk result (λ s. (cut : Option (List ℕ)) (front : List (List ℕ)) (site : Option ℕ) (line : List ℕ)
+        → BeginsRun layout.now line opening → Knows layout.now cut front site logs.old.sites.items
         → Knows layout.now cut (front ++ line ∷ []) (Some s) logs.new.sites.items) }
 {
     let Opening { site, sites, first } = opening;
@@ -62,7 +64,8 @@ fn begin_run(
 // The last run has one entry more.
 fn add_entry(alloc: Global, logs: &mut Logs, site: u16, entry: Entry) -> Result<(), AllocError>
     requires { (layout : LayoutState) × (cut : Option (List ℕ)) × (front : List (List ℕ)) × FitsEntry entry × Knows layout cut front (Some site) logs.old.sites.items }
-    ensures { IfOk result (λ _. (layout : LayoutState) (cut : Option (List ℕ)) (front : List (List ℕ)) (line : List ℕ) → FitsEntry entry → line ≡ entry_text layout.records entry → Knows layout cut front (Some site) logs.old.sites.items
+    ensures { IfOk result (λ _. (layout : LayoutState) (cut : Option (List ℕ)) (front : List (List ℕ)) (line : List ℕ)
+        → FitsEntry entry → line ≡ entry_text layout.records entry → Knows layout cut front (Some site) logs.old.sites.items
         → Knows layout cut (front ++ line ∷ []) (Some site) logs.new.sites.items) }
 {
     logs.add_entry(alloc, site, entry)
@@ -89,8 +92,8 @@ impl Reading {
     // Judges the next line, or refuses it.
     fn read_line(&mut self, line: &[u8]) -> Result<(), AllocError>
         requires none { self.old.refused ≡ None }
-        requires there { (layout : LayoutState) × (cut : Option (List ℕ)) × (front : List (List ℕ)) × ReadsLines layout cut front self.old }
-        ensures read { IfOk result (λ _. (layout : LayoutState) (cut : Option (List ℕ)) (front : List (List ℕ)) → ReadsLines layout cut front self.old → ReadsLines layout cut (front ++ line.now ∷ []) self.new) }
+        requires there { HasReadLines self.old }
+        ensures read { IfOk result (λ _. ReadsOn self.old (line.now ∷ []) self.new) }
         ensures kept { IfOk result (λ _. self.new.pending ≡ self.old.pending) }
     {
         let number = next_line(self.lines)?;
@@ -119,8 +122,8 @@ impl Reading {
 
     // Judges these lines, up to the first that is refused.
     fn read_lines(&mut self, bytes: &[u8]) -> Result<(), AllocError>
-        requires { (layout : LayoutState) × (cut : Option (List ℕ)) × (front : List (List ℕ)) × ReadsLines layout cut front self.old }
-        ensures read { IfOk result (λ _. (layout : LayoutState) (cut : Option (List ℕ)) (front : List (List ℕ)) → ReadsLines layout cut front self.old → ReadsLines layout cut (front ++ lines_of bytes.now) self.new) }
+        requires { HasReadLines self.old }
+        ensures read { IfOk result (λ _. ReadsOn self.old (lines_of bytes.now) self.new) }
         ensures kept { IfOk result (λ _. self.new.pending ≡ self.old.pending) }
     {
         let mut rest = bytes;
@@ -137,9 +140,8 @@ impl Reading {
 
     // Judges what is pending with these lines behind it.
     fn read_pending(&mut self, lines: &[u8]) -> Result<(), AllocError>
-        requires { (layout : LayoutState) × (cut : Option (List ℕ)) × (front : List (List ℕ)) × ReadsLines layout cut front self.old }
-        ensures read { IfOk result (λ _. (layout : LayoutState) (cut : Option (List ℕ)) (front : List (List ℕ)) → ReadsLines layout cut front self.old
-            → ReadsLines layout cut (front ++ lines_of (self.old.pending.items ++ lines.now)) self.new) }
+        requires { HasReadLines self.old }
+        ensures read { IfOk result (λ _. ReadsOn self.old (lines_of (self.old.pending.items ++ lines.now)) self.new) }
         ensures empty { IfOk result (λ _. self.new.pending.items ≡ []) }
     {
         self.pending.extend_from_slice(lines)?;
@@ -149,7 +151,7 @@ impl Reading {
 
     /// Takes the next part in.
     pub fn add(&mut self, part: &[u8]) -> Result<(), AllocError>
-        requires { (layout : LayoutState) × (cut : Option (List ℕ)) × (bytes : List ℕ) × ReadsBytes layout cut bytes self.old }
+        requires { HasReadBytes self.old }
         ensures { IfOk result (λ _. (layout : LayoutState) (cut : Option (List ℕ)) (bytes : List ℕ) → ReadsBytes layout cut bytes self.old
             → ReadsBytes layout cut (bytes ++ part.now) self.new) }
     {
@@ -168,7 +170,7 @@ impl Reading {
 
     /// Takes the last line in, which may lack its LF.
     pub fn finish(&mut self) -> Result<(), AllocError>
-        requires { (layout : LayoutState) × (cut : Option (List ℕ)) × (bytes : List ℕ) × ReadsBytes layout cut bytes self.old }
+        requires { HasReadBytes self.old }
         ensures { IfOk result (λ _. (layout : LayoutState) (cut : Option (List ℕ)) (bytes : List ℕ) → ReadsBytes layout cut bytes self.old
             → EndsReading layout cut bytes self.new.layout self.new.refused self.new.site self.new.logs.sites.items) }
     {

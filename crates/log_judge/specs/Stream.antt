@@ -62,6 +62,14 @@ pub record AreLogs (layout : LayoutState) (ts : List Transcript) (cut : List ℕ
   pub number : length ts ≡ layout.sites
   pub each : (i : ℕ) → i < length logs → (none : SiteLog) → IsLog layout ts cut i (more i) (later i) (slice_index_or logs i none)
 
+-- these are logs of some transcripts, for some cut
+abbrev pub AreOfSome : List SiteLog → Type 0
+AreOfSome logs = (layout : LayoutState) × (ts : List Transcript) × (cut : List ℕ) × (more : ℕ → List Entry) × (later : ℕ → List Run) × AreLogs layout ts cut more later logs
+
+-- whatever transcripts and cut these are logs of, this holds of the accounts at the cut
+abbrev pub AtTheirCut : List SiteLog → ((ℕ → Account) → Type 0) → Type 0
+AtTheirCut logs P = (layout : LayoutState) (ts : List Transcript) (cut : List ℕ) (more : ℕ → List Entry) (later : ℕ → List Run) → AreLogs layout ts cut more later logs → P (cut_account layout ts cut)
+
 -- nothing is to come
 abbrev pub no_entries : ℕ → List Entry
 no_entries i = []

@@ -13,7 +13,7 @@ ghost use Rattle.log_judge.specs.Cut.{cut_account, full_cut, is_accepted, merge_
 ghost use Rattle.log_judge.specs.Table.{cut_table};
 ghost use Rattle.log_judge.specs.Verdict.{AreOfSites, IsCut, IsVerdict};
 ghost use Rattle.log_judge.specs.Excess.{IsFoundAt};
-ghost use Rattle.log_judge.specs.Stream.{AreAllLogs, AreDone, AreLogs, AreTables, AreTaken, HasNoFault, IsLog, Takes, TakesBack, TakesKept, TellAll, no_entries};
+ghost use Rattle.log_judge.specs.Stream.{AreAllLogs, AreDone, AreLogs, AreOfSome, AreTables, AreTaken, AtTheirCut, HasNoFault, IsLog, Takes, TakesBack, TakesKept, TellAll, no_entries};
 
 use crate::excess::{Place, first_ahead, is_accepted};
 use crate::table::{push_counts, table_header};
@@ -47,9 +47,8 @@ pub struct Logs {
 
 // Whether a row may tell more than its site has done at the cut, by what was seen of its log.
 fn is_open(row: &Row, sites: &[SiteLog]) -> bool
-    requires { (layout : LayoutState) × (ts : List TranscriptThere) × (cut : List ℕ) × (more : ℕ → List EntryThere) × (later : ℕ → List RunThere) × AreLogs layout ts cut more later sites.now }
-    ensures { result ≡ false → (layout : LayoutState) (ts : List TranscriptThere) (cut : List ℕ) (more : ℕ → List EntryThere) (later : ℕ → List RunThere) → AreLogs layout ts cut more later sites.now
-        → (cell : CellThere) → counter_in (counters_of row.now) cell ≤ own (cut_account layout ts cut row.now.s) row.now.r cell }
+    requires { AreOfSome sites.now }
+    ensures { result ≡ false → AtTheirCut sites.now (λ accounts. (cell : CellThere) → counter_in (counters_of row.now) cell ≤ own (accounts row.now.s) row.now.r cell) }
 {
     let s = usize::from(row.s);
     if s >= sites.len() {
@@ -61,9 +60,8 @@ fn is_open(row: &Row, sites: &[SiteLog]) -> bool
 
 // Whether some row does.
 fn some_open(rows: &[Row], sites: &[SiteLog]) -> bool
-    requires { (layout : LayoutState) × (ts : List TranscriptThere) × (cut : List ℕ) × (more : ℕ → List EntryThere) × (later : ℕ → List RunThere) × AreLogs layout ts cut more later sites.now }
-    ensures { result ≡ false → (layout : LayoutState) (ts : List TranscriptThere) (cut : List ℕ) (more : ℕ → List EntryThere) (later : ℕ → List RunThere) → AreLogs layout ts cut more later sites.now
-        → AreDone (cut_account layout ts cut) rows.now }
+    requires { AreOfSome sites.now }
+    ensures { result ≡ false → AtTheirCut sites.now (λ accounts. AreDone accounts rows.now) }
 {
     let mut rest = rows;
     'rows: while let [row, later @ ..] = rest {
@@ -77,9 +75,8 @@ fn some_open(rows: &[Row], sites: &[SiteLog]) -> bool
 
 // Whether an entry is a merge that was carried out, of which some row does.
 fn is_open_merge(entry: &Entry, sites: &[SiteLog]) -> bool
-    requires { (layout : LayoutState) × (ts : List TranscriptThere) × (cut : List ℕ) × (more : ℕ → List EntryThere) × (later : ℕ → List RunThere) × AreLogs layout ts cut more later sites.now }
-    ensures done { result ≡ false → (layout : LayoutState) (ts : List TranscriptThere) (cut : List ℕ) (more : ℕ → List EntryThere) (later : ℕ → List RunThere) → AreLogs layout ts cut more later sites.now
-        → AreDone (cut_account layout ts cut) (rows_brought false entry.now) }
+    requires { AreOfSome sites.now }
+    ensures done { result ≡ false → AtTheirCut sites.now (λ accounts. AreDone accounts (rows_brought false entry.now)) }
     ensures merged { result ≡ true → is_accepted false entry.now.reply ≡ true }
 {
     if !is_accepted(false, &entry.reply) {
