@@ -1,5 +1,5 @@
 #!/usr/bin/env python3
-"""Carries out random histories of several sites in four ways, and compares each reply with the second reading.
+"""Carries out random histories of several sites in five ways, and compares each reply with the second reading.
 
     worlds.py PROGRAM [EVENTS] [SEED] [CUTS]
 
@@ -8,7 +8,8 @@ and start again, and sites that learn of more sites. It is carried out
 
     by `serve`   a process for each site, which is killed, told to end or comes to the end of its input where a site stops;
                  now and then a store of before is opened again, and must refuse all once it hears of its own later past
-    by `site`    a run for each time between two stops of a site
+    by rounds    all lines of each time between two stops at once, to a `serve` that commits up to 2, 7 or 256 of them together
+    by `site`    a run for each such time
     by `play`    the whole history as one script
     by `judge`   the logs that `serve` wrote, whole and at random cuts, so many in each tenth world
 
@@ -43,21 +44,34 @@ def digest(text, digits):
     return hashlib.sha256(text.encode()).hexdigest()[:digits]
 
 
+def mark_in(group, layout):
+    """The front of a delta's mark; nothing without marks."""
+    records = "".join(";" + ",".join(str(it[key]) for key in ("name", "seats", "home", "problem")) for it in layout["record"])
+    return "" if group == "--plain" else f"{group or '-'} {digest(records, 16)} "
+
+
+def marked(mark, text):
+    return f"{mark}{digest(text, 8)} {text}" if mark else text
+
+
+def words_of(world, site, store, layout, more):
+    """The arguments of `serve` at a site over a store, whose layout file is written."""
+    Path(f"{store}.toml").write_text(scripts.toml(layout), "ascii")
+    words = [world.program, "serve", "--site", str(site), "--store", store, "--layout", f"{store}.toml", *more]
+    return words + {"": [], "--plain": ["--plain"]}.get(world.group, ["--group", world.group])
+
+
 class Process:
     """A site as a process of `serve` over a store. Deltas go in and out without their marks, which are checked here."""
 
     def __init__(self, world, site, store, layout, more=()):
         self.what = f"{store} of site {site}"
-        records = "".join(";" + ",".join(str(it[key]) for key in ("name", "seats", "home", "problem")) for it in layout["record"])
-        self.mark = "" if world.group == "--plain" else f"{world.group or '-'} {digest(records, 16)} "
-        Path(f"{store}.toml").write_text(scripts.toml(layout), "ascii")
-        words = [world.program, "serve", "--site", str(site), "--store", store, "--layout", f"{store}.toml", *more]
-        words += {"": [], "--plain": ["--plain"]}.get(world.group, ["--group", world.group])
+        self.mark = mark_in(world.group, layout)
         pipe = subprocess.PIPE
-        self.process = subprocess.Popen(words, stdin=pipe, stdout=pipe, stderr=pipe)
+        self.process = subprocess.Popen(words_of(world, site, store, layout, more), stdin=pipe, stdout=pipe, stderr=pipe)
 
     def marked(self, text):
-        return f"{self.mark}{digest(text, 8)} {text}" if self.mark else text
+        return marked(self.mark, text)
 
     def call(self, line):
         try:
@@ -236,6 +250,18 @@ def by_site(world):
             world.counts["(by site)"] += len(calls)
 
 
+def by_rounds(world):
+    for s, runs in world.runs.items():
+        store, before = f"{world.folder}/{s}.together.db", None
+        for layout, calls in runs:
+            more = ["--together", str(world.rng.choice([2, 7, 256])), *["--create"] * (before is None), *["--grow"] * (before not in (None, layout))]
+            mark, before = mark_in(world.group, layout), layout
+            lines = "".join((f"take {marked(mark, line[5:])}" if line.startswith("take ") else line) + "\n" for line, _ in calls)
+            told = "".join((marked(mark, it) if line == "send" and it.startswith("{") else it) + "\n" for line, it in calls)
+            compare.run(words_of(world, s, store, layout, more), f"{store}.lines", lines.encode(), [f"{told}'' 0"])
+            world.counts["(by rounds)"] += len(calls)
+
+
 def by_judge(world, cuts):
     data = b"".join(Path(f"{world.folder}/{s}.log").read_bytes() for s in sorted(world.runs))
     verdict, _ = compare.judged(world.program, world.layout, data, None, world.folder)
@@ -255,6 +281,7 @@ def main(program, events="100000", seed="1", cuts="20"):
         world = World(program, rng, rng.choice([60, 200, 200, 1000]), folder, counts)
         by_play(world)
         by_site(world)
+        by_rounds(world)
         if worlds % 10 == 0 or world.folder and rng.random() < 0.2:
             by_judge(world, int(cuts) if worlds % 10 == 0 else 0)
         shutil.rmtree(folder)
