@@ -201,8 +201,9 @@ const ONE_SITE: &str = "sites = 1\n[[record]]\nname = \"a\"\nseats = 1\nhome = 0
 
 const SCRIPT: &str = "0 read a 7\n";
 
-// A layout, whose logs of the script have 125 bytes; and the files that can be made, with how many bytes fit into each.
-static FILES: [(&str, Text); 6] = [
+// A layout, whose logs of the script have 125 bytes; and the files that can be made, with how many bytes fit into each. Two
+// sites leave 286,000 bytes at least in 1,000 turns, and 275,000 at most in half as many.
+static FILES: [(&str, Text); 7] = [
     (
         "one.toml",
         Text {
@@ -224,6 +225,14 @@ static FILES: [(&str, Text); 6] = [
         Text {
             text: "",
             fillers: 124,
+            fails: NEVER,
+        },
+    ),
+    (
+        "long.log.part",
+        Text {
+            text: "",
+            fillers: 280_000,
             fails: NEVER,
         },
     ),
@@ -256,7 +265,7 @@ static FILES: [(&str, Text); 6] = [
 // Arguments, the input and how many LF follow it, and what the program does, with files too.
 type Logged = (&'static [&'static [u8]], &'static str, usize, Run);
 
-static LOGGED: [Logged; 8] = [
+static LOGGED: [Logged; 9] = [
     (
         &[b"seat_cli", b"run", b"--layout=one.toml", b"--out=a.log"],
         SCRIPT,
@@ -313,6 +322,13 @@ static LOGGED: [Logged; 8] = [
             "io\n",
             "one.toml\nnone.log.part\nnone.log.part is gone\n",
         ),
+    ),
+    // one into which those of half of the turns would fit
+    (
+        &[b"seat_cli", b"run", b"--turns=1000", b"--out=long.log"],
+        SCRIPT,
+        0,
+        (7, "", "io\n", "long.log.part\nlong.log.part is gone\n"),
     ),
     // one that can't get its name
     (
