@@ -3,7 +3,8 @@
 
     compare.py play PROGRAM [EVENTS] [SEED]    each script: what it writes, and its exit status
     compare.py site PROGRAM [CALLS] [SEED]     each run over a store, and what the store then holds
-    compare.py judge PROGRAM [LOGS] [SEED]     the logs of forged_logs.py, then so many forged ones and some honest ones
+    compare.py judge PROGRAM [LOGS] [SEED]     the logs of forged_logs.py, then so many forged ones and some honest ones; each as an
+                                               input, and in files, which begin where a run does
     compare.py run PROGRAM [RUNS] [SEED]       each script: its closed logs, and what `judge` says
     compare.py rebuild PROGRAM [INPUTS] [SEED] `regroup` and `rebuild`, as compare_rebuild.py says
 
@@ -177,10 +178,28 @@ def judged(program, layout, data, cut, folder):
     words = [program, "judge", "--layout", f"{folder}/layout.toml"]
     words += [] if cut is None else ["--cut", ",".join(map(str, cut))]
     run(words, f"{folder}/logs", data, [f"{told}'' {status}"])
+    paths, told_of_files = in_files(data, told, folder)
+    run([*words, "--logs", *paths], f"{folder}/no_input", b"", [f"{told_of_files}'' {status}"])
     verdict, alone = told.split("\n")[-2], not replays or second.is_alone(layout, replays)
     if verdict == "consistent" and not alone:
         sys.exit(f"{folder}/logs: consistent, and a writer is not alone")
     return verdict, alone
+
+
+def in_files(data, told, folder):
+    """Files that have an input together, each from a line on that seems to begin a run, and what is to be told of them."""
+    rng, lines = random.Random(data), data.split(b"\n")
+    runs = [at for at, line in enumerate(lines) if at and line.startswith(b'{"book"')]
+    starts = [0, *sorted(rng.sample(runs, rng.randint(0, min(4, len(runs)))))]
+    paths = [f"{folder}/logs.{number}" for number in range(len(starts))]
+    for path, start, end in zip(paths, starts, [*starts[1:], len(lines)]):
+        text = b"\n".join(lines[start:end])
+        # The last line of a file may lack its LF; an empty one has nothing else.
+        Path(path).write_bytes(text + b"\n" * (end < len(lines) and (rng.random() < 0.8 or not lines[end - 1])))
+    if refused := re.match(r"line (\d+)( refused NotTranscript\n)", told):
+        file = max(number for number, start in enumerate(starts) if start < int(refused[1]))
+        told = f"{paths[file]} line {int(refused[1]) - starts[file]}{refused[2]}"
+    return paths, told
 
 
 def judge(program, forgeries, rng, folder, counts):

@@ -49,11 +49,6 @@ class Store:
         if found != wanted:
             sys.exit(f"{what}\nthe program:        {found!r:.2000}\nthe second reading: {wanted!r:.2000}")
 
-    def tables(self):
-        """The tables of the file, if it is there."""
-        with closing(sqlite3.connect(self.path if os.path.exists(self.path) else ":memory:")) as store:
-            return store.execute("SELECT name FROM sqlite_schema").fetchall()
-
     def content(self):
         """The rows in a copy of the store, since who opens it tidies its log up."""
         for end in ("", "-wal"):
@@ -241,7 +236,7 @@ class Story:
             store.same(f"{' '.join(words)} < {store.path}.input", told(words, data), f"{wanted}'' {status}")
             self.counts[outcome(wanted)] += 1
             if site is None:
-                store.same(f"tables of {store.path} behind a refusal", store.tables(), [])
+                store.same(f"whether {store.path} is there behind a refusal", os.path.exists(store.path), False)
                 continue
             store.site = site
             store.compare_content("a site that was built again")
@@ -307,7 +302,7 @@ def fixed(program, folder):
         at.path = path
         at.same(" ".join(words), found, wanted)
         if not there and not wanted.endswith("'' 0"):
-            at.same(f"tables of {path} behind a refusal", at.tables(), [])
+            at.same(f"whether {path} is there behind a refusal", os.path.exists(path), False)
 
 
 def rebuild(program, inputs, rng, folder, counts):

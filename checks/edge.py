@@ -6,7 +6,7 @@ Usage: checks/edge.py [--program PATH] [--only CASE ..]
 Layout files that differ; a file that is moved without its -wal, one that vanishes while a start waits for it, and an old copy; two
 starts that make one store; a line that a broken connection cuts; databases of other programs; stores beside other tables; files
 that are no log, the store as its own log, a log for two; a file that is taken away while its site is served,
-or replaced while its log is read; layouts with more
+or covered by another file system (where one may be mounted), or replaced while its log is read; layouts with more
 sites; damaged deltas, and deltas with and without marks; names that no group can have; a folder that is not there. Of each slip
 it says what was answered. The answer has to be the refusal that the documents promise, files that it promises to leave are compared byte for byte, the store is served afterwards,
 and a writer who was inside is so still, alone. Prints a line for each thing tried, then `N passed, M failed`, and ends with 1 where one failed.
@@ -619,6 +619,41 @@ def link_that_turns(place):
     tell(place.is_kept(store) and place.is_kept(other), "both stores are as they were")
 
 
+def other_file_system(place):
+    """At the path of a store another file system is mounted, whose file there has the store's number and the store's bytes."""
+    top, mounts = place.folder / "top", []
+    top.mkdir()
+
+    def mount():
+        tried = subprocess.run(["mount", "-t", "tmpfs", "none", top], capture_output=True, check=False)
+        mounts.extend([top] * (tried.returncode == 0))
+        return tried.returncode == 0
+
+    try:
+        if not mount():
+            print("left out: two file systems, since none may be mounted here")
+            return
+        store = place.store("top/s.db")
+        service = Service(place, store)
+        before, number, text = service.call("sessions a"), store.stat().st_ino, store.read_bytes()
+        if not mount():
+            raise AssertionError("a second file system is not mounted")
+        for other in range(100_000):
+            made = top / str(other)
+            made.write_bytes(text)
+            if made.stat().st_ino >= number:
+                break
+        made.rename(store)
+        tell(store.stat().st_ino == number, "another file system has a file with the store's number at the store's path", str(number))
+        said = service.call("read a 5"), service.call("sessions a"), service.call("leave a 9"), service.end()
+        tell(before == KEPT and said == ("refused StoreFault", "refused Frozen", "refused Frozen", "5"), "which is not taken for the store", ", ".join(said))
+        subprocess.run(["umount", mounts.pop()], check=True)
+        tell(place.is_kept(store), "the store is served once it is there again", place.ask(store, "sessions", "a"))
+    finally:
+        for mounted in mounts:
+            subprocess.run(["umount", "-l", mounted], check=False)
+
+
 def replaced_while_its_log_is_read(place):
     """Another store comes to the path of a new one, whose log is refused behind that: it stays. The log is a terminal, so that it ends when it is told to."""
     other, new = place.store("other.db"), place.folder / "new.db"
@@ -655,7 +690,8 @@ def taken_away_with_a_log(place):
     tell(said == (KEPT, "0"), "the store and the log go together again", ", ".join(said))
 
 
-CASES = (layouts, other_layouts, client_layouts, moved, vanished, taken_away, link_that_turns, taken_away_with_a_log, replaced_while_its_log_is_read, restored, created_twice, missing_folder, cut_lines, foreign, older_tables,
+CASES = (layouts, other_layouts, client_layouts, moved, vanished, taken_away, link_that_turns, other_file_system, taken_away_with_a_log,
+         replaced_while_its_log_is_read, restored, created_twice, missing_folder, cut_lines, foreign, older_tables,
          newer_tables, first_version, text_as_log, fronts_of_logs, log_is_store, log_of_two, new_log_of_two, wider, damaged, plain, groups)
 
 

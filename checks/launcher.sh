@@ -191,6 +191,17 @@ tell $? "4 for a script that is refused, and no file for its logs"
 echo "0 leave a 1" | ends 0 "0: refused NotHere
 consistent" "" run --out "$work/run.log" && ./seat_cli judge <"$work/run.log" | grep -q '^consistent$' && [ ! -e "$work/run.log.part" ]
 tell $? "0 for a script that is run, and its logs are judged"
+./seat_cli judge --logs "$work/run.log" >"$work/output" </dev/null && tail -n 1 "$work/output" | grep -q '^consistent$'
+tell $? "0 for a file of logs that is judged"
+grep -n '"site":0' "$work/run.log" | head -1 | grep -q '^1:' && grep -v '"site":' "$work/run.log" >"$work/entries.log"
+ends 4 "$work/entries.log line 1 refused NotTranscript" "" judge --logs "$work/run.log" "$work/entries.log"
+tell $? "4 for a second file of logs that begins no run, which is named"
+ends 7 "" "$work/nowhere refused NotRead" judge --logs "$work/run.log" "$work/nowhere"
+tell $? "7 for a file of logs that isn't there, which is named"
+ends 7 "" "examples refused NotRead" judge --logs examples
+tell $? "7 for a folder in place of a file of logs"
+ends 2 "" "error: a value is required for '--logs <FILE>...' but none was supplied" judge --logs
+tell $? "2 for no file of logs"
 printf 'older\n' >"$work/older.log" && mkdir "$work/older.log.part"
 echo "0 leave a 1" | ends 7 "" "io" run --out "$work/older.log" && [ "$(cat "$work/older.log")" = older ]
 tell $? "7 for a file that can't be made, and an older one stays"

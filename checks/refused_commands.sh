@@ -48,6 +48,15 @@ refused_in_turn examples/maintenance.verdict 0 examples/maintenance.log judge --
 sed '$s/admitted/admited/' examples/maintenance.log >"$work/logs"
 echo "line $(wc -l <"$work/logs") refused NotTranscript" >"$work/refusal"
 refused_in_turn "$work/refusal" 4 "$work/logs" judge --layout examples/three_sites.toml
+refused_in_turn examples/maintenance.verdict 0 /dev/null judge --layout examples/three_sites.toml --logs examples/maintenance.log
+echo "$work/logs $(cat "$work/refusal")" >"$work/refusal_of_a_file"
+refused_in_turn "$work/refusal_of_a_file" 4 /dev/null judge --layout examples/three_sites.toml --logs examples/maintenance.log "$work/logs"
+# Files that are read twice: each but the last tells of more merges than are kept.
+(cd bench && python3 -B -c 'import judge_files, sys; judge_files.some_turns(sys.argv[1], 23)' "$work")
+files=("$work"/turns.?.log)
+"$program" judge --layout "$work/turns.toml" --logs "${files[@]}" >"$work/verdict"
+tail -n 1 "$work/verdict" | grep -q '^consistent$'
+refused_in_turn "$work/verdict" 0 /dev/null judge --layout "$work/turns.toml" --logs "${files[@]}"
 refused_in_turn examples/at_once.txt 0 examples/at_once.script run --turns 1 --layout examples/three_sites.toml
 printf '0 leave a 1\n' >"$work/script"
 printf '0: refused NotHere\nconsistent\n' >"$work/replies"

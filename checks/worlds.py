@@ -1,5 +1,5 @@
 #!/usr/bin/env python3
-"""Carries out random histories of several sites in five ways, and compares each reply with the second reading.
+"""Carries out random histories of several sites in six ways, and compares each reply with the second reading.
 
     worlds.py PROGRAM [EVENTS] [SEED] [CUTS]
 
@@ -12,6 +12,8 @@ and start again, and sites that learn of more sites. It is carried out
     by `site`    a run for each such time
     by `play`    the whole history as one script
     by `judge`   the logs that `serve` wrote, whole and at random cuts, so many in each tenth world
+    by `rebuild` where the sites have a group's name: behind the history one of them loses its store, the others are moved to the
+                 next generation, it is built again of what they tell, and all go on
 
 From outside, by the replies alone: after each event a writer inside a record is alone at all sites, and readers take at most
 its seats; after some events, the seats that sites show as free or taken are at most the record's; and at the end, once
@@ -31,9 +33,11 @@ from collections import Counter
 from pathlib import Path
 
 import compare
+import compare_rebuild
 import random_logs as logs
 import random_scripts as scripts
 import second_judge as second
+import second_rebuild as again
 import second_site as rules
 
 ENDS = (signal.SIGKILL, signal.SIGKILL, signal.SIGTERM, signal.SIGINT, signal.SIGHUP, None, None)
@@ -167,14 +171,14 @@ class World(scripts.Script):
                 self.counts["(stores put back, and found out)"] += 1
         compare.compare(f"the end of {path}", str(process.end()), str(ends))
 
-    def look(self, s, what, told):
-        """What is inside, by the replies alone, and at times what sites show."""
+    def follow(self, s, what, told):
+        """What is inside, by the replies alone; the record that a call named, if it has one."""
         words = what.split(" ")
         self.counts[compare.NUMBERS.sub("", told)] += 1
         names = {it["name"]: it for it in self.layout["record"]}
         record = names.get(words[1]) if len(words) > 1 else None
         if record is None:
-            return
+            return None
         here = self.inside.setdefault(record["name"], {})
         if told == "admitted":
             here[s, words[2]] = 1 if words[0] == "read" else record["seats"]
@@ -183,8 +187,13 @@ class World(scripts.Script):
         alone = words[0] != "write" or told != "admitted" or len(here) == 1
         if sum(here.values()) > record["seats"] or not alone:
             sys.exit(f"{self.folder}: {record}: inside are {here}")
-        if self.rng.random() < 0.02:
-            free, taken = self.shown(record["name"])
+        return record
+
+    def look(self, s, what, told):
+        """The same, and at times what sites show."""
+        record = self.follow(s, what, told)
+        if record and self.rng.random() < 0.02:
+            here, (free, taken) = self.inside[record["name"]], self.shown(record["name"])
             if free + taken > record["seats"] or taken != sum(here.values()):
                 sys.exit(f"{self.folder}: {record}: {free} free, {taken} taken, inside are {here}")
 
@@ -274,6 +283,49 @@ def by_judge(world, cuts):
         world.counts[f"(cuts {compare.VERDICTS.sub('', verdict)}{'' if alone else ', a writer not alone'})"] += 1
 
 
+def by_rebuild(world):
+    sites = world.world.sites
+    if world.group != GROUP or any(it.layout != world.layout for it in sites):
+        return
+    stores, lost, name = [compare_rebuild.Store(world.program, world.folder, it) for it in sites], world.rng.choice(sites).site, again.next_name(GROUP)
+    world.processes, data = {}, b""
+    for store in stores:
+        store.group = GROUP
+        if store.site.site != lost:
+            line = again.moved_text(store.site, GROUP)
+            compare.compare(f"{world.folder}: regroup {store.path}", compare_rebuild.told(store.words("regroup")), f"{line}\n'' 0")
+            store.group, store.site, data = name, store.site.restarted(world.layout), data + line.encode() + b"\n"
+    store = stores[lost]
+    store.path, store.group = f"{store.path}.again", name
+    wanted, status, store.site = again.rebuild(world.layout, lost, [], name, data)
+    compare.compare(f"{world.folder}: rebuild site {lost}", compare_rebuild.told(store.words("rebuild"), data), f"{wanted}'' {status}")
+    world.counts["(lost sites that were built again)"] += status == 0
+    if status != 0:
+        return
+    for here in world.inside.values():
+        for place in [it for it in here if it[0] == lost]:
+            del here[place]
+    texts = []
+    for _ in range(3 * len(stores)):
+        store = world.rng.choice(stores)
+        lines, at = store.some_lines(world.rng, texts, world.records, world.rng.choice([3, 12, 40])), compare_rebuild.Store("", "", store.site.restarted(world.layout))
+        at.group = name
+        replies = [at.answer(it) for it in lines]
+        texts += store.serve(lines)
+        sites[store.site.site] = store.site
+        for line, told in zip(lines, replies):
+            world.follow(store.site.site, line, told.split(" ", 3)[-1] if line == "send" else told)
+        world.counts["(by rebuild)"] += len(lines)
+    known = [f"take {again.marked(world.layout, name, it.site.send())}" for it in stores]
+    for store in stores:
+        store.serve(known)
+        sites[store.site.site] = store.site
+        store.compare_content("behind all")
+    for record in world.layout["record"]:
+        if sum(world.shown(record["name"])) != record["seats"]:
+            sys.exit(f"{world.folder}: {record}: not all seats are in sight behind a rebuild")
+
+
 def main(program, events="100000", seed="1", cuts="20"):
     rng, counts, began, worlds = random.Random(int(seed)), Counter(), time.monotonic(), 0
     while sum(n for name, n in counts.items() if name[0] != "(" or name.startswith("(by")) < int(events):
@@ -284,6 +336,7 @@ def main(program, events="100000", seed="1", cuts="20"):
         by_rounds(world)
         if worlds % 10 == 0 or world.folder and rng.random() < 0.2:
             by_judge(world, int(cuts) if worlds % 10 == 0 else 0)
+        by_rebuild(world)
         shutil.rmtree(folder)
         worlds += 1
     for name, times in counts.most_common():

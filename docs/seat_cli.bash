@@ -12,7 +12,7 @@ _seat_cli() {
         ask) COMPREPLY=($(compgen -W "--create --group --grow --help --layout --log --plain --site --store --wait" -- "$word")) ;;
         regroup) COMPREPLY=($(compgen -W "--group --help --layout --site --store" -- "$word")) ;;
         rebuild) COMPREPLY=($(compgen -W "--group --help --layout --lost --site --store" -- "$word")) ;;
-        judge) COMPREPLY=($(compgen -W "--cut --help --layout" -- "$word")) ;;
+        judge) COMPREPLY=($(compgen -W "--cut --help --layout --logs" -- "$word")) ;;
         run) COMPREPLY=($(compgen -W "--help --layout --out --turns" -- "$word")) ;;
         *) COMPREPLY=($(compgen -W "join play site serve ask regroup rebuild judge run --help --version" -- "$word")) ;;
     esac

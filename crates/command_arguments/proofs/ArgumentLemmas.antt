@@ -12,7 +12,7 @@ use Rattle.clap.specs.ValueTests.{is_numeral}
 use Rattle.clap.specs.Matches.{ReadsOne}
 use Rattle.clap.specs.Words.{App, Row, Text, fault_of, first_of, subcommand_of}
 use Rattle.clap.proofs.WalkLemmas.{both}
-use Rattle.command_arguments.specs.Arguments.{asked_command, asked_lost, asked_value, asked_words, command_in, is_true, lost_at, lost_in, program, short_number, site_of, usage_errors, value_in, words_at, words_in}
+use Rattle.command_arguments.specs.Arguments.{asked_command, asked_logs, asked_lost, asked_value, asked_words, command_in, is_true, logs_at, logs_in, lost_at, lost_in, program, short_number, site_of, usage_errors, value_in, words_at, words_in}
 
 -- arguments behind the program's name are judged by clap's rules
 pub errors_by_clap : (arguments : List Text) → 1 < length arguments → usage_errors arguments ≡ fault_of program arguments
@@ -31,6 +31,9 @@ module _ (a : App) (met : Option (Text × List Row)) (arguments : List Text) (mo
 
   pub lost_met : lost_at met ≡ asked_lost arguments
   lost_met = rw (lt-leb (length arguments) 1 more) (ap lost_at met_is)
+
+  pub logs_met : logs_at met ≡ asked_logs arguments
+  logs_met = rw (lt-leb (length arguments) 1 more) (ap logs_at met_is)
 
   pub words_met : words_at met ≡ asked_words arguments
   words_met = rw (lt-leb (length arguments) 1 more) (ap words_at met_is)
@@ -51,6 +54,13 @@ value_of_rows option (Some (name, values)) rows has_rows =
 pub lost_of_rows : (met : Option (Text × List Row)) (rows : List Row) → option_map (λ p. p.1) met ≡ Some rows → lost_in rows ≡ lost_at met
 lost_of_rows None rows has_rows = cc
 lost_of_rows (Some (name, values)) rows has_rows =
+    let rows_are : values ≡ rows = cc in
+    rw rows_are refl
+
+-- so are the files of logs
+pub logs_of_rows : (met : Option (Text × List Row)) (rows : List Row) → option_map (λ p. p.1) met ≡ Some rows → logs_in rows ≡ logs_at met
+logs_of_rows None rows has_rows = cc
+logs_of_rows (Some (name, values)) rows has_rows =
     let rows_are : values ≡ rows = cc in
     rw rows_are refl
 

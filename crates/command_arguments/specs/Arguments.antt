@@ -4,6 +4,7 @@ use Rattle.std.specs.Str.Parse.{digits_value, without_leading_plus}
 use Rattle.std.specs.List.{flat_map}
 use Rattle.std.specs.Option.{option_map_or}
 use Rattle.clap.specs.Words.{App, Kinds, Row, Rule, Shape, Text, all_of, app_of, fault_of, first_of, new_app, new_rule, one_of, rule_of, subcommand_of, with_rule, with_subcommand}
+use Rattle.clap.specs.Lexer.{usize_max}
 use Rattle.clap.specs.Simple.{on_top}
 use Rattle.clap.specs.ValueTests.{is_numeral}
 use Rattle.clap.specs.declared.builder.ArgAction.TheVariants.{Append, Set, SetTrue}
@@ -87,6 +88,10 @@ needed_group = record group_option { required = true }
 abbrev pub lost_option : Rule
 lost_option = record (number_option (codes "lost")) { action = Some Append }
 
+-- the option `--logs FILE ..` (the project's own), which has one value or more and may be there several times
+abbrev pub logs_option : Rule
+logs_option = record (text_option (codes "logs")) { range = Some (record { start_inclusive = 1; end_inclusive = usize_max }); action = Some Append }
+
 -- a word of a call (the project's own), at its place behind the options
 abbrev pub word : Text → Rule
 word name = record (new_rule name) {
@@ -134,9 +139,9 @@ abbrev pub rebuild_command : App
 rebuild_command =
     with_rule (with_rule (with_rule (with_rule (with_rule (new_app (codes "rebuild")) site_option) store_option) layout_option) needed_group) lost_option
 
--- the command `judge` (the project's own), with two options
+-- the command `judge` (the project's own), with three options
 abbrev pub judge_command : App
-judge_command = with_rule (with_rule (new_app (codes "judge")) cut_option) layout_option
+judge_command = with_rule (with_rule (with_rule (new_app (codes "judge")) cut_option) layout_option) logs_option
 
 -- the command `run` (the project's own), with three options
 abbrev pub run_command : App
@@ -254,6 +259,15 @@ abbrev pub lost_at : Option (Text × List Row) → List ℕ
 lost_at None = []
 lost_at (Some (name, rows)) = lost_in rows
 
+-- the files of closed logs that the values name, in their order
+abbrev pub logs_in : List Row → List Text
+logs_in rows = unwrap_or (all_of (codes "logs") rows) []
+
+-- those of the command that was met
+abbrev pub logs_at : Option (Text × List Row) → List Text
+logs_at None = []
+logs_at (Some (name, rows)) = logs_in rows
+
 -- the words of a call, in their order, as far as they are there
 abbrev pub said : Option Text → Option Text → Option Text → Option Text → List (Option Text)
 said a b c d = a ∷ b ∷ c ∷ d ∷ []
@@ -330,3 +344,7 @@ asked_log arguments = asked_value (codes "log") arguments
 -- the other sites that they name as lost
 abbrev pub asked_lost : List Text → List ℕ
 asked_lost arguments = if nat_le (length arguments) 1 then [] else lost_at (subcommand_of program arguments)
+
+-- the files of closed logs that they name
+abbrev pub asked_logs : List Text → List Text
+asked_logs arguments = if nat_le (length arguments) 1 then [] else logs_at (subcommand_of program arguments)

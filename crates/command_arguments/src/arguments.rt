@@ -1,6 +1,6 @@
 ghost use Rattle.std.specs.Prelude.{◌≡◌, ◌≤◌, ◌++◌, codes, false, length, map, IfOk, OnOk, IsOk, option_map, string_bytes};
 ghost use Rattle.clap.specs.Words.{App, FailsBy, Rule, app_of, found_of, new_app, rows_of, rule_of, subcommand_rows_of, with_rule, with_subcommand};
-ghost use Rattle.command_arguments.specs.Arguments.{IsOption, Offers, ask_command, asked_command, asked_cut, asked_group, asked_layout, asked_log, asked_lost, asked_out, asked_store, asked_words, bare_program, command_in, command_of, flag, flag_in, first_word, join_command, judge_command, lost_at, lost_in, lost_option, needed_group, none_said, number_option, play_command, program, rebuild_command, regroup_command, run_command, serve_command, serving_command, serving_in, site_command, site_in, site_of, sites_of, site_option, store_option, text_option, together_in, together_option, turns_in, turns_option, usage_errors, value_in, wait_in, word, words_at, words_in, words_of};
+ghost use Rattle.command_arguments.specs.Arguments.{IsOption, Offers, ask_command, asked_command, asked_cut, asked_group, asked_layout, asked_log, asked_logs, asked_lost, asked_out, asked_store, asked_words, bare_program, command_in, command_of, flag, flag_in, first_word, join_command, judge_command, logs_at, logs_in, logs_option, lost_at, lost_in, lost_option, needed_group, none_said, number_option, play_command, program, rebuild_command, regroup_command, run_command, serve_command, serving_command, serving_in, site_command, site_in, site_of, sites_of, site_option, store_option, text_option, together_in, together_option, turns_in, turns_option, usage_errors, value_in, wait_in, word, words_at, words_in, words_of};
 
 use crate::help;
 use clap::builder::ValueParser;
@@ -92,6 +92,8 @@ pub struct Request<'a> {
     pub group: Option<&'a str>,
     /// The other sites that lost their stores: `rebuild` may have some, and no other command.
     pub lost: Vec<u16>,
+    /// The files of closed logs, in their order: `judge` may have some, and no other command.
+    pub logs: Vec<&'a str>,
     /// The words of the call.
     pub words: Words<'a>,
 }
@@ -107,6 +109,7 @@ pub fn requested<'a>(alloc: Global, arguments: &'a [String]) -> Result<Request<'
     ensures log { IfOk result (λ asked. option_map (λ path. path.now) asked.log ≡ asked_log (map string_bytes arguments.now)) }
     ensures group { IfOk result (λ asked. option_map (λ name. name.now) asked.group ≡ asked_group (map string_bytes arguments.now)) }
     ensures lost { IfOk result (λ asked. asked.lost.items ≡ asked_lost (map string_bytes arguments.now)) }
+    ensures logs { IfOk result (λ asked. map (λ path. path.now) asked.logs.items ≡ asked_logs (map string_bytes arguments.now)) }
     ensures words { IfOk result (λ asked. words_of asked.words ≡ asked_words (map string_bytes arguments.now)) }
     // An error comes just where clap's rules find one, and is of a kind that they give, or memory ran out.
     ensures refused { FailsBy (usage_errors (map string_bytes arguments.now)) result }
@@ -122,6 +125,7 @@ pub fn requested<'a>(alloc: Global, arguments: &'a [String]) -> Result<Request<'
             log: None,
             group: None,
             lost: Vec::new(alloc),
+            logs: Vec::new(alloc),
             words: no_words(),
         });
     }
@@ -140,6 +144,7 @@ fn request_in<'a>(alloc: Global, matches: &ArgMatches<'a>) -> Result<Request<'a>
     ensures log { IfOk result (λ asked. option_map (λ path. path.now) asked.log ≡ value_in (codes "log") (subcommand_rows_of matches.now)) }
     ensures group { IfOk result (λ asked. option_map (λ name. name.now) asked.group ≡ value_in (codes "group") (subcommand_rows_of matches.now)) }
     ensures lost { IfOk result (λ asked. asked.lost.items ≡ lost_at (subcommand_rows_of matches.now)) }
+    ensures logs { IfOk result (λ asked. map (λ path. path.now) asked.logs.items ≡ logs_at (subcommand_rows_of matches.now)) }
     ensures words { IfOk result (λ asked. words_of asked.words ≡ words_at (subcommand_rows_of matches.now)) }
 {
     let Some((name, found)) = matches.subcommand() else {
@@ -152,10 +157,12 @@ fn request_in<'a>(alloc: Global, matches: &ArgMatches<'a>) -> Result<Request<'a>
             log: None,
             group: None,
             lost: Vec::new(alloc),
+            logs: Vec::new(alloc),
             words: no_words(),
         });
     };
     let lost = lost_in(alloc, found)?;
+    let logs = logs_in(alloc, found)?;
     Ok(Request {
         command: command_of(name, found),
         layout: found.get_str("layout"),
@@ -165,6 +172,7 @@ fn request_in<'a>(alloc: Global, matches: &ArgMatches<'a>) -> Result<Request<'a>
         log: found.get_str("log"),
         group: found.get_str("group"),
         lost,
+        logs,
         words: words_in(found),
     })
 }
@@ -199,6 +207,25 @@ fn push_site(sites: &mut Vec<u16>, text: &str) -> Result<(), AllocError>
         Err(_) => {}
     }
     Ok(())
+}
+
+// The files that the values of `--logs` name.
+fn logs_in<'a>(alloc: Global, found: &ArgMatches<'a>) -> Result<Vec<&'a str>, AllocError>
+    ensures { IfOk result (λ files. map (λ path. path.now) files.items ≡ logs_in (rows_of (found_of found.now))) }
+{
+    match found.get_strs("logs") {
+        Some(texts) => copied(alloc, texts),
+        None => Ok(Vec::new(alloc)),
+    }
+}
+
+// A copy of a list of texts.
+fn copied<'a>(alloc: Global, texts: &[&'a str]) -> Result<Vec<&'a str>, AllocError>
+    ensures { IfOk result (λ copy. copy.items ≡ texts.now) }
+{
+    let mut copy = Vec::new(alloc);
+    copy.extend_from_slice(texts)?;
+    Ok(copy)
 }
 
 // No words.
@@ -489,10 +516,11 @@ fn rebuild_parser<'a>(alloc: Global) -> Result<Parser<'a>, AllocError>
 fn judge_parser<'a>(alloc: Global) -> Result<Parser<'a>, AllocError>
     ensures { IfOk result (Offers judge_command) }
 {
-    let usage = "seat_cli judge [--cut C] [--layout FILE]";
+    let usage = "seat_cli judge [--cut C] [--layout FILE] [--logs FILE ..]";
     let command = Ok(bare_command(alloc, "judge", usage, help::JUDGE, help::JUDGE_NOTES));
     let command = with_option(command, text_option(alloc, "cut", "C", help::CUT));
-    with_option(command, layout_option(alloc))
+    let command = with_option(command, layout_option(alloc));
+    with_option(command, logs_option(alloc))
 }
 
 // The command `run`.
@@ -574,6 +602,16 @@ fn lost_option<'a>(alloc: Global) -> Arg<'a>
     ensures local { result.global ≡ false }
 {
     number_option(alloc, "lost", "J", help::LOST).action(ArgAction::Append)
+}
+
+// The option `--logs FILE ..`, which may be there several times.
+fn logs_option<'a>(alloc: Global) -> Arg<'a>
+    ensures rule { rule_of result ≡ logs_option }
+    ensures local { result.global ≡ false }
+{
+    text_option(alloc, "logs", "FILE", help::LOGS)
+        .num_args(1..)
+        .action(ArgAction::Append)
 }
 
 // The option `--together N`.

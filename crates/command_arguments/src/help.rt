@@ -230,6 +230,10 @@ pub const GROUP_BUILT: &str =
 /// The option `--lost`.
 pub const LOST: &str = "Another site that lost its store; once for each";
 
+/// The option `--logs`.
+pub const LOGS: &str =
+    "Files of closed logs, of any size, in place of the input; each begins with the line of an opening";
+
 /// The option `--log`.
 pub const LOG: &str = "The file that the site's log is appended to";
 
@@ -266,12 +270,18 @@ the first of these that applies:
 The calls of a site are counted from 0. The status is 0, whatever the verdict. The first line that is none of a log ends
 it, with `line K refused NotTranscript` and status 4.
 
+With `--logs` the logs are read from files of any size, line by line, and no input is read. Each file begins with a line
+of the first kind; the logs of a site stand in the order of the files. A refusal begins with the file: `FILE line K
+refused NotTranscript`. Where it takes that to tell the verdict, the files are read twice. The status is 7 where one is
+not read, with `FILE refused NotRead`, and where they changed meanwhile, with `logs refused Changed`.
+
 C says how many calls of each site are looked at, with commas between the numbers, as `8,6,0`; or it is `full`: all.
 Any other word is refused, with `cut refused BadWord` and status 2.
 
 The command `run` judges the logs of its sites itself; with `--out FILE` it writes them, and `judge` reads them again.
 
 Examples:
+  seat_cli judge --logs site_*.log
   cat site_*.log | seat_cli judge
   seat_cli run --out sites.log < script.txt && seat_cli judge --cut 1,0 < sites.log";
 
@@ -302,8 +312,8 @@ A line that can't be read, as `0 send`, or one that names no site of the layout,
 and no site begins. The output is then `line K refused BadWord`, `NoSite` or `TooManyLines` alone, for the first such
 line, and the status is 4.
 
-FILE gets the logs of all sites, which `judge` reads if they have at most 16 MiB: fewer turns make shorter logs. They are
-written to FILE.part, which becomes FILE when it is whole: if the run fails, an older FILE stays as it was. A link, a
+FILE gets the logs of all sites, which `judge` reads; from 16 MiB on by `judge --logs FILE` alone. They are written to
+FILE.part, which becomes FILE when it is whole: if the run fails, an older FILE stays as it was. A link, a
 pipe or a device is written to directly. If FILE can't be written, the status is 7, and no input is read if that is
 found at the start.
 

@@ -2,7 +2,7 @@
 ghost use Rattle.std.specs.Prelude.{◌≡◌, ◌∷◌, [], None, Some, codes, false, true};
 ghost use Rattle.clap.specs.Words.{fault_of};
 ghost use Rattle.clap.specs.declared.error.ErrorKind.TheVariants.{ArgumentConflict, InvalidSubcommand, InvalidValue, MissingRequiredArgument, TooManyValues, UnknownArgument, ValueValidation};
-ghost use Rattle.command_arguments.specs.Arguments.{asked_lost, asked_words, called_with, named_command, named_value, program, said, serving};
+ghost use Rattle.command_arguments.specs.Arguments.{asked_logs, asked_lost, asked_words, called_with, named_command, named_value, program, said, serving};
 ghost use Rattle.command_arguments.specs.declared.arguments.Command.TheVariants.{Join, Play, Site, Serve, Ask, Regroup, Rebuild, Judge, Run};
 
 /// What arguments the program is called with and how they are read, by computation alone: the layout file that they
@@ -119,7 +119,7 @@ pub fn regroup_arguments_read()
     ensures create_of_rebuild { fault_of program (called_with (codes "rebuild" ∷ codes "--site=1" ∷ codes "--store=a" ∷ codes "--group=b.2" ∷ codes "--create" ∷ [])) ≡ UnknownArgument ∷ [] }
 {}
 
-/// The same of the command `judge`: the word for a cut, and the layout file.
+/// The same of the command `judge`: the word for a cut, the layout file, and files of logs.
 #[tactic(auto, unfolding(clap::proofs::OnLiterals::clap_on_literals))]
 pub fn judge_arguments_read()
     ensures plain { named_command (called_with (codes "judge" ∷ [])) ≡ Judge }
@@ -130,6 +130,12 @@ pub fn judge_arguments_read()
     ensures no_error { fault_of program (called_with (codes "judge" ∷ codes "--cut=x" ∷ [])) ≡ [] }
     ensures missing_value { fault_of program (called_with (codes "judge" ∷ codes "--cut" ∷ [])) ≡ InvalidValue ∷ [] }
     ensures two_cuts { fault_of program (called_with (codes "judge" ∷ codes "--cut=1" ∷ codes "--cut=2" ∷ [])) ≡ ArgumentConflict ∷ [] }
+    ensures no_logs { asked_logs (called_with (codes "judge" ∷ [])) ≡ [] }
+    ensures logs { asked_logs (called_with (codes "judge" ∷ codes "--logs" ∷ codes "b" ∷ codes "a" ∷ codes "--cut=1" ∷ [])) ≡ codes "b" ∷ codes "a" ∷ [] }
+    ensures more_logs { asked_logs (called_with (codes "judge" ∷ codes "--logs=b" ∷ codes "--layout=c" ∷ codes "--logs" ∷ codes "a" ∷ [])) ≡ codes "b" ∷ codes "a" ∷ [] }
+    ensures logs_without_file { fault_of program (called_with (codes "judge" ∷ codes "--logs" ∷ [])) ≡ InvalidValue ∷ [] }
+    ensures stray_file { fault_of program (called_with (codes "judge" ∷ codes "a" ∷ [])) ≡ UnknownArgument ∷ [] }
+    ensures logs_of_run { fault_of program (called_with (codes "run" ∷ codes "--logs=a" ∷ [])) ≡ UnknownArgument ∷ [] }
     ensures cut_of_join { fault_of program (called_with (codes "join" ∷ codes "--cut=1" ∷ [])) ≡ UnknownArgument ∷ [] }
 {}
 

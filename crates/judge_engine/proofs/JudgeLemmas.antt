@@ -1,13 +1,14 @@
 -- What was read is judged, and the text of the judgement.
-use Rattle.std.proofs.Common.{◌≡◌, ℕ, List, ◌++◌, ◌+◌, Option, None, Some, Ok, inl, inr, refl, sym, ap, subst, arith}
+use Rattle.std.proofs.Common.{◌≡◌, MatchOption, IsSome, ℕ, List, [], ◌++◌, ◌+◌, Option, None, Some, Ok, inl, inr, refl, sym, ap, subst, arith}
 use Rattle.merge_core.specs.Layout.{LayoutState}
 use Rattle.merge_core.specs.declared.layout.RecordSpec.{RecordSpec}
 use Rattle.desk_log.specs.declared.transcript.Transcript.{Transcript}
 use Rattle.log_judge.specs.declared.verdict.Verdict.{Verdict}
 use Rattle.log_judge.specs.declared.verdict.Verdict.TheVariants.{BadCut, BadJoint, BadReply, Exceeds, Consistent}
-use Rattle.log_judge.specs.Cut.{no_transcript}
+use Rattle.log_judge.specs.Cut.{cut_account, no_transcript}
 use Rattle.log_judge.specs.Table.{cut_table}
 use Rattle.log_judge.specs.Verdict.{AreOfSites, IsSafeCut, IsVerdict}
+use Rattle.transcript_reader.specs.declared.runs.SiteRun.{SiteRun}
 use Rattle.transcript_reader.specs.Reading.{AreTranscriptsOf, IsRefusedAt, transcripts_below}
 use Rattle.transcript_reader.proofs.ReadingLemmas.{length_below, transcript_at}
 use Rattle.text_input.specs.Input.{LosesSome, ReadsInput, input_limit}
@@ -16,23 +17,26 @@ use Rattle.text_input.specs.Sink.{SinkState}
 use Rattle.text_input.specs.Source.{SourceState}
 use Rattle.exit_status.specs.declared.status.Status.{Status}
 use Rattle.exit_status.specs.declared.status.Status.TheVariants.{Done, Usage, NoLayout, NoStore, Fault, Refused, Memory, Io}
-use Rattle.log_judge.specs.declared.stream.SiteLog.{SiteLog}
-use Rattle.log_judge.specs.Stream.{AreAllLogs}
+use Rattle.log_judge.specs.declared.keeping.Keeping.{Keeping}
+use Rattle.log_judge.specs.declared.keeping.Keeping.TheVariants.{All as KeepsAll}
+use Rattle.log_judge.specs.declared.stream.Logs.{Logs}
+use Rattle.log_judge.specs.Stream.{AreAllLogs, IsUntold}
 use Rattle.judge_engine.specs.Cuts.{lengths_of}
-use Rattle.judge_engine.specs.Reading.{EndsBy, EndsReading}
-use Rattle.judge_engine.proofs.ReadingLemmas.{logs_end}
+use Rattle.judge_engine.specs.Reading.{EndsBy, EndsReading, IsUnjudged}
+use Rattle.judge_engine.proofs.ReadingLemmas.{all_logs, logs_end}
 use Rattle.judge_engine.specs.Engine.{AnswersLogs, EndsJudge, IsJudgement, judgement_text}
 use Rattle.judge_engine.specs.Verdicts.{verdict_line}
 
+-- of runs there is a transcript for each site, in order of sites
+pub runs_of_sites : (layout : LayoutState) (rs : List SiteRun) → AreOfSites layout (transcripts_below rs layout.sites)
+runs_of_sites layout rs = record {
+  number = length_below rs layout.sites;
+  in_order = λ i below. ap (λ (t : Transcript). t.site) (transcript_at rs layout.sites i no_transcript (omega (arith, below, length_below rs layout.sites)));
+}
+
 -- what was read is a transcript for each site, in order of sites
 pub of_sites : (layout : LayoutState) (bytes : List ℕ) (ts : List Transcript) → AreTranscriptsOf layout bytes ts → AreOfSites layout ts
-of_sites layout bytes ts read =
-    let rs = read.0 in
-    subst (λ (xs : List Transcript). AreOfSites layout xs) (sym read.1.1)
-    (record {
-      number = length_below rs layout.sites;
-      in_order = λ i below. ap (λ (t : Transcript). t.site) (transcript_at rs layout.sites i no_transcript (omega (arith, below, length_below rs layout.sites)));
-    })
+of_sites layout bytes ts read = subst (λ (xs : List Transcript). AreOfSites layout xs) (sym read.1.1) (runs_of_sites layout read.0)
 
 -- where the verdict is another than that there is no cut, the table stands in front of its line
 pub behind_table : (records : List RecordSpec) (ts : List Transcript) (cut : List ℕ) (v : Verdict) → ¬ (v ≡ BadCut)
@@ -50,19 +54,32 @@ judged layout ts cut lengths text v same right safe is =
     subst (λ (l : List ℕ). IsJudgement layout ts l text) same (record { verdict = v; right = right; safe = safe; is_text = is })
 
 -- what the lines of all bytes are, where none was refused
-pub all_read : (layout : LayoutState) (cut : Option (List ℕ)) (bytes : List ℕ) (its : LayoutState) (refused site : Option ℕ) (logs : List SiteLog) → refused ≡ None → EndsReading layout cut bytes its refused site logs
+pub all_read : (layout : LayoutState) (cut : Option (List ℕ)) (bytes : List ℕ) (its : LayoutState) (refused site : Option ℕ) (logs : Logs) → refused ≡ None → EndsReading layout cut KeepsAll [] bytes its refused site logs
     → (ts : List Transcript) × AreTranscriptsOf layout bytes ts × AreOfSites layout ts × AreAllLogs layout ts (lengths_of cut ts) logs
 all_read layout cut bytes its refused site logs none ends =
-    let knows = subst (λ (o : Option ℕ). EndsBy layout cut bytes o site logs) none ends.1 in
-    let end = logs_end layout cut (lines_of bytes) site logs knows in
+    let knows = subst (λ (o : Option ℕ). EndsBy layout cut KeepsAll [] bytes o site logs) none ends.1 in
+    let end = logs_end layout cut KeepsAll [] (lines_of bytes) site logs knows in
     let ts = transcripts_below end.0 layout.sites in
     let read : AreTranscriptsOf layout bytes ts = (end.0, (end.1, refl)) in
-    (ts, read, of_sites layout bytes ts read, end.2)
+    (ts, read, of_sites layout bytes ts read, all_logs layout cut end.0 logs end.2)
+
+-- where all is kept, the verdict is known
+pub is_judged : (layout : LayoutState) (cut : Option (List ℕ)) (bytes : List ℕ) (its : LayoutState) (refused site : Option ℕ) (logs : Logs) → refused ≡ None → EndsReading layout cut KeepsAll [] bytes its refused site logs
+    → IsUnjudged layout cut logs → ⊥
+is_judged layout cut bytes its refused site logs none ends unknown =
+    let knows = subst (λ (o : Option ℕ). EndsBy layout cut KeepsAll [] bytes o site logs) none ends.1 in
+    let so = all_read layout cut bytes its refused site logs none ends in
+    subst (λ (k : Keeping). IsUntold k logs.sites.items (cut_account layout so.0 (lengths_of cut so.0))) knows.keeps (unknown.untold so.0 so.3)
+
+-- .. so that there is one
+pub is_told : {T : Type 0} (P : Type 0) (Q : T → Type 0) (answer : Option T) → MatchOption answer P Q → (P → ⊥) → IsSome answer
+is_told P Q None unknown never = absurd (never unknown)
+is_told P Q (Some x) known never = search
 
 -- the line that was refused
-pub one_refused : (layout : LayoutState) (cut : Option (List ℕ)) (bytes : List ℕ) (its : LayoutState) (refused site : Option ℕ) (logs : List SiteLog) (n : ℕ) → refused ≡ Some n → EndsReading layout cut bytes its refused site logs
+pub one_refused : (layout : LayoutState) (cut : Option (List ℕ)) (bytes : List ℕ) (its : LayoutState) (refused site : Option ℕ) (logs : Logs) (n : ℕ) → refused ≡ Some n → EndsReading layout cut KeepsAll [] bytes its refused site logs
     → IsRefusedAt layout (lines_of bytes) n
-one_refused layout cut bytes its refused site logs n is ends = subst (λ (o : Option ℕ). EndsBy layout cut bytes o site logs) is ends.1
+one_refused layout cut bytes its refused site logs n is ends = subst (λ (o : Option ℕ). EndsBy layout cut KeepsAll [] bytes o site logs) is ends.1
 
 -- of an input within the limit no more is lost than a byte past it
 some_lost : (bytes : List ℕ) (source read : SourceState) → ReadsInput source read (Ok bytes) → LosesSome source read (input_limit + 1)

@@ -1,2 +1,3 @@
 mod JudgeLemmas
+mod FilesLemmas
 mod ReadingLemmas

@@ -6,7 +6,7 @@ ghost use Rattle.log_judge.specs.Cut.{runs_at};
 ghost use Rattle.log_judge.specs.Stream.{AreAllLogs, AreLogs, no_entries};
 ghost use Rattle.judge_engine.specs.Cuts.{IsCutFault, cut_in, lengths_of};
 
-use log_judge::Logs;
+use log_judge::{Keeping, Logs};
 use merge_core::Layout;
 use std::alloc::{AllocError, Global};
 use std::marker::Model;
@@ -67,19 +67,25 @@ impl Cut {
         }
     }
 
-    // The logs before their first line.
-    pub(crate) fn fresh_logs(&self, alloc: Global, layout: &Layout) -> Result<Logs, AllocError>
-        ensures { IfOk result (λ logs. (ts : List TranscriptThere) → length ts ≡ layout.now.sites → AreLogs layout.now ts (lengths_of self.now ts) no_entries (runs_at ts) logs.sites.items) }
+    // The logs before their first line, of which merges are kept so.
+    pub(crate) fn fresh_logs(
+        &self,
+        alloc: Global,
+        layout: &Layout,
+        keeping: Keeping,
+    ) -> Result<Logs, AllocError>
+        ensures keeping { IfOk result (λ logs. logs.keeping ≡ keeping) }
+        ensures logs { IfOk result (λ logs. (ts : List TranscriptThere) → length ts ≡ layout.now.sites → AreLogs layout.now ts (lengths_of self.now ts) no_entries (runs_at ts) logs) }
     {
         match &self.lengths {
-            Some(lengths) => Logs::at_lengths(alloc, layout, lengths.as_slice()),
-            None => Logs::at_end(alloc, layout),
+            Some(lengths) => Logs::at_lengths(alloc, layout, lengths.as_slice(), keeping),
+            None => Logs::at_end(alloc, layout, keeping),
         }
     }
 
     // The cut through these logs, as one length for each.
     pub(crate) fn lengths(&self, alloc: Global, logs: &Logs) -> Result<Vec<u64>, AllocError>
-        ensures { (layout : LayoutState) (ts : List TranscriptThere) (cut : List ℕ) → AreAllLogs layout ts cut logs.now.sites.items → IfOk result (λ lengths. lengths.items ≡ lengths_of self.now ts) }
+        ensures { (layout : LayoutState) (ts : List TranscriptThere) (cut : List ℕ) → AreAllLogs layout ts cut logs.now → IfOk result (λ lengths. lengths.items ≡ lengths_of self.now ts) }
     {
         match &self.lengths {
             Some(lengths) => {

@@ -1,10 +1,10 @@
-ghost use Rattle.std.specs.Prelude.{◌≡◌, ◌++◌, ℕ, List, Ok, string_bytes, IfOk};
+ghost use Rattle.std.specs.Prelude.{◌≡◌, ◌++◌, ℕ, List, Ok, string_bytes, IfOk, MatchOption};
 ghost use Rattle.desk_log.specs.declared.transcript.Transcript.{Transcript as TranscriptThere};
 ghost use Rattle.log_judge.specs.Verdict.{AreOfSites};
 ghost use Rattle.log_judge.specs.Stream.{AreAllLogs};
 ghost use Rattle.judge_engine.specs.Cuts.{lengths_of};
 ghost use Rattle.judge_engine.specs.Engine.{AnswersLogs, EndsJudge, IsJudgement, refusal_line};
-ghost use Rattle.judge_engine.specs.Reading.{IsTakenIn};
+ghost use Rattle.judge_engine.specs.Reading.{IsTakenIn, IsUnjudged};
 
 use crate::cut::Cut;
 use crate::intake::Intake;
@@ -59,9 +59,10 @@ fn answer_logs<W: Write>(
     };
     match reading.refused {
         None => {
-            let Ok(text) = judgement(alloc, layout, reading.logs, cut) else {
+            let Ok(answer) = judgement(alloc, layout, &reading.logs, cut) else {
                 return Status::Memory;
             };
+            let text = answer.unwrap(); // all was kept
             if !sink.write_and_flush(text.as_str()) {
                 return Status::Io;
             }
@@ -79,23 +80,32 @@ fn answer_logs<W: Write>(
     }
 }
 
-// The table of the cut and the verdict on it.
-fn judgement(alloc: Global, layout: &Layout, logs: Logs, cut: &Cut) -> Result<String, AllocError>
-    requires { (ts : List TranscriptThere) × AreOfSites layout.now ts × AreAllLogs layout.now ts (lengths_of cut.now ts) logs.sites.items }
-    ensures { IfOk result (λ text. (ts : List TranscriptThere) → AreOfSites layout.now ts → AreAllLogs layout.now ts (lengths_of cut.now ts) logs.sites.items
-        → IsJudgement layout.now ts (lengths_of cut.now ts) (string_bytes text)) }
+// The table of the cut and the verdict on it; nothing where too little was kept for a verdict.
+pub(crate) fn judgement(
+    alloc: Global,
+    layout: &Layout,
+    logs: &Logs,
+    cut: &Cut,
+) -> Result<Option<String>, AllocError>
+    requires { (ts : List TranscriptThere) × AreOfSites layout.now ts × AreAllLogs layout.now ts (lengths_of cut.now ts) logs.now }
+    ensures { IfOk result (λ answer. MatchOption answer (IsUnjudged layout.now cut.now logs.now)
+        (λ text. (ts : List TranscriptThere) → AreOfSites layout.now ts → AreAllLogs layout.now ts (lengths_of cut.now ts) logs.now
+        → IsJudgement layout.now ts (lengths_of cut.now ts) (string_bytes text))) }
 {
     let _sites = layout.sites(); // tells that the layout is one
-    let lengths = cut.lengths(alloc, &logs)?;
+    let lengths = cut.lengths(alloc, logs)?;
     let lengths = lengths.as_slice();
     if !logs.is_cut(lengths) {
-        return verdict_line(alloc, layout, Verdict::BadCut);
+        let line = verdict_line(alloc, layout, Verdict::BadCut)?;
+        return Ok(Some(line));
     }
+    let Some(verdict) = logs.verdict(alloc, layout)? else {
+        return Ok(None);
+    };
     let mut text = logs.cut_table(alloc, lengths)?;
-    let verdict = logs.verdict(alloc, layout)?;
     let line = verdict_line(alloc, layout, verdict)?;
     text.push_str(line.as_str())?;
-    Ok(text)
+    Ok(Some(text))
 }
 
 // The line that tells of a refused line.

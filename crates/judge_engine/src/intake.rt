@@ -1,10 +1,12 @@
 //! What takes the input of `judge` in, part by part as it comes.
 ghost use Rattle.std.specs.Prelude.{[], ℕ, List, Option, IfOk};
 ghost use Rattle.merge_core.specs.Layout.{LayoutState};
+ghost use Rattle.log_judge.specs.declared.keeping.Keeping.TheVariants.{All as KeepsAll};
 ghost use Rattle.judge_engine.specs.Reading.{EndsReading, IsTakenIn};
 
 use crate::cut::Cut;
 use crate::reading::Reading;
+use log_judge::Keeping;
 use merge_core::Layout;
 use std::alloc::{AllocError, Global};
 use std::marker::Model;
@@ -34,7 +36,7 @@ impl Intake {
     pub fn new(alloc: Global, layout: &Layout, cut: &Cut) -> Result<Intake, AllocError>
         ensures { IfOk result (IsTakenIn layout.now cut.now []) }
     {
-        let reading = Reading::new(alloc, layout, cut)?;
+        let reading = Reading::new(alloc, layout, cut, Keeping::All)?;
         Ok(Intake {
             reading: Some(reading),
         })
@@ -43,7 +45,7 @@ impl Intake {
     /// What all of it came to. Its last line may lack its LF.
     pub fn finish(self) -> Result<Reading, AllocError>
         ensures { IfOk result (λ r. (layout : LayoutState) (cut : Option (List ℕ)) (bytes : List ℕ) → IsTakenIn layout cut bytes self
-            → EndsReading layout cut bytes r.layout r.refused r.site r.logs.sites.items) }
+            → EndsReading layout cut KeepsAll [] bytes r.layout r.refused r.site r.logs) }
     {
         let Intake { reading } = self;
         let Some(mut reading) = reading else {

@@ -1,15 +1,18 @@
-//! The lines of closed logs are judged while they come: of them only the front of one that is not whole yet is kept.
+//! The lines of closed logs are judged while they come, text by text: of them only the front of one that is not whole yet is
+//! kept.
 ghost use Rattle.std.specs.Prelude.{◌≡◌, ◌+◌, ◌++◌, ◌∷◌, [], ℕ, List, Option, IfOk, Some, None};
 ghost use Rattle.merge_core.specs.Layout.{LayoutState};
 ghost use Rattle.text_input.specs.Lines.{lines_of};
+ghost use Rattle.log_judge.specs.declared.keeping.Keeping.{Keeping as KeepingThere};
 ghost use Rattle.transcript_text.specs.Texts.{entry_text};
 ghost use Rattle.transcript_reader.specs.Fits.{FitsEntry};
+ghost use Rattle.transcript_reader.specs.declared.runs.SiteRun.{SiteRun as SiteRunThere};
 ghost use Rattle.transcript_reader.specs.Reading.{BeginsRun};
-ghost use Rattle.judge_engine.specs.Reading.{EndsReading, HasReadBytes, HasReadLines, Knows, ReadsBytes, ReadsOn};
+ghost use Rattle.judge_engine.specs.Reading.{AddsBytes, BeginsText, EndsBytes, HasReadBytes, HasReadLines, Knows, ReadsOn, ReadsTexts};
 
 use crate::cut::Cut;
 use desk_log::Entry;
-use log_judge::Logs;
+use log_judge::{Keeping, Logs};
 use merge_core::Layout;
 use std::alloc::{AllocError, Global};
 use std::mem;
@@ -17,15 +20,15 @@ use text_input::{cut_line, cut_whole_lines};
 use text_parts::Unread;
 use transcript_reader::{Line, Opening, line_in};
 
-/// What the lines of an input came to so far.
+/// What the lines of the texts of an input came to so far.
 #[derive(Drop)]
 pub(crate) struct Reading {
     alloc: Global,
     layout: Layout,
     pub logs: Logs,
-    // The site of the last run.
+    // The site of the text's last run.
     site: Option<u16>,
-    // How many lines there were, while none is refused.
+    // How many lines of the text there were, while none is refused.
     lines: u64,
     // The number of the first that is refused; what comes behind it is not looked at.
     pub refused: Option<u64>,
@@ -50,11 +53,11 @@ fn begin_run(
     logs: &mut Logs,
     opening: Opening,
 ) -> Result<u16, AllocError>
-    requires { (cut : Option (List ℕ)) × (front : List (List ℕ)) × (site : Option ℕ) × (line : List ℕ)
-        × BeginsRun layout.now line opening × Knows layout.now cut front site logs.old.sites.items }
-    ensures { IfOk result (λ s. (cut : Option (List ℕ)) (front : List (List ℕ)) (site : Option ℕ) (line : List ℕ)
-        → BeginsRun layout.now line opening → Knows layout.now cut front site logs.old.sites.items
-        → Knows layout.now cut (front ++ line ∷ []) (Some s) logs.new.sites.items) }
+    requires { (cut : Option (List ℕ)) × (keeping : KeepingThere) × (earlier : List SiteRunThere) × (front : List (List ℕ)) × (site : Option ℕ) × (line : List ℕ)
+        × BeginsRun layout.now line opening × Knows layout.now cut keeping earlier front site logs.old }
+    ensures { IfOk result (λ s. (cut : Option (List ℕ)) (keeping : KeepingThere) (earlier : List SiteRunThere) (front : List (List ℕ)) (site : Option ℕ) (line : List ℕ)
+        → BeginsRun layout.now line opening → Knows layout.now cut keeping earlier front site logs.old
+        → Knows layout.now cut keeping earlier (front ++ line ∷ []) (Some s) logs.new) }
 {
     let Opening { site, sites, first } = opening;
     logs.begin_run(alloc, layout, site, sites, first)?;
@@ -63,20 +66,27 @@ fn begin_run(
 
 // The last run has one entry more.
 fn add_entry(alloc: Global, logs: &mut Logs, site: u16, entry: Entry) -> Result<(), AllocError>
-    requires { (layout : LayoutState) × (cut : Option (List ℕ)) × (front : List (List ℕ)) × FitsEntry entry × Knows layout cut front (Some site) logs.old.sites.items }
-    ensures { IfOk result (λ _. (layout : LayoutState) (cut : Option (List ℕ)) (front : List (List ℕ)) (line : List ℕ)
-        → FitsEntry entry → line ≡ entry_text layout.records entry → Knows layout cut front (Some site) logs.old.sites.items
-        → Knows layout cut (front ++ line ∷ []) (Some site) logs.new.sites.items) }
+    requires { (layout : LayoutState) × (cut : Option (List ℕ)) × (keeping : KeepingThere) × (earlier : List SiteRunThere) × (front : List (List ℕ))
+        × FitsEntry entry × Knows layout cut keeping earlier front (Some site) logs.old }
+    ensures { IfOk result (λ _. (layout : LayoutState) (cut : Option (List ℕ)) (keeping : KeepingThere) (earlier : List SiteRunThere) (front : List (List ℕ)) (line : List ℕ)
+        → FitsEntry entry → line ≡ entry_text layout.records entry → Knows layout cut keeping earlier front (Some site) logs.old
+        → Knows layout cut keeping earlier (front ++ line ∷ []) (Some site) logs.new) }
 {
-    logs.add_entry(alloc, site, entry)
+    logs.add_entry(alloc, site, entry)?;
+    Ok(())
 }
 
 impl Reading {
     /// Before the first byte.
-    pub fn new(alloc: Global, layout: &Layout, cut: &Cut) -> Result<Reading, AllocError>
-        ensures { IfOk result (ReadsBytes layout.now cut.now []) }
+    pub fn new(
+        alloc: Global,
+        layout: &Layout,
+        cut: &Cut,
+        keeping: Keeping,
+    ) -> Result<Reading, AllocError>
+        ensures { IfOk result (ReadsTexts layout.now cut.now keeping []) }
     {
-        let logs = cut.fresh_logs(alloc, layout)?;
+        let logs = cut.fresh_logs(alloc, layout, keeping)?;
         let layout = layout.try_copy(alloc)?;
         Ok(Reading {
             alloc,
@@ -152,8 +162,7 @@ impl Reading {
     /// Takes the next part in.
     pub fn add(&mut self, part: &[u8]) -> Result<(), AllocError>
         requires { HasReadBytes self.old }
-        ensures { IfOk result (λ _. (layout : LayoutState) (cut : Option (List ℕ)) (bytes : List ℕ) → ReadsBytes layout cut bytes self.old
-            → ReadsBytes layout cut (bytes ++ part.now) self.new) }
+        ensures { IfOk result (λ _. AddsBytes self.old part.now self.new) }
     {
         if self.refused.is_some() {
             return Ok(());
@@ -171,12 +180,22 @@ impl Reading {
     /// Takes the last line in, which may lack its LF.
     pub fn finish(&mut self) -> Result<(), AllocError>
         requires { HasReadBytes self.old }
-        ensures { IfOk result (λ _. (layout : LayoutState) (cut : Option (List ℕ)) (bytes : List ℕ) → ReadsBytes layout cut bytes self.old
-            → EndsReading layout cut bytes self.new.layout self.new.refused self.new.site self.new.logs.sites.items) }
+        ensures { IfOk result (λ _. EndsBytes self.old self.new) }
     {
         if self.refused.is_some() {
             return Ok(());
         }
         self.read_pending(&[])
+    }
+
+    /// Behind a text that was read whole, and of which no line was refused, another one begins: its lines are counted
+    /// anew, and the first of them begins a run.
+    pub fn begin_text(&mut self)
+        requires { self.old.refused ≡ None }
+        ensures { BeginsText self.old self.new }
+    {
+        self.site = None;
+        self.lines = 0;
+        self.pending.clear();
     }
 }

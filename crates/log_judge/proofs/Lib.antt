@@ -1,6 +1,7 @@
 pub mod CutLemmas
 pub mod ExcessLemmas
 pub mod StreamLemmas
+pub mod KeepingLemmas
 pub mod LogsLemmas
 pub mod LeadsLemmas
 pub mod HeardLemmas

@@ -1,8 +1,9 @@
 -- The logs of all sites as their entries come: what each entry brought, and which of it is kept.
-use Rattle.std.proofs.Common.{◌≡◌, ℕ, zero, suc, ◌+◌, ◌-◌, ◌<◌, ◌≤◌, ◌⊎◌, inl, inr, Bool, true, false, cond, List, [], ◌∷◌, ◌++◌, length, map, drop, get_or, Option, None, Some, refl, sym, ap, subst, ◌∙◌, append-nil, arith}
-use Rattle.std.specs.Prelude.{min, ◌||◌, ◌&&◌, MatchOption}
-use Rattle.std.proofs.lemmas.Bool.{cases_Bool, cases_lt, cases_eq, cond-true, cond-false}
-use Rattle.std.proofs.lemmas.List.{get_or_append_left, get_or-append-add, get_or_past, length-map}
+use Rattle.std.proofs.Common.{◌≡◌, ℕ, zero, suc, ◌+◌, ◌-◌, ◌<◌, ◌≤◌, ◌⊎◌, inl, inr, Bool, true, false, cond, List, [], ◌∷◌, ◌++◌, length, map, drop, get_or, Option, None, Some, refl, sym, ap, subst, ◌∙◌, arith}
+use Rattle.std.specs.Prelude.{min, ◌||◌, ◌&&◌, MatchOption, IsSome, Vec}
+use Rattle.std.specs.Global.{Global}
+use Rattle.std.proofs.lemmas.Bool.{cases_lt, cases_eq, cond-true, cond-false}
+use Rattle.std.proofs.lemmas.List.{get_or_append_left, get_or-append-add, length-map, length_push}
 use Rattle.merge_core.specs.declared.cell.Cell.{Cell}
 use Rattle.merge_core.specs.declared.delta.Row.{Row}
 use Rattle.merge_core.specs.Layout.{LayoutState}
@@ -24,8 +25,11 @@ use Rattle.log_replay.specs.Stream.{HasEnded, IsHandedBack, IsInRun, IsReplaying
 use Rattle.log_replay.proofs.WayLemmas.{way_drop, way_length}
 use Rattle.log_judge.specs.declared.stream.Taken.{Taken}
 use Rattle.log_judge.specs.declared.stream.SiteLog.{SiteLog}
+use Rattle.log_judge.specs.declared.keeping.Keeping.{Keeping}
+use Rattle.log_judge.specs.declared.keeping.Keeping.TheVariants as way
 use Rattle.log_judge.specs.Cut.{brought, cut_account, is_accepted, is_merged, merge_rows, rows_brought, runs_at, site_brought}
-use Rattle.log_judge.specs.Stream.{AreDone, AreTaken, IsLog, Takes, TakesBack, TakesKept, settled_in}
+use Rattle.log_judge.specs.Excess.{NoneAhead}
+use Rattle.log_judge.specs.Stream.{AreAhead, AreDone, AreKept, AreTaken, AreTakenTo, FitsKeeping, IsFitting, IsGuess, IsLog, Keeps, KeepsWithin, Pushes, Takes, TakesBack, TakesKept, TellAll, settled_in}
 
 -- ---- what an entry brought
 
@@ -155,50 +159,161 @@ module _ (accounts : ℕ → Account) (lists : List (List Row)) where
   )
   taken_push from to (u ∷ ts) t fits at rows taken = (taken.0, omega (arith, taken.1), taken.2, taken.3, taken_push (u.at + 1) to ts t (omega (arith, taken.1)) at rows taken.4)
 
--- the bound of what is kept, by the cut
+-- one list more that tells no more than was done, whatever was not kept
+pub kept_on : (accounts : ℕ → Account) (lists : List (List Row)) (to : ℕ) (o : Option ℕ) (ts : List Taken) → AreDone accounts (get_or lists to []) → AreTakenTo accounts lists to o ts → AreTakenTo accounts lists (to + 1) o ts
+kept_on accounts lists to None ts done kept = taken_on accounts lists 0 to ts done kept
+kept_on accounts lists to (Some d) ts done kept = (omega (arith, kept.0), kept.1)
+
+-- one list more behind one that was not kept
+kept_behind : (accounts : ℕ → Account) (lists : List (List Row)) (to : ℕ) (o : Option ℕ) (ts : List Taken) → IsSome o → AreTakenTo accounts lists to o ts → AreTakenTo accounts lists (to + 1) o ts
+kept_behind accounts lists to None ts some kept = let wrong : false ≡ true = some in absurd cc
+kept_behind accounts lists to (Some d) ts some kept = (omega (arith, kept.0), kept.1)
+
+-- a merge more that is kept, where all were
+kept_push : (accounts : ℕ → Account) (lists : List (List Row)) (to : ℕ) (old new : SiteLog) (rows : List Row) → Pushes old new to rows → old.dropped ≡ None → get_or lists to [] ≡ rows → AreKept accounts lists to old → AreKept accounts lists (to + 1) new
+kept_push accounts lists to old new rows p none is kept =
+    subst (λ (o : Option ℕ). AreTakenTo accounts lists (to + 1) o new.taken.items) (sym (p.dropped ∙ none))
+    (subst (λ (ts : List Taken). AreTaken accounts lists 0 (to + 1) ts) (sym p.items)
+    (taken_push accounts lists 0 to old.taken.items p.it (omega arith) p.at_is (is ∙ sym p.rows_are) (subst (λ (o : Option ℕ). AreTakenTo accounts lists to o old.taken.items) none kept)))
+
+-- ---- which merges are kept
+
+pub keeps_all : (old new : SiteLog) (at : ℕ) (rows : List Row) → Pushes old new at rows → Keeps way.All old new at rows
+keeps_all old new at rows p = record {
+  same = p.same;
+  kept = λ none accounts lists guess is kept. kept_push accounts lists at old new rows p none is kept;
+  fits = λ none. p.dropped ∙ none;
+}
+
+-- one was not kept before
+pub within_dropped : (most : ℕ) (old : SiteLog) (at : ℕ) (rows : List Row) → IsSome old.dropped → KeepsWithin most old old at rows
+within_dropped most old at rows some = record {
+  same = refl;
+  kept = λ accounts lists is kept. kept_behind accounts lists at old.dropped old.taken.items some kept;
+  room = λ room. room;
+  ahead = λ tables above all. all;
+}
+
+-- there is no room
+pub within_full : (most : ℕ) (old : SiteLog) (at : ℕ) (rows : List Row) → old.dropped ≡ None → most ≤ length old.taken.items → KeepsWithin most old (record old { dropped = Some at }) at rows
+within_full most old at rows none full = record {
+  same = refl;
+  kept = λ accounts lists is kept. (omega arith, subst (λ (o : Option ℕ). AreTakenTo accounts lists at o old.taken.items) none kept);
+  room = λ room. (room.0, λ some. omega (arith, room.0, full));
+  ahead = λ tables above all. all;
+}
+
+ahead_push : (tables : List (List Row)) (ts : List Taken) (t : Taken) → (¬ NoneAhead tables t.delta.rows) → AreAhead tables ts → AreAhead tables (ts ++ t ∷ [])
+ahead_push tables [] t above all = (above, tt)
+ahead_push tables (u ∷ ts) t above all = (all.0, ahead_push tables ts t above all.1)
+
+-- there is
+pub within_push : (most : ℕ) (old new : SiteLog) (at : ℕ) (rows : List Row) → Pushes old new at rows → old.dropped ≡ None → length old.taken.items < most → KeepsWithin most old new at rows
+within_push most old new at rows p none few = record {
+  same = p.same;
+  kept = λ accounts lists is kept. kept_push accounts lists at old new rows p none is kept;
+  room = λ room. (fits, λ some. absurd (lost new.dropped (p.dropped ∙ none) some));
+  ahead = λ tables above all. subst (AreAhead tables) (sym p.items) (ahead_push tables old.taken.items p.it (subst (λ (rs : List Row). ¬ NoneAhead tables rs) (sym p.rows_are) above) all);
+}
+  where
+    size : length new.taken.items ≡ length old.taken.items + 1
+    size = ap (λ (ts : List Taken). length ts) p.items ∙ length_push old.taken.items p.it
+
+    fits : length new.taken.items ≤ most
+    fits = omega (arith, size, few)
+
+    lost : (o : Option ℕ) → o ≡ None → IsSome o → ⊥
+    lost None is some = let wrong : false ≡ true = some in absurd cc
+    lost (Some d) is some = let wrong : None ≡ Some d = sym is in absurd cc
+
+pub keeps_first : (most : ℕ) (old new : SiteLog) (at : ℕ) (rows : List Row) → KeepsWithin most old new at rows → Keeps (way.First most) old new at rows
+keeps_first most old new at rows it = record {
+  same = it.same;
+  kept = λ fits accounts lists guess is kept. it.kept accounts lists is kept;
+  fits = it.room;
+}
+
+-- a row above the tables
+pub keeps_above : (tables : Vec (List Row) Global) (old new : SiteLog) (at : ℕ) (rows : List Row) → (¬ NoneAhead tables.items rows) → KeepsWithin 1 old new at rows → Keeps (way.Above tables) old new at rows
+keeps_above tables old new at rows above it = record {
+  same = it.same;
+  kept = λ fits accounts lists guess is kept. it.kept accounts lists is kept;
+  fits = λ fits. (it.room fits.0, it.ahead tables.items above fits.1);
+}
+
+-- rows that are not above tables that tell all accounts tell no more than was done
+pub ahead_done : (tables : List (List Row)) (accounts : ℕ → Account) (rows : List Row) → TellAll tables accounts → NoneAhead tables rows → AreDone accounts rows
+ahead_done tables accounts rows told none q there cell = at (cases_lt (own (accounts q.s) q.r cell) (counter_in (counters_of q) cell))
+  where
+    at : (own (accounts q.s) q.r cell < counter_in (counters_of q) cell) ⊎ (counter_in (counters_of q) cell ≤ own (accounts q.s) q.r cell) → counter_in (counters_of q) cell ≤ own (accounts q.s) q.r cell
+    at (inl above) = absurd (none q there (cell, omega (arith, above, told q.s q.r cell)))
+    at (inr fits) = fits
+
+pub keeps_none : (tables : Vec (List Row) Global) (old : SiteLog) (at : ℕ) (rows : List Row) → NoneAhead tables.items rows → Keeps (way.Above tables) old old at rows
+keeps_none tables old at rows none = record {
+  same = refl;
+  kept = λ fits accounts lists guess is kept.
+      kept_on accounts lists at old.dropped old.taken.items (subst (AreDone accounts) (sym is) (ahead_done tables.items accounts rows guess none)) kept;
+  fits = λ fits. fits;
+}
+
+-- ---- by the cut
+
+-- the bound of what is kept
 bound_before : (at c : ℕ) → at < c → (min at c ≡ at) × (min (at + 1) c ≡ at + 1)
 bound_before at c before = (omega (arith, before), omega (arith, before))
 
 bound_behind : (at c : ℕ) → c ≤ at → (min at c ≡ c) × (min (at + 1) c ≡ c)
 bound_behind at c behind = (omega (arith, behind), omega (arith, behind))
 
-pub bound_done : (accounts : ℕ → Account) (lists : List (List Row)) (at c : ℕ) (ts : List Taken) → AreDone accounts (get_or lists at []) → AreTaken accounts lists 0 (min at c) ts → AreTaken accounts lists 0 (min (at + 1) c) ts
-bound_done accounts lists at c ts done taken = go (cases_lt at c)
+pub bound_done : (accounts : ℕ → Account) (lists : List (List Row)) (at c : ℕ) (log : SiteLog) → AreDone accounts (get_or lists at []) → AreKept accounts lists (min at c) log → AreKept accounts lists (min (at + 1) c) log
+bound_done accounts lists at c log done kept = go (cases_lt at c)
   where
-    go : (at < c) ⊎ (c ≤ at) → AreTaken accounts lists 0 (min (at + 1) c) ts
+    go : (at < c) ⊎ (c ≤ at) → AreKept accounts lists (min (at + 1) c) log
     go (inl before) =
         let b = bound_before at c before in
-        subst (λ (n : ℕ). AreTaken accounts lists 0 n ts) (sym b.1) (taken_on accounts lists 0 at ts done (subst (λ (n : ℕ). AreTaken accounts lists 0 n ts) b.0 taken))
+        subst (λ (n : ℕ). AreKept accounts lists n log) (sym b.1) (kept_on accounts lists at log.dropped log.taken.items done (subst (λ (n : ℕ). AreKept accounts lists n log) b.0 kept))
     go (inr behind) =
         let b = bound_behind at c behind in
-        subst (λ (n : ℕ). AreTaken accounts lists 0 n ts) (sym b.1) (subst (λ (n : ℕ). AreTaken accounts lists 0 n ts) b.0 taken)
+        subst (λ (n : ℕ). AreKept accounts lists n log) (sym b.1) (subst (λ (n : ℕ). AreKept accounts lists n log) b.0 kept)
 
 -- an entry behind the cut is not kept
-pub takes_behind : (old : SiteLog) (at : ℕ) (rows : List Row) → ((all : ℕ) → at < all → length_by old.replay.cut all ≤ at) → Takes old old at rows
-takes_behind old at rows behind = record {
+pub takes_behind : (keeping : Keeping) (old : SiteLog) (at : ℕ) (rows : List Row) → ((all : ℕ) → at < all → length_by old.replay.cut all ≤ at) → Takes keeping old old at rows
+takes_behind keeping old at rows behind = record {
   same = refl;
-  taken = λ accounts lists all below is taken.
+  kept = λ fits accounts lists all guess below is kept.
       let b = bound_behind at (length_by old.replay.cut all) (behind all below) in
-      subst (λ (n : ℕ). AreTaken accounts lists 0 n old.taken.items) (sym b.1) (subst (λ (n : ℕ). AreTaken accounts lists 0 n old.taken.items) b.0 taken);
+      subst (λ (n : ℕ). AreKept accounts lists n old) (sym b.1) (subst (λ (n : ℕ). AreKept accounts lists n old) b.0 kept);
+  fits = λ fits. fits;
 }
 
 -- one that brought nothing
-pub takes_none : (old : SiteLog) (at : ℕ) (rows : List Row) → rows ≡ [] → Takes old old at rows
-takes_none old at rows none = record {
+pub takes_none : (keeping : Keeping) (old : SiteLog) (at : ℕ) (rows : List Row) → rows ≡ [] → Takes keeping old old at rows
+takes_none keeping old at rows none = record {
   same = refl;
-  taken = λ accounts lists all below is taken. bound_done accounts lists at (length_by old.replay.cut all) old.taken.items (λ q there. absurd (subst (StandsIn q) (is ∙ none) there)) taken;
+  kept = λ fits accounts lists all guess below is kept. bound_done accounts lists at (length_by old.replay.cut all) old (λ q there. absurd (subst (StandsIn q) (is ∙ none) there)) kept;
+  fits = λ fits. fits;
 }
 
 -- a merge before it
-pub takes_one : (old new : SiteLog) (at : ℕ) (rows : List Row) (t : Taken) → new.replay ≡ old.replay → new.taken.items ≡ old.taken.items ++ t ∷ [] → t.at ≡ at → t.delta.rows ≡ rows → ((all : ℕ) → at < all → at < length_by old.replay.cut all) → Takes old new at rows
-takes_one old new at rows t same items place is_rows before = record {
-  same = same;
-  taken = λ accounts lists all below is taken.
+pub takes_one : (keeping : Keeping) (old new : SiteLog) (at : ℕ) (rows merged : List Row) → Keeps keeping old new at merged → merged ≡ rows → ((all : ℕ) → at < all → at < length_by old.replay.cut all) → Takes keeping old new at rows
+takes_one keeping old new at rows merged it same before = record {
+  same = it.same;
+  kept = λ fits accounts lists all guess below is kept.
       let b = bound_before at (length_by old.replay.cut all) (before all below) in
-      subst (λ (ts : List Taken). AreTaken accounts lists 0 (min (at + 1) (length_by old.replay.cut all)) ts) (sym items)
-      (subst (λ (n : ℕ). AreTaken accounts lists 0 n (old.taken.items ++ t ∷ [])) (sym b.1)
-      (taken_push accounts lists 0 at old.taken.items t (omega arith) place (is ∙ sym is_rows) (subst (λ (n : ℕ). AreTaken accounts lists 0 n old.taken.items) b.0 taken)));
+      subst (λ (n : ℕ). AreKept accounts lists n new) (sym b.1)
+      (it.kept fits accounts lists guess (is ∙ sym same) (subst (λ (n : ℕ). AreKept accounts lists n old) b.0 kept));
+  fits = it.fits;
 }
+
+-- the replay alone changed
+kept_same : (accounts : ℕ → Account) (lists : List (List Row)) (n : ℕ) (old mid : SiteLog) → mid.taken ≡ old.taken → mid.dropped ≡ old.dropped → AreKept accounts lists n old → AreKept accounts lists n mid
+kept_same accounts lists n old mid taken dropped kept =
+    subst (λ (o : Option ℕ). AreTakenTo accounts lists n o mid.taken.items) (sym dropped) (subst (λ (x : _). AreTakenTo accounts lists n old.dropped x.items) (sym taken) kept)
+
+fits_same : (keeping : Keeping) (old mid : SiteLog) → mid.taken ≡ old.taken → mid.dropped ≡ old.dropped → IsFitting keeping old → IsFitting keeping mid
+fits_same keeping old mid taken dropped fits =
+    subst (λ (o : Option ℕ). FitsKeeping keeping o mid.taken.items) (sym dropped) (subst (λ (x : _). FitsKeeping keeping old.dropped x.items) (sym taken) fits)
 
 -- the cut, by the code's test
 pub cut_before : (cut : Option ℕ) (at : ℕ) → MatchOption cut (Unit {0}) (λ n. at < n) → (all : ℕ) → at < all → at < length_by cut all
@@ -214,12 +329,25 @@ cut_behind (Some n) at behind all below = by (cases_lt at n)
     by (inr fits) = fits
 
 -- before the first line nothing is kept
-pub fresh_is : (layout : LayoutState) (ts : List Transcript) (lengths : List ℕ) (i : ℕ) (log : SiteLog) → IsReplaying layout i (runs_at ts i) [] (runs_at ts i) log.replay → log.replay.at ≡ 0 → log.taken.items ≡ []
-    → get_or lengths i 0 ≡ length_by log.replay.cut (count_of (runs_at ts i)) → IsLog layout ts lengths i [] (runs_at ts i) log
-fresh_is layout ts lengths i log replaying start none same = record {
+fresh_fits : (keeping : Keeping) (o : Option ℕ) (ts : List Taken) → o ≡ None → ts ≡ [] → FitsKeeping keeping o ts
+fresh_fits keeping o ts none nil = subst (λ (x : Option ℕ). FitsKeeping keeping x ts) (sym none) (subst (FitsKeeping keeping None) (sym nil) (at keeping))
+  where
+    lost : (n : ℕ) → IsSome {T = ℕ} None → ◌≡◌ {A = ℕ} 0 n
+    lost n some = let wrong : false ≡ true = some in absurd cc
+
+    at : (k : Keeping) → FitsKeeping k None []
+    at way.All = refl
+    at (way.First most) = (omega arith, lost most)
+    at (way.Above tables) = ((omega arith, lost 1), tt)
+
+pub fresh_is : (keeping : Keeping) (layout : LayoutState) (ts : List Transcript) (lengths : List ℕ) (i : ℕ) (log : SiteLog) → IsReplaying layout i (runs_at ts i) [] (runs_at ts i) log.replay → log.replay.at ≡ 0 → log.taken.items ≡ [] → log.dropped ≡ None
+    → get_or lengths i 0 ≡ length_by log.replay.cut (count_of (runs_at ts i)) → IsLog layout ts lengths i keeping [] (runs_at ts i) log
+fresh_is keeping layout ts lengths i log replaying start nil none same = record {
   replaying = replaying;
   length_is = same;
-  taken = λ going. subst (AreTaken (cut_account layout ts lengths) (site_brought layout ts i) 0 (min (settled_in log) (get_or lengths i 0))) (sym none) (λ k more below. absurd (omega (arith, below, start)));
+  fits = fresh_fits keeping log.dropped log.taken.items none nil;
+  taken = λ going guess. subst (λ (o : Option ℕ). AreTakenTo (cut_account layout ts lengths) (site_brought layout ts i) (min (settled_in log) (get_or lengths i 0)) o log.taken.items) (sym none)
+      (subst (AreTaken (cut_account layout ts lengths) (site_brought layout ts i) 0 (min (settled_in log) (get_or lengths i 0))) (sym nil) (λ k more below. absurd (omega (arith, below, start))));
 }
 
 -- rows of which the first tells no more than was done
@@ -248,14 +376,15 @@ module _ (layout : LayoutState) (ts : List Transcript) (cut : List ℕ) (i : ℕ
           (was_kept r.account r.run later, run_brought layout i (runs_at ts i) r.flags r.before r.n it.at r.account r.reached r.run later left.items e more r.path r.way r.number)
 
   -- the entry is handed back, or stays in doubt
-  pub log_on : (e : Entry) (more : List Entry) (later : List Run) (old mid new : SiteLog) (wanted : Bool) (back : Option Entry) → IsLog layout ts cut i (e ∷ more) later old
+  pub log_on : (keeping : Keeping) (e : Entry) (more : List Entry) (later : List Run) (old mid new : SiteLog) (wanted : Bool) (back : Option Entry) → IsLog layout ts cut i keeping (e ∷ more) later old
       → (wanted ≡ false → AreDone (cut_account layout ts cut) (rows_brought false e)) → (wanted ≡ true → is_accepted false e.reply ≡ true)
-      → IsReplaying layout i (runs_at ts i) more later mid.replay → mid.taken ≡ old.taken → IsHandedBack e mid.replay.stage back → ((¬ HasEnded mid.replay.stage) → left_of old.replay.stage ≡ []) → (HasEnded old.replay.stage → HasEnded mid.replay.stage)
-      → mid.replay.cut ≡ old.replay.cut → mid.replay.at ≡ old.replay.at + 1 → TakesBack mid new old.replay.at wanted back → IsLog layout ts cut i more later new
-  log_on e more later old mid new wanted back log done merged replaying taken handed free ended cut_same at_next takes = record {
+      → IsReplaying layout i (runs_at ts i) more later mid.replay → mid.taken ≡ old.taken → mid.dropped ≡ old.dropped → IsHandedBack e mid.replay.stage back → ((¬ HasEnded mid.replay.stage) → left_of old.replay.stage ≡ []) → (HasEnded old.replay.stage → HasEnded mid.replay.stage)
+      → mid.replay.cut ≡ old.replay.cut → mid.replay.at ≡ old.replay.at + 1 → TakesBack keeping mid new old.replay.at wanted back → IsLog layout ts cut i keeping more later new
+  log_on keeping e more later old mid new wanted back log done merged replaying taken dropped handed free ended cut_same at_next takes = record {
     replaying = subst (λ (r : SiteReplay). IsReplaying layout i (runs_at ts i) more later r) (sym same) replaying;
     length_is = log.length_is ∙ (ap (λ (o : Option ℕ). length_by o all) (sym cut_same) ∙ ap (λ (r : SiteReplay). length_by r.cut all) (sym same));
-    taken = λ going. kept_at (λ over. going (subst (λ (r : SiteReplay). HasEnded r.stage) (sym same) over));
+    fits = back_fits wanted back takes;
+    taken = λ going guess. kept_at (λ over. going (subst (λ (r : SiteReplay). HasEnded r.stage) (sym same) over)) guess;
   }
     where
       all : ℕ
@@ -270,13 +399,21 @@ module _ (layout : LayoutState) (ts : List Transcript) (cut : List ℕ) (i : ℕ
       A : ℕ → Account
       A = cut_account layout ts cut
 
-      back_same : (w : Bool) (b : Option Entry) → TakesBack mid new old.replay.at w b → new.replay ≡ mid.replay
+      back_same : (w : Bool) (b : Option Entry) → TakesBack keeping mid new old.replay.at w b → new.replay ≡ mid.replay
       back_same true (Some x) t = t.same
       back_same true None t = ap (λ (l : SiteLog). l.replay) t
       back_same false b t = ap (λ (l : SiteLog). l.replay) t
 
       same : new.replay ≡ mid.replay
       same = back_same wanted back takes
+
+      mid_fits : IsFitting keeping mid
+      mid_fits = fits_same keeping old mid taken dropped log.fits
+
+      back_fits : (w : Bool) (b : Option Entry) → TakesBack keeping mid new old.replay.at w b → IsFitting keeping new
+      back_fits true (Some x) t = t.fits mid_fits
+      back_fits true None t = subst (IsFitting keeping) (sym t) mid_fits
+      back_fits false b t = subst (IsFitting keeping) (sym t) mid_fits
 
       c_is : length_by mid.replay.cut all ≡ c
       c_is = ap (λ (o : Option ℕ). length_by o all) cut_same ∙ sym log.length_is
@@ -288,47 +425,47 @@ module _ (layout : LayoutState) (ts : List Transcript) (cut : List ℕ) (i : ℕ
       settled_new = ap (λ (r : SiteReplay). r.at - length (left_of r.stage)) same
 
       -- all up to the entry
-      before : (¬ HasEnded mid.replay.stage) → AreTaken A lists 0 (min old.replay.at c) mid.taken.items
-      before going =
+      before : (¬ HasEnded mid.replay.stage) → IsGuess keeping A → AreKept A lists (min old.replay.at c) mid
+      before going guess =
           let none : length (left_of old.replay.stage) ≡ 0 = ap (λ (xs : List Entry). length xs) (free going) in
           let bound : settled_in old ≡ old.replay.at = omega (arith, none) in
-          subst (λ (n : ℕ). AreTaken A lists 0 (min n c) mid.taken.items) bound
-          (subst (λ (x : _). AreTaken A lists 0 (min (settled_in old) c) x.items) (sym taken) (log.taken (λ over. going (ended over))))
+          subst (λ (n : ℕ). AreKept A lists (min n c) mid) bound
+          (kept_same A lists (min (settled_in old) c) old mid taken dropped (log.taken (λ over. going (ended over)) guess))
 
-      further : (¬ HasEnded mid.replay.stage) → (w : Bool) → wanted ≡ w → (x : Entry) → x ≡ e → is_fault e.reply ≡ false → TakesBack mid new old.replay.at w (Some x) → AreTaken A lists 0 (min (old.replay.at + 1) c) new.taken.items
-      further going true is x same_entry plain t =
+      further : (¬ HasEnded mid.replay.stage) → IsGuess keeping A → (w : Bool) → wanted ≡ w → (x : Entry) → x ≡ e → is_fault e.reply ≡ false → TakesBack keeping mid new old.replay.at w (Some x) → AreKept A lists (min (old.replay.at + 1) c) new
+      further going guess true is x same_entry plain t =
           let b = entry_brought e more later old.replay log.replaying (λ over. going (ended over)) in
           let rows : get_or lists old.replay.at [] ≡ merge_rows x.call = b.1 ∙ (plain_reply b.0 e plain ∙ (merge_kept e (merged is) ∙ ap (λ (y : Entry). merge_rows y.call) (sym same_entry))) in
-          subst (λ (n : ℕ). AreTaken A lists 0 (min (old.replay.at + 1) n) new.taken.items) c_is
-          (t.taken A lists all below rows (subst (λ (n : ℕ). AreTaken A lists 0 (min old.replay.at n) mid.taken.items) (sym c_is) (before going)))
-      further going false is x same_entry plain t =
+          subst (λ (n : ℕ). AreKept A lists (min (old.replay.at + 1) n) new) c_is
+          (t.kept mid_fits A lists all guess below rows (subst (λ (n : ℕ). AreKept A lists (min old.replay.at n) mid) (sym c_is) (before going guess)))
+      further going guess false is x same_entry plain t =
           let b = entry_brought e more later old.replay log.replaying (λ over. going (ended over)) in
           let rows : get_or lists old.replay.at [] ≡ rows_brought false e = b.1 ∙ plain_reply b.0 e plain in
-          subst (λ (l : SiteLog). AreTaken A lists 0 (min (old.replay.at + 1) c) l.taken.items) (sym t)
-          (bound_done A lists old.replay.at c mid.taken.items (subst (AreDone A) (sym rows) (done is)) (before going))
+          subst (AreKept A lists (min (old.replay.at + 1) c)) (sym t)
+          (bound_done A lists old.replay.at c mid (subst (AreDone A) (sym rows) (done is)) (before going guess))
 
-      unchanged : (w : Bool) → TakesBack mid new old.replay.at w None → new.taken ≡ mid.taken
-      unchanged true t = ap (λ (l : SiteLog). l.taken) t
-      unchanged false t = ap (λ (l : SiteLog). l.taken) t
+      unchanged : (w : Bool) → TakesBack keeping mid new old.replay.at w None → new ≡ mid
+      unchanged true t = t
+      unchanged false t = t
 
-      kept_at : (¬ HasEnded mid.replay.stage) → AreTaken A lists 0 (min (settled_in new) c) new.taken.items
-      kept_at going = subst (λ (n : ℕ). AreTaken A lists 0 (min n c) new.taken.items) (sym settled_new) (go mid.replay.stage refl back refl)
+      kept_at : (¬ HasEnded mid.replay.stage) → IsGuess keeping A → AreKept A lists (min (settled_in new) c) new
+      kept_at going guess = subst (λ (n : ℕ). AreKept A lists (min n c) new) (sym settled_new) (go mid.replay.stage refl back refl)
         where
-          go : (s : Stage) → mid.replay.stage ≡ s → (b : Option Entry) → back ≡ b → AreTaken A lists 0 (min (settled_in mid) c) new.taken.items
+          go : (s : Stage) → mid.replay.stage ≡ s → (b : Option Entry) → back ≡ b → AreKept A lists (min (settled_in mid) c) new
           go Fresh is b is_back = let none = (subst (IsStage layout i (runs_at ts i) more later mid.replay.at) is replaying.stage).1.1 in absurd (omega (arith, none, at_next))
           go (Ended fault) is b is_back = absurd (going (subst HasEnded (sym is) tt))
           go (Open core left) is (Some x) is_back =
               let h : IsHandedBack e (Open core left) (Some x) = subst (λ (o : Option Entry). IsHandedBack e (Open core left) o) is_back (subst (λ (s : Stage). IsHandedBack e s back) is handed) in
               let none : length (left_of mid.replay.stage) ≡ 0 = ap (λ (s : Stage). length (left_of s)) is ∙ ap (λ (xs : List Entry). length xs) h.1.0 in
               let bound : settled_in mid ≡ old.replay.at + 1 = omega (arith, none, at_next) in
-              subst (λ (n : ℕ). AreTaken A lists 0 (min n c) new.taken.items) (sym bound)
-              (further going wanted refl x h.0 h.1.1 (subst (TakesBack mid new old.replay.at wanted) is_back takes))
+              subst (λ (n : ℕ). AreKept A lists (min n c) new) (sym bound)
+              (further going guess wanted refl x h.0 h.1.1 (subst (TakesBack keeping mid new old.replay.at wanted) is_back takes))
           go (Open core left) is None is_back =
               let h : IsHandedBack e (Open core left) None = subst (λ (o : Option Entry). IsHandedBack e (Open core left) o) is_back (subst (λ (s : Stage). IsHandedBack e s back) is handed) in
               let one : length (left_of mid.replay.stage) ≡ 1 = ap (λ (s : Stage). length (left_of s)) is ∙ ap (λ (xs : List Entry). length xs) h in
               let bound : settled_in mid ≡ old.replay.at = omega (arith, one, at_next) in
-              subst (λ (n : ℕ). AreTaken A lists 0 (min n c) new.taken.items) (sym bound)
-              (subst (λ (x : _). AreTaken A lists 0 (min old.replay.at c) x.items) (sym (unchanged wanted (subst (TakesBack mid new old.replay.at wanted) is_back takes))) (before going))
+              subst (λ (n : ℕ). AreKept A lists (min n c) new) (sym bound)
+              (subst (AreKept A lists (min old.replay.at c)) (sym (unchanged wanted (subst (TakesBack keeping mid new old.replay.at wanted) is_back takes))) (before going guess))
 
   -- ---- a run begins
 
@@ -341,13 +478,14 @@ module _ (layout : LayoutState) (ts : List Transcript) (cut : List ℕ) (i : ℕ
       go [] end = inl refl
       go (d ∷ ds) end = inr (d, ap (λ (ys : List Entry). d ∷ ys) end.1)
 
-  pub log_begun : (next : Run) (later : List Run) (old mid new : SiteLog) (kept : List Entry) → IsLog layout ts cut i [] (next ∷ later) old → IsReplaying layout i (runs_at ts i) next.entries later mid.replay → mid.taken ≡ old.taken
+  pub log_begun : (keeping : Keeping) (next : Run) (later : List Run) (old mid new : SiteLog) (kept : List Entry) → IsLog layout ts cut i keeping [] (next ∷ later) old → IsReplaying layout i (runs_at ts i) next.entries later mid.replay → mid.taken ≡ old.taken → mid.dropped ≡ old.dropped
       → left_of mid.replay.stage ≡ [] → (left_of old.replay.stage ≡ [] → kept ≡ []) → ((d : Entry) → left_of old.replay.stage ≡ d ∷ [] → (¬ HasEnded mid.replay.stage) → IsSettled layout i (runs_at ts i) (next ∷ later) old.replay.at d kept)
-      → (HasEnded old.replay.stage → HasEnded mid.replay.stage) → mid.replay.cut ≡ old.replay.cut → mid.replay.at ≡ old.replay.at → TakesKept mid new old.replay.at kept → IsLog layout ts cut i next.entries later new
-  log_begun next later old mid new kept log replaying taken none idle settles ended cut_same at_same takes = record {
+      → (HasEnded old.replay.stage → HasEnded mid.replay.stage) → mid.replay.cut ≡ old.replay.cut → mid.replay.at ≡ old.replay.at → TakesKept keeping mid new old.replay.at kept → IsLog layout ts cut i keeping next.entries later new
+  log_begun keeping next later old mid new kept log replaying taken dropped none idle settles ended cut_same at_same takes = record {
     replaying = subst (λ (r : SiteReplay). IsReplaying layout i (runs_at ts i) next.entries later r) (sym same) replaying;
     length_is = log.length_is ∙ (ap (λ (o : Option ℕ). length_by o all) (sym cut_same) ∙ ap (λ (r : SiteReplay). length_by r.cut all) (sym same));
-    taken = λ going. kept_at (λ over. going (subst (λ (r : SiteReplay). HasEnded r.stage) (sym same) over));
+    fits = kept_fits kept takes;
+    taken = λ going guess. kept_at (λ over. going (subst (λ (r : SiteReplay). HasEnded r.stage) (sym same) over)) guess;
   }
     where
       all : ℕ
@@ -362,13 +500,21 @@ module _ (layout : LayoutState) (ts : List Transcript) (cut : List ℕ) (i : ℕ
       A : ℕ → Account
       A = cut_account layout ts cut
 
-      kept_same : (xs : List Entry) → TakesKept mid new old.replay.at xs → new.replay ≡ mid.replay
-      kept_same [] t = ap (λ (l : SiteLog). l.replay) t
-      kept_same (x ∷ []) t = t.same
-      kept_same (x ∷ (y ∷ ys)) t = t
+      replay_same : (xs : List Entry) → TakesKept keeping mid new old.replay.at xs → new.replay ≡ mid.replay
+      replay_same [] t = ap (λ (l : SiteLog). l.replay) t
+      replay_same (x ∷ []) t = t.same
+      replay_same (x ∷ (y ∷ ys)) t = t.0
 
       same : new.replay ≡ mid.replay
-      same = kept_same kept takes
+      same = replay_same kept takes
+
+      mid_fits : IsFitting keeping mid
+      mid_fits = fits_same keeping old mid taken dropped log.fits
+
+      kept_fits : (xs : List Entry) → TakesKept keeping mid new old.replay.at xs → IsFitting keeping new
+      kept_fits [] t = subst (IsFitting keeping) (sym t) mid_fits
+      kept_fits (x ∷ []) t = t.fits mid_fits
+      kept_fits (x ∷ (y ∷ ys)) t = t.1 mid_fits
 
       c_is : length_by mid.replay.cut all ≡ c
       c_is = ap (λ (o : Option ℕ). length_by o all) cut_same ∙ sym log.length_is
@@ -379,44 +525,44 @@ module _ (layout : LayoutState) (ts : List Transcript) (cut : List ℕ) (i : ℕ
           let there : settled_in new ≡ settled_in mid = ap (λ (r : SiteReplay). r.at - length (left_of r.stage)) same in
           omega (arith, there, size, at_same)
 
-      old_taken : (¬ HasEnded mid.replay.stage) → AreTaken A lists 0 (min (settled_in old) c) mid.taken.items
-      old_taken going = subst (λ (x : _). AreTaken A lists 0 (min (settled_in old) c) x.items) (sym taken) (log.taken (λ over. going (ended over)))
+      old_kept : (¬ HasEnded mid.replay.stage) → IsGuess keeping A → AreKept A lists (min (settled_in old) c) mid
+      old_kept going guess = kept_same A lists (min (settled_in old) c) old mid taken dropped (log.taken (λ over. going (ended over)) guess)
 
-      kept_at : (¬ HasEnded mid.replay.stage) → AreTaken A lists 0 (min (settled_in new) c) new.taken.items
-      kept_at going = subst (λ (n : ℕ). AreTaken A lists 0 (min n c) new.taken.items) (sym settled_new) (go (left_cases [] (next ∷ later) old.replay.at old.replay.stage log.replaying.stage))
+      kept_at : (¬ HasEnded mid.replay.stage) → IsGuess keeping A → AreKept A lists (min (settled_in new) c) new
+      kept_at going guess = subst (λ (n : ℕ). AreKept A lists (min n c) new) (sym settled_new) (go (left_cases [] (next ∷ later) old.replay.at old.replay.stage log.replaying.stage))
         where
-          nothing_kept : (xs : List Entry) → xs ≡ [] → TakesKept mid new old.replay.at xs → new ≡ mid
+          nothing_kept : (xs : List Entry) → xs ≡ [] → TakesKept keeping mid new old.replay.at xs → new ≡ mid
           nothing_kept [] is t = t
           nothing_kept (x ∷ xs) is t = absurd (let size : length (x ∷ xs) ≡ 0 = ap (λ (ys : List Entry). length ys) is in omega (arith, size))
 
-          doubt : (d : Entry) → left_of old.replay.stage ≡ d ∷ [] → (s : IsSettled layout i (runs_at ts i) (next ∷ later) old.replay.at d kept) → (flag : Bool) → was_kept s.account s.run (next ∷ later) ≡ flag → AreTaken A lists 0 (min old.replay.at c) new.taken.items
+          doubt : (d : Entry) → left_of old.replay.stage ≡ d ∷ [] → (s : IsSettled layout i (runs_at ts i) (next ∷ later) old.replay.at d kept) → (flag : Bool) → was_kept s.account s.run (next ∷ later) ≡ flag → AreKept A lists (min old.replay.at c) new
           doubt d is s flag is_flag =
               let size : length (left_of old.replay.stage) ≡ 1 = ap (λ (xs : List Entry). length xs) is in
               let last : old.replay.at - 1 ≡ (s.before + s.n) + 0 = omega (arith, s.number) in
               let back_on : (old.replay.at - 1) + 1 ≡ old.replay.at = omega (arith, s.number) in
               let bound : settled_in old ≡ old.replay.at - 1 = omega (arith, size) in
               let brought_here = run_brought layout i (runs_at ts i) s.flags s.before s.n (old.replay.at - 1) s.account s.reached s.run (next ∷ later) [] d [] s.path s.way last in
-              let taken_so = subst (λ (n : ℕ). AreTaken A lists 0 (min n c) mid.taken.items) bound (old_taken going) in
+              let kept_so = subst (λ (n : ℕ). AreKept A lists (min n c) mid) bound (old_kept going guess) in
               let below : old.replay.at - 1 < all = omega (arith, replaying.entries, at_same, s.number) in
-              subst (λ (n : ℕ). AreTaken A lists 0 (min n c) new.taken.items) back_on (by flag is_flag brought_here taken_so below)
+              subst (λ (n : ℕ). AreKept A lists (min n c) new) back_on (by flag is_flag brought_here kept_so below)
             where
-              by : (f : Bool) → was_kept s.account s.run (next ∷ later) ≡ f → get_or lists (old.replay.at - 1) [] ≡ rows_brought (was_kept s.account s.run (next ∷ later)) d → AreTaken A lists 0 (min (old.replay.at - 1) c) mid.taken.items → old.replay.at - 1 < all → AreTaken A lists 0 (min ((old.replay.at - 1) + 1) c) new.taken.items
+              by : (f : Bool) → was_kept s.account s.run (next ∷ later) ≡ f → get_or lists (old.replay.at - 1) [] ≡ rows_brought (was_kept s.account s.run (next ∷ later)) d → AreKept A lists (min (old.replay.at - 1) c) mid → old.replay.at - 1 < all → AreKept A lists (min ((old.replay.at - 1) + 1) c) new
               by true f_is rows so below =
                   let one : kept ≡ d ∷ [] = s.is_kept ∙ ap (λ (b : Bool). cond b (d ∷ []) []) f_is in
-                  let t : Takes mid new (old.replay.at - 1) (merge_rows d.call) = subst (TakesKept mid new old.replay.at) one takes in
+                  let t : Takes keeping mid new (old.replay.at - 1) (merge_rows d.call) = subst (TakesKept keeping mid new old.replay.at) one takes in
                   let here = rows ∙ (ap (λ (b : Bool). rows_brought b d) f_is ∙ doubt_kept d s.fault) in
-                  subst (λ (n : ℕ). AreTaken A lists 0 (min ((old.replay.at - 1) + 1) n) new.taken.items) c_is
-                  (t.taken A lists all below here (subst (λ (n : ℕ). AreTaken A lists 0 (min (old.replay.at - 1) n) mid.taken.items) (sym c_is) so))
+                  subst (λ (n : ℕ). AreKept A lists (min ((old.replay.at - 1) + 1) n) new) c_is
+                  (t.kept mid_fits A lists all guess below here (subst (λ (n : ℕ). AreKept A lists (min (old.replay.at - 1) n) mid) (sym c_is) so))
               by false f_is rows so below =
                   let nil : kept ≡ [] = s.is_kept ∙ ap (λ (b : Bool). cond b (d ∷ []) []) f_is in
                   let here = rows ∙ (ap (λ (b : Bool). rows_brought b d) f_is ∙ doubt_lost d s.fault) in
-                  subst (λ (l : SiteLog). AreTaken A lists 0 (min ((old.replay.at - 1) + 1) c) l.taken.items) (sym (nothing_kept kept nil takes))
-                  (bound_done A lists (old.replay.at - 1) c mid.taken.items (none_done A lists (get_or lists (old.replay.at - 1) []) here) so)
+                  subst (AreKept A lists (min ((old.replay.at - 1) + 1) c)) (sym (nothing_kept kept nil takes))
+                  (bound_done A lists (old.replay.at - 1) c mid (none_done A lists (get_or lists (old.replay.at - 1) []) here) so)
 
-          go : (left_of old.replay.stage ≡ []) ⊎ ((d : Entry) × (left_of old.replay.stage ≡ d ∷ [])) → AreTaken A lists 0 (min old.replay.at c) new.taken.items
+          go : (left_of old.replay.stage ≡ []) ⊎ ((d : Entry) × (left_of old.replay.stage ≡ d ∷ [])) → AreKept A lists (min old.replay.at c) new
           go (inl nil) =
               let size : length (left_of old.replay.stage) ≡ 0 = ap (λ (xs : List Entry). length xs) nil in
               let bound : settled_in old ≡ old.replay.at = omega (arith, size) in
-              subst (λ (l : SiteLog). AreTaken A lists 0 (min old.replay.at c) l.taken.items) (sym (nothing_kept kept (idle nil) takes))
-              (subst (λ (n : ℕ). AreTaken A lists 0 (min n c) mid.taken.items) bound (old_taken going))
+              subst (AreKept A lists (min old.replay.at c)) (sym (nothing_kept kept (idle nil) takes))
+              (subst (λ (n : ℕ). AreKept A lists (min n c) mid) bound (old_kept going guess))
           go (inr (d, is)) = let s = settles d is going in doubt d is s (was_kept s.account s.run (next ∷ later)) refl

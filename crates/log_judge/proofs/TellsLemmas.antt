@@ -23,7 +23,7 @@ use Rattle.log_judge.specs.Judging.{AreHistories}
 use Rattle.log_judge.proofs.LeadsLemmas.{leads_at, start_leads, reached_at}
 
 -- a row that is not there tells nothing
-none_told : (cell : Cell) → counter_in (counters_of no_row) cell ≡ 0
+pub none_told : (cell : Cell) → counter_in (counters_of no_row) cell ≡ 0
 none_told (Out j) = get_or_past [] j 0 (omega arith)
 none_told Taken = refl
 none_told Ann = refl

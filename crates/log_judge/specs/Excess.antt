@@ -21,6 +21,14 @@ own_in tables s r = slice_index_or (slice_index_or tables s []) r no_row
 abbrev pub IsAbove : RowCounters → RowCounters → Type 0
 IsAbove p q = (cell : Cell) × (counter_in q cell < counter_in p cell)
 
+-- no own row of some tables has a counter above that of others
+abbrev pub AreWithin : List (List Row) → List (List Row) → Type 0
+AreWithin tables others = (s r : ℕ) → ¬ IsAbove (counters_of (own_in tables s r)) (counters_of (own_in others s r))
+
+-- the counters are equal
+abbrev pub AreSame : List (List Row) → List (List Row) → Type 0
+AreSame tables others = AreWithin tables others × AreWithin others tables
+
 -- the row is above what its site has done
 abbrev pub IsAhead : List (List Row) → Row → Type 0
 IsAhead tables p = IsAbove (counters_of p) (counters_of (own_in tables p.s p.r))

@@ -39,7 +39,7 @@ fn is_above(xs: &[u64], ys: &[u64]) -> bool
 }
 
 // Whether some counter of a row is above these.
-fn is_row_above(row: &Row, out: &[u64], taken: u64, ann: u64, fin: u64) -> bool
+pub(crate) fn is_row_above(row: &Row, out: &[u64], taken: u64, ann: u64, fin: u64) -> bool
     ensures { IsTrue result ↔ IsAbove (counters_of row.now) (record { out = out.now; taken = taken; ann = ann; fin = fin }) }
 {
     if row.taken > taken {

@@ -3,6 +3,7 @@
 
 pub use cut::{full_cut, is_cut};
 pub use judging::{are_of_sites, judge};
+pub use keeping::Keeping;
 pub use stream::Logs;
 pub use table::cut_table;
 pub use verdict::Verdict;
@@ -10,6 +11,7 @@ pub use verdict::Verdict;
 mod cut;
 mod excess;
 mod judging;
+mod keeping;
 pub mod laws;
 mod stream;
 mod table;

@@ -13,22 +13,23 @@ use Rattle.serve_engine.specs.declared.marks.Marking.{Marking}
 use Rattle.program_shell.specs.Services.{EndsAsk, EndsServe}
 use Rattle.program_shell.specs.Shell.{EndsCommand}
 
-module _ (t : Ghosts (NotedState StreamState)) (u : Ghosts (NotedState OneLineState)) (lengths : Option (List ℕ)) (layout : LayoutState) (source source_after : SourceState)
+module _ (t : Ghosts (NotedState StreamState)) (u : Ghosts (NotedState OneLineState)) {F : Type 0} (remaining : F → Option (List ℕ)) (lengths : Option (List ℕ)) (layout : LayoutState) (source source_after : SourceState)
     (sink sink_after errors errors_after : SinkState) (code : ℕ) where
-  abbrev Ends : Command → Option Text → Option Text → Option Text → List ℕ → List (Option Text) → Type 0
-  Ends command out log group others words =
-      EndsCommand t u command lengths out log group others words layout source source_after sink sink_after errors errors_after code
+  abbrev Ends : Command → Option Text → Option Text → Option Text → List ℕ → List Text → List (Option Text) → Type 0
+  Ends command out log group others logs words =
+      EndsCommand t u remaining command lengths out log group others logs words layout source source_after sink sink_after errors errors_after code
 
-  pub carried_by : (c d : Command) (o p l m g h : Option Text) (xs ys : List ℕ) (ws vs : List (Option Text)) → c ≡ d → o ≡ p → l ≡ m → g ≡ h → xs ≡ ys → ws ≡ vs
-      → EndsCommand t u c lengths o l g xs ws layout source source_after sink sink_after errors errors_after code
-      → EndsCommand t u d lengths p m h ys vs layout source source_after sink sink_after errors errors_after code
-  carried_by c d o p l m g h xs ys ws vs same_command same_out same_log same_group same_others same_words ends =
-      subst (λ (x : List (Option Text)). Ends d p m h ys x) same_words
-      (subst (λ (x : List ℕ). Ends d p m h x ws) same_others
-      (subst (λ (x : Option Text). Ends d p m x xs ws) same_group
-      (subst (λ (x : Option Text). Ends d p x g xs ws) same_log
-      (subst (λ (x : Option Text). Ends d x l g xs ws) same_out
-      (subst (λ (x : Command). Ends x o l g xs ws) same_command ends)))))
+  pub carried_by : (c d : Command) (o p l m g h : Option Text) (xs ys : List ℕ) (ks js : List Text) (ws vs : List (Option Text)) → c ≡ d → o ≡ p → l ≡ m → g ≡ h → xs ≡ ys → ks ≡ js → ws ≡ vs
+      → EndsCommand t u remaining c lengths o l g xs ks ws layout source source_after sink sink_after errors errors_after code
+      → EndsCommand t u remaining d lengths p m h ys js vs layout source source_after sink sink_after errors errors_after code
+  carried_by c d o p l m g h xs ys ks js ws vs same_command same_out same_log same_group same_others same_logs same_words ends =
+      subst (λ (x : List (Option Text)). Ends d p m h ys js x) same_words
+      (subst (λ (x : List Text). Ends d p m h ys x ws) same_logs
+      (subst (λ (x : List ℕ). Ends d p m h x ks ws) same_others
+      (subst (λ (x : Option Text). Ends d p m x xs ks ws) same_group
+      (subst (λ (x : Option Text). Ends d p x g xs ks ws) same_log
+      (subst (λ (x : Option Text). Ends d x l g xs ks ws) same_out
+      (subst (λ (x : Command). Ends x o l g xs ks ws) same_command ends))))))
 
 -- A service is opened by what the arguments say of it.
 module _ (u : Ghosts (NotedState OneLineState)) (layout : LayoutState) (words : List (Option Text)) (sink sink_after errors errors_after : SinkState) (code : ℕ) where

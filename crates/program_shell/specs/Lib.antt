@@ -4,4 +4,5 @@ pub mod Runs
 pub mod Services
 pub mod Moves
 pub mod Together
+pub mod ClosedLogs
 pub mod Shell

@@ -15,13 +15,12 @@ use Rattle.layout_file.specs.declared.fault.LayoutFault.TheVariants as layout
 use Rattle.layout_file.specs.declared.refusal.LayoutRefusal.{LayoutRefusal}
 use Rattle.exit_status.specs.declared.status.Status.{Status}
 use Rattle.exit_status.specs.declared.status.Status.TheVariants.{Done, Memory, Io}
-use Rattle.command_arguments.specs.Arguments.{asked_command, asked_cut, asked_group, asked_layout, asked_log, asked_lost, asked_out, asked_words, usage_errors}
+use Rattle.command_arguments.specs.Arguments.{asked_command, asked_cut, asked_group, asked_layout, asked_log, asked_logs, asked_lost, asked_out, asked_words, usage_errors}
 use Rattle.exit_status.specs.Endings.{EndsWith}
 use Rattle.join_engine.specs.Engine.{EndsJoin}
 use Rattle.judge_engine.specs.declared.cut.CutError.{CutError}
 use Rattle.judge_engine.specs.declared.cut.CutError.TheVariants as cut
 use Rattle.judge_engine.specs.Cuts.{IsCutFault, cut_in}
-use Rattle.judge_engine.specs.Engine.{EndsJudge}
 use Rattle.layout_file.specs.LayoutFile.{ReadsLayoutFile, built_in_layout, whole_refusal}
 use Rattle.play_engine.specs.Plays.{EndsPlay}
 use Rattle.stored_site.specs.Databases.{EndsStored}
@@ -30,6 +29,7 @@ use Rattle.line_conversation.specs.declared.conversation.Conversation.{Ghosts}
 use Rattle.service_talk.specs.Notes.{NotedState}
 use Rattle.service_talk.specs.OneLine.{OneLineState}
 use Rattle.program_shell.specs.declared.group.GroupFault.{GroupFault}
+use Rattle.program_shell.specs.ClosedLogs.{EndsJudgeOf}
 use Rattle.program_shell.specs.Groups.{group_fault, group_text}
 use Rattle.program_shell.specs.Moves.{EndsRebuild, EndsRegroup}
 use Rattle.program_shell.specs.Refusals.{EndsWithoutLayout}
@@ -114,33 +114,33 @@ EndsBy Ends errors errors_after code = (ended : Status) × Ends ended × EndsWit
 
 module _ (t : Ghosts (NotedState StreamState)) (u : Ghosts (NotedState OneLineState)) where
   -- a command under a layout: what its engine did, and how the program ended
-  abbrev pub EndsCommand : Command → Option (List ℕ) → Option Text → Option Text → Option Text → List ℕ → List (Option Text) → LayoutState → SourceState → SourceState → SinkState → SinkState
+  abbrev pub EndsCommand : {F : Type 0} → (F → Option (List ℕ)) → Command → Option (List ℕ) → Option Text → Option Text → Option Text → List ℕ → List Text → List (Option Text) → LayoutState → SourceState → SourceState → SinkState → SinkState
       → SinkState → SinkState → ℕ → Type 0
-  EndsCommand Join lengths out log group others words layout source source_after sink sink_after errors errors_after code =
+  EndsCommand remaining Join lengths out log group others logs words layout source source_after sink sink_after errors errors_after code =
       EndsBy (EndsJoin (shape_of layout) source source_after sink sink_after) errors errors_after code
-  EndsCommand (Play tables first) lengths out log group others words layout source source_after sink sink_after errors errors_after code =
+  EndsCommand remaining (Play tables first) lengths out log group others logs words layout source source_after sink sink_after errors errors_after code =
       EndsBy (EndsPlay layout first tables source source_after sink sink_after) errors errors_after code
-  EndsCommand (Site site) lengths out log group others words layout source source_after sink sink_after errors errors_after code =
+  EndsCommand remaining (Site site) lengths out log group others logs words layout source source_after sink sink_after errors errors_after code =
       EndsBy (EndsStored layout site source source_after sink sink_after) errors errors_after code
-  EndsCommand (Serve serving) lengths out log group others words layout source source_after sink sink_after errors errors_after code =
+  EndsCommand remaining (Serve serving) lengths out log group others logs words layout source source_after sink sink_after errors errors_after code =
       EndsServe t serving.together layout serving.site group (marking_of serving.plain) log source source_after sink sink_after errors errors_after code
-  EndsCommand (Ask serving) lengths out log group others words layout source source_after sink sink_after errors errors_after code =
+  EndsCommand remaining (Ask serving) lengths out log group others logs words layout source source_after sink sink_after errors errors_after code =
       (source_after ≡ source) × EndsAsk u layout serving.site group (marking_of serving.plain) log words sink sink_after errors errors_after code
-  EndsCommand (Regroup site) lengths out log group others words layout source source_after sink sink_after errors errors_after code =
+  EndsCommand remaining (Regroup site) lengths out log group others logs words layout source source_after sink sink_after errors errors_after code =
       (source_after ≡ source) × EndsRegroup layout site (unwrap_or group []) sink sink_after errors errors_after code
-  EndsCommand (Rebuild site) lengths out log group others words layout source source_after sink sink_after errors errors_after code =
+  EndsCommand remaining (Rebuild site) lengths out log group others logs words layout source source_after sink sink_after errors errors_after code =
       EndsRebuild layout site others (unwrap_or group []) source source_after sink sink_after errors errors_after code
-  EndsCommand Judge lengths out log group others words layout source source_after sink sink_after errors errors_after code =
-      EndsBy (EndsJudge layout lengths source source_after sink sink_after) errors errors_after code
-  EndsCommand (Run turns) lengths out log group others words layout source source_after sink sink_after errors errors_after code =
+  EndsCommand remaining Judge lengths out log group others logs words layout source source_after sink sink_after errors errors_after code =
+      EndsJudgeOf remaining logs lengths layout source source_after sink sink_after errors errors_after code
+  EndsCommand remaining (Run turns) lengths out log group others logs words layout source source_after sink sink_after errors errors_after code =
       EndsBy (EndsRunTo out layout source source_after sink sink_after) errors errors_after code
 
   -- a command under what was found for a layout: without a layout nothing is read or written
-  abbrev pub EndsUnder : Command → Option (List ℕ) → Option Text → Option Text → Option Text → List ℕ → List (Option Text) → Result LayoutState LayoutRefusal → SourceState → SourceState
+  abbrev pub EndsUnder : {F : Type 0} → (F → Option (List ℕ)) → Command → Option (List ℕ) → Option Text → Option Text → Option Text → List ℕ → List Text → List (Option Text) → Result LayoutState LayoutRefusal → SourceState → SourceState
       → SinkState → SinkState → SinkState → SinkState → ℕ → Type 0
-  EndsUnder command lengths out log group others words (Ok layout) source source_after sink sink_after errors errors_after code =
-      EndsCommand command lengths out log group others words layout source source_after sink sink_after errors errors_after code
-  EndsUnder command lengths out log group others words (Err refusal) source source_after sink sink_after errors errors_after code =
+  EndsUnder remaining command lengths out log group others logs words (Ok layout) source source_after sink sink_after errors errors_after code =
+      EndsCommand remaining command lengths out log group others logs words layout source source_after sink sink_after errors errors_after code
+  EndsUnder remaining command lengths out log group others logs words (Err refusal) source source_after sink sink_after errors errors_after code =
       (source_after ≡ source) × (sink_after ≡ sink) × EndsWithoutLayout command refusal errors errors_after code
 
   -- a command is asked for, and that one was carried out under the cut and the layout that the arguments name
@@ -153,7 +153,7 @@ module _ (t : Ghosts (NotedState StreamState)) (u : Ghosts (NotedState OneLineSt
     pub one_of_both : is_logged_together (asked_command arguments) (asked_log arguments) ≡ false
     pub layout : Result LayoutState LayoutRefusal
     pub found : FindsLayout remaining (asked_layout arguments) layout
-    pub carried_out : EndsUnder (asked_command arguments) lengths (asked_out arguments) (asked_log arguments) (asked_group arguments) (asked_lost arguments) (asked_words arguments) layout source source_after sink sink_after
+    pub carried_out : EndsUnder remaining (asked_command arguments) lengths (asked_out arguments) (asked_log arguments) (asked_group arguments) (asked_lost arguments) (asked_logs arguments) (asked_words arguments) layout source source_after sink sink_after
         errors errors_after code
 
 -- a command is asked for, and a word that names no cut, or memory ran out: nothing is read or written

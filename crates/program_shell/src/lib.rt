@@ -4,6 +4,7 @@
 
 pub use shell::{run, run_with};
 
+mod closed_logs;
 mod group;
 mod logs_file;
 mod moves;

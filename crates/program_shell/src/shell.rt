@@ -4,6 +4,7 @@ ghost use Rattle.command_arguments.specs.Arguments.{words_of};
 ghost use Rattle.program_shell.specs.Services.{marking_of};
 ghost use Rattle.program_shell.specs.Shell.{EndsCommand, EndsUnasked, EndsWithoutCut, EndsUnread, FindsBuiltIn, FindsCut, FindsFile, IsUnopened, RunsProgram, unopened};
 
+use crate::closed_logs::judge_logs;
 use crate::group::{end_without_group, group_fault};
 use crate::logs_file::run_sites;
 use crate::moves::{rebuild_site, regroup_site};
@@ -15,7 +16,7 @@ use clap::error::ErrorKind as UsageKind;
 use command_arguments::{Command, Request, Serving, requested};
 use exit_status::Status;
 use join_engine::join_engine;
-use judge_engine::{Cut, CutError, judge_engine};
+use judge_engine::{Cut, CutError};
 use layout_file::{LayoutFault, LayoutRefusal, built_in, read_layout_file};
 use line_conversation::{Conversation, StreamConversation};
 use live_databases::{LiveDatabases, Opening, Service};
@@ -131,8 +132,9 @@ fn carry_out<
     sink: Sink<O>,
     errors: &mut Sink<E>,
 ) -> (u8, Source<I>, Sink<O>)
-    ensures { EndsCommand ⟦<Noted<StreamConversation<I, O>> as Conversation>⟧ ⟦<Noted<OneLine<'static, O>> as Conversation>⟧ asked.now.command cut.now
-        (option_map (λ path. path.now) asked.now.out) (option_map (λ path. path.now) asked.now.log) (option_copied asked.now.group) asked.now.lost.items (words_of asked.now.words) layout source result.1 sink result.2 errors.old errors.new result.0 }
+    ensures { EndsCommand ⟦<Noted<StreamConversation<I, O>> as Conversation>⟧ ⟦<Noted<OneLine<'static, O>> as Conversation>⟧ R.File.Read.remaining asked.now.command cut.now
+        (option_map (λ path. path.now) asked.now.out) (option_map (λ path. path.now) asked.now.log) (option_copied asked.now.group) asked.now.lost.items
+        (map (λ path. path.now) asked.now.logs.items) (words_of asked.now.words) layout source result.1 sink result.2 errors.old errors.new result.0 }
 {
     let mut source = source;
     let mut sink = sink;
@@ -181,8 +183,9 @@ fn carry_out<
             (code, source, sink)
         }
         Command::Judge => {
-            let ended = judge_engine(rt.alloc(), &layout, cut, &mut source, &mut sink);
-            (ended.end(errors), source, sink)
+            let paths = asked.logs.as_slice();
+            let code = judge_logs(rt, paths, &layout, cut, &mut source, &mut sink, errors);
+            (code, source, sink)
         }
         Command::Run { turns } => {
             let turns = u64::from(turns.min(1000)); // clap has refused more

@@ -8,6 +8,8 @@ mod input;
 #[cfg(test)]
 mod joins;
 #[cfg(test)]
+mod judged_files;
+#[cfg(test)]
 mod judges;
 #[cfg(test)]
 mod layouts;

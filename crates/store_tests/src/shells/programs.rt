@@ -294,7 +294,7 @@ static WRONG: [Wrong; 18] = [
     ),
     (
         &[b"seat_cli", b"judge", b"--cut=1", b"--cut=2"],
-        "error: the argument '--cut <C>' cannot be used multiple times\n\nUsage: seat_cli judge [--cut C] [--layout FILE]\n\nFor more information, try '--help'.\n",
+        "error: the argument '--cut <C>' cannot be used multiple times\n\nUsage: seat_cli judge [--cut C] [--layout FILE] [--logs FILE ..]\n\nFor more information, try '--help'.\n",
     ),
     // a word that names no cut is refused before the layout is looked for
     (

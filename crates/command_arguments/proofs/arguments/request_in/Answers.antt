@@ -1,7 +1,7 @@
 use Rattle.std.proofs.Common.{◌∙◌, codes, sym}
 use Rattle.clap.specs.Words.{found_of, subcommand_rows_of}
 use Rattle.clap.proofs.WalkLemmas.{first_value-rows}
-use Rattle.command_arguments.proofs.ArgumentLemmas.{lost_of_rows, value_of_rows, words_of_rows}
+use Rattle.command_arguments.proofs.ArgumentLemmas.{logs_of_rows, lost_of_rows, value_of_rows, words_of_rows}
 use Rattle.command_arguments.proofs.arguments.request_in.Goals as goal
 
 pub returns-clause-layout : goal.returns-clause-layout
@@ -41,3 +41,7 @@ returns-clause-words c =
 pub returns-clause-lost : goal.returns-clause-lost
 returns-clause-lost c =
     c.in_ok-lost.ensures ∙ lost_of_rows (subcommand_rows_of c.args.matches.now) _ (sym c.in-Some.ensures.rows)
+
+pub returns-clause-logs : goal.returns-clause-logs
+returns-clause-logs c =
+    c.in_ok-logs.ensures ∙ logs_of_rows (subcommand_rows_of c.args.matches.now) _ (sym c.in-Some.ensures.rows)

@@ -1,7 +1,7 @@
 use Rattle.std.proofs.Common.{rules, ◌≡◌, ◌∙◌, ap, map, sym, subst, string_bytes, codes, arith}
 use Rattle.clap.specs.Words.{FailsBy, app_of, fault_of, is_simple, is_simple_and_free}
 use Rattle.command_arguments.specs.Arguments.{program}
-use Rattle.command_arguments.proofs.ArgumentLemmas.{command_met, errors_by_clap, lost_met, more_texts, value_met, words_met}
+use Rattle.command_arguments.proofs.ArgumentLemmas.{command_met, errors_by_clap, logs_met, lost_met, more_texts, value_met, words_met}
 use Rattle.command_arguments.proofs.arguments.requested.Goals as goal
 
 pub returns-clause-refused : goal.returns-clause-refused
@@ -91,3 +91,11 @@ returns-clause-lost c =
     let parser_is : a ≡ program = c.in_ok-parser.ensures in
     let meets = (c.in_ok-matches.ensures.matches (ap is_simple parser_is)).1 in
     c.in_ok-asked.ensures.lost ∙ lost_met a _ texts (more_texts string_bytes c.args.arguments.now (omega arith)) parser_is meets
+
+pub returns-clause-logs : goal.returns-clause-logs
+returns-clause-logs c =
+    let texts = map string_bytes c.args.arguments.now in
+    let a = app_of c.in_ok-parser.field-0 in
+    let parser_is : a ≡ program = c.in_ok-parser.ensures in
+    let meets = (c.in_ok-matches.ensures.matches (ap is_simple parser_is)).1 in
+    c.in_ok-asked.ensures.logs ∙ logs_met a _ texts (more_texts string_bytes c.args.arguments.now (omega arith)) parser_is meets

@@ -1,4 +1,4 @@
-use Rattle.std.proofs.Common.{List, [], subst}
+use Rattle.std.proofs.Common.{subst}
 use Rattle.multi_site_world.specs.Laws.{StandsIn}
 use Rattle.log_replay.proofs.ListLemmas.{parts, none_left}
 use Rattle.log_judge.specs.Cut.{cut_account}

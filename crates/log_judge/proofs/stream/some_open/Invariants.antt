@@ -8,7 +8,7 @@ use Rattle.log_judge.specs.Stream.{AreDone, AreLogs}
 use Rattle.log_judge.proofs.stream.some_open.Given as goal
 
 abbrev pub invariant-rows : goal.invariant-rows
-invariant-rows l = (layout : LayoutState) (ts : List Transcript) (cut : List ℕ) (more : ℕ → List Entry) (later : ℕ → List Run) → AreLogs layout ts cut more later l.sites
+invariant-rows l = (layout : LayoutState) (ts : List Transcript) (cut : List ℕ) (more : ℕ → List Entry) (later : ℕ → List Run) → AreLogs layout ts cut more later l.logs
     → AreDone (cut_account layout ts cut) l.rest → AreDone (cut_account layout ts cut) l.rows
 
 abbrev pub decreases-rows : goal.decreases-rows

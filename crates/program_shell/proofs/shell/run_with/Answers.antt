@@ -25,6 +25,6 @@ returns g c =
       one_of_both = search rules;
       layout = Ok c.in-Ok-layout_at.layout;
       found = search rules;
-      carried_out = carried_by _ _ _ _ _ _ _ _ _ _ _ _ _ _ _ _ _ _ _ _ _ _ _ c.in-Ok.ensures.command c.in-Ok.ensures.out c.in-Ok.ensures.log c.in-Ok.ensures.group c.in-Ok.ensures.lost
-          c.in-Ok.ensures.words c.carry_out.ensures;
+      carried_out = carried_by _ _ _ _ _ _ _ _ _ _ _ _ _ _ _ _ _ _ _ _ _ _ _ _ _ _ c.in-Ok.ensures.command c.in-Ok.ensures.out c.in-Ok.ensures.log c.in-Ok.ensures.group c.in-Ok.ensures.lost
+          c.in-Ok.ensures.logs c.in-Ok.ensures.words c.carry_out.ensures;
     })

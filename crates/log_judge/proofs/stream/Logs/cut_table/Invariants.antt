@@ -7,5 +7,5 @@ use Rattle.log_judge.specs.Stream.{AreAllLogs}
 use Rattle.log_judge.proofs.stream.Logs.cut_table.Given as goal
 
 abbrev pub invariant-sites : goal.invariant-sites
-invariant-sites l = (layout : LayoutState) (ts : List Transcript) (cut : List ℕ) → AreOfSites layout ts → AreAllLogs layout ts cut l.self.sites.items
+invariant-sites l = (layout : LayoutState) (ts : List Transcript) (cut : List ℕ) → AreOfSites layout ts → AreAllLogs layout ts cut l.self
     → string_bytes l.text ≡ cut_header ++ cut_lines ts l.lengths l.i

@@ -6,4 +6,4 @@ use Rattle.log_judge.specs.Stream.{AreAllLogs}
 use Rattle.log_judge.proofs.stream.Logs.full_cut.Given as goal
 
 abbrev pub invariant-sites : goal.invariant-sites
-invariant-sites l = (layout : LayoutState) (ts : List Transcript) (cut : List ℕ) → AreAllLogs layout ts cut l.self.sites.items → l.cut.items ≡ lengths_below ts l.i
+invariant-sites l = (layout : LayoutState) (ts : List Transcript) (cut : List ℕ) → AreAllLogs layout ts cut l.self → l.cut.items ≡ lengths_below ts l.i

@@ -1,4 +1,4 @@
-use Rattle.std.proofs.Common.{rules, refl}
+use Rattle.std.proofs.Common.{refl}
 use Rattle.std.proofs.lemmas.Result.{IfOk-weaker}
 use Rattle.log_judge.specs.Cut.{runs_at}
 use Rattle.log_judge.proofs.StreamLemmas.{log_on}
@@ -10,6 +10,6 @@ returns c =
     (λ x takes layout ts cut i more later done merged log.
     let old = c.args.self.now in
     let step = c.in_ok-back.ensures in
-    log_on layout ts cut i c.args.entry more later old (record old { replay = c.add_entry.new.self }) c.take_back.new.self c.args.wanted c.in_ok-back.back log done merged
-    (step.replaying layout i (runs_at ts i) more later log.replaying) refl step.back step.free step.ended step.counts.0 step.counts.1 takes)
+    log_on layout ts cut i c.args.keeping.now c.args.entry more later old (record old { replay = c.add_entry.new.self }) c.take_back.new.self c.args.wanted c.in_ok-back.back log done merged
+    (step.replaying layout i (runs_at ts i) more later log.replaying) refl refl step.back step.free step.ended step.counts.0 step.counts.1 takes)
     c.take_back.ensures
