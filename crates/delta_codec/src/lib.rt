@@ -4,6 +4,7 @@
 
 pub use fault::DecodeError;
 pub use reading::decode;
+pub use rows::counters_at;
 pub use writing::{encode, push_delta};
 
 /// The most bytes of a text that is read. Every delta's text has fewer.

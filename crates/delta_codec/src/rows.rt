@@ -1,16 +1,17 @@
 // Rows of a delta's text.
-ghost use Rattle.std.specs.Prelude.{◌≡◌};
-ghost use Rattle.text_parts.specs.Readers.{Gives, joined_at};
+ghost use Rattle.std.specs.Prelude.{◌≡◌, ℕ, List, Some};
+ghost use Rattle.text_parts.specs.Readers.{Gives, joined_at, number_at};
 ghost use Rattle.delta_codec.specs.DeltaReaders.{number_behind, short_behind, numbers_behind, row_at, rows_at};
 
 use grow_counters::Counts;
 use merge_core::{MOST_RECORDS, MOST_SITES, Row};
 use std::alloc::Global;
-use text_parts::{Element, Number, Unread, after, joined_at, number_at, short_at};
+use text_parts::{Element, Unread, after, behind_comma, joined_at, number_at, short_at};
 
-// Behind the first counter of a row there are at most so many, and behind the first row of a delta.
-const MORE_COUNTERS: u16 = MOST_SITES - 1;
+// Behind the first counter of a row there are at most so many.
+const MORE_COUNTERS: usize = MOST_SITES as usize - 1;
 
+// Behind the first row of a delta there are at most so many.
 const MORE_ROWS: u16 = MOST_SITES * MOST_RECORDS as u16 - 1;
 
 #[tactic(auto, unfolding(crate::specs::DeltaReaders::number_behind))]
@@ -27,6 +28,36 @@ pub fn short_behind<'a>(literal: &[u8], bytes: &'a [u8]) -> Result<(u16, &'a [u8
     short_at(after(literal, bytes)?)
 }
 
+// A list of these numbers, and the bytes behind them.
+fn listed<'a>(
+    alloc: Global,
+    numbers: &[u64],
+    rest: &'a [u8],
+) -> Result<(Vec<u64>, &'a [u8]), Unread>
+    ensures { Gives {Y = List ℕ × List ℕ} (λ x. (x.0.items, x.1.now)) result (Some (numbers.now, rest.now)) }
+{
+    Ok((Vec::from_slice(alloc, numbers)?, rest))
+}
+
+/// 1 to 16 numbers with commas between them, and the bytes behind them. The list has a place for each and no more.
+#[tactic(auto, unfolding(text_parts::specs::Readers::joined_at))]
+pub fn counters_at(alloc: Global, bytes: &[u8]) -> Result<(Vec<u64>, &[u8]), Unread>
+    ensures { Gives (λ x. (x.0.items, x.1.now)) result (joined_at number_at 15 bytes.now) }
+{
+    let mut numbers = [0; MOST_SITES as usize];
+    let (first, mut rest) = number_at(bytes)?;
+    numbers[0] = first;
+    for i in 0..MORE_COUNTERS {
+        let Some(tail) = behind_comma(rest) else {
+            return listed(alloc, &numbers[..i + 1], rest);
+        };
+        let (number, behind) = number_at(tail)?;
+        numbers[i + 1] = number;
+        rest = behind;
+    }
+    listed(alloc, &numbers, rest)
+}
+
 #[tactic(auto, unfolding(crate::specs::DeltaReaders::numbers_behind))]
 fn numbers_behind<'a>(
     alloc: Global,
@@ -35,7 +66,7 @@ fn numbers_behind<'a>(
 ) -> Result<(Vec<u64>, &'a [u8]), Unread>
     ensures { Gives (λ x. (x.0.items, x.1.now)) result (numbers_behind literal.now bytes.now) }
 {
-    joined_at::<Number, u64>(alloc, MORE_COUNTERS, after(literal, bytes)?)
+    counters_at(alloc, after(literal, bytes)?)
 }
 
 #[tactic(auto, unfolding(crate::specs::DeltaReaders::row_at))]

@@ -21,7 +21,7 @@ use Rattle.transcript_reader.specs.Fits.{FitsEntry}
 use Rattle.transcript_reader.specs.Reading.{AreLines, BeginsRun, BeginsNoRun, IsNoEntry, IsRefusedAt, runs_of, transcripts_below}
 use Rattle.transcript_reader.proofs.ReadingLemmas.{length_below, transcript_at}
 use Rattle.judge_engine.specs.Cuts.{lengths_of}
-use Rattle.judge_engine.specs.Reading.{AreLeft, AreLogsOf, AreRead, AreReadBytes, EndsBy, EndsReading, Follows, KnowAllBut, Knows, MayAdd, ReadsBytes, ReadsLines, ReadsTexts, left_at}
+use Rattle.judge_engine.specs.Reading.{AreLeft, AreLogsOf, AreRead, AreReadBytes, EndsBy, EndsReading, Follows, HasReadLines, KnowAllBut, Knows, MayAdd, ReadsBytes, ReadsLines, ReadsOn, ReadsTexts, left_at}
 use Rattle.judge_engine.specs.declared.reading.Reading.{Reading}
 
 -- the same entries and runs are to come
@@ -247,6 +247,24 @@ whole_lines pending before rest more =
     )
     ∙ (lines_behind (pending ++ before) (rest ++ more)
     ∙ ap (λ (l : List ℕ). lines_of l ++ lines_of (rest ++ more)) (append_assoc pending before (10 ∷ [])))
+
+-- what ends with an LF has its lines, whatever stands in front of it and behind it
+pub lines_joined : (front bytes whole rest : List ℕ) → bytes ≡ whole ++ rest → EndsLine whole → lines_of (front ++ bytes) ≡ lines_of (front ++ whole) ++ lines_of rest
+lines_joined front bytes whole rest cut ends =
+    ap (λ (l : List ℕ). lines_of (front ++ l)) (cut ∙ (ap (λ (l : List ℕ). l ++ rest) ends.1 ∙ append_assoc ends.0 (10 ∷ []) rest))
+    ∙ (ap lines_of (sym (append_assoc front ends.0 (10 ∷ rest)))
+    ∙ (lines_behind (front ++ ends.0) rest
+    ∙ ap (λ (l : List ℕ). lines_of l ++ lines_of rest) (append_assoc front ends.0 (10 ∷ []) ∙ ap (λ (l : List ℕ). front ++ l) (sym ends.1))))
+
+-- lines that were read, and others behind them
+pub read_behind : (old mid new : Reading) (lines first second : List (List ℕ)) → lines ≡ first ++ second → ReadsOn old first mid → ReadsOn mid second new → ReadsOn old lines new
+read_behind old mid new lines first second cut before after layout cuts keeping earlier front reads =
+    subst (λ (ls : List (List ℕ)). ReadsLines layout cuts keeping earlier ls new) (append_assoc front first second ∙ ap (λ (ls : List (List ℕ)). front ++ ls) (sym cut))
+    (after layout cuts keeping earlier (front ++ first) (before layout cuts keeping earlier front reads))
+
+-- some lines were read, and others behind them
+pub some_read : (old new : Reading) (lines : List (List ℕ)) → HasReadLines old → ReadsOn old lines new → HasReadLines new
+some_read old new lines some step = (some.0, some.1, some.2, some.3, some.4 ++ lines, step some.0 some.1 some.2 some.3 some.4 some.5)
 
 -- whole lines came behind what was pending, and then the front of another one
 pub bytes_lines : (layout : LayoutState) (cut : Option (List ℕ)) (keeping : Keeping) (earlier : List SiteRun) (bytes part lines rest : List ℕ) (old mid new : Reading) → old.refused ≡ None → part ≡ lines ++ rest → EndsLine lines → ReadsBytes layout cut keeping earlier bytes old

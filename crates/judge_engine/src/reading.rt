@@ -1,8 +1,8 @@
 //! The lines of closed logs are judged while they come, text by text: of them only the front of one that is not whole yet is
 //! kept.
-ghost use Rattle.std.specs.Prelude.{◌≡◌, ◌+◌, ◌++◌, ◌∷◌, [], ℕ, List, Option, IfOk, Some, None};
+ghost use Rattle.std.specs.Prelude.{◌≡◌, ◌+◌, ◌++◌, ◌∷◌, [], ℕ, List, Option, IfOk, IfSome, Some, None};
 ghost use Rattle.merge_core.specs.Layout.{LayoutState};
-ghost use Rattle.text_input.specs.Lines.{lines_of};
+ghost use Rattle.text_input.specs.Lines.{EndsLine, lines_of};
 ghost use Rattle.log_judge.specs.declared.keeping.Keeping.{Keeping as KeepingThere};
 ghost use Rattle.transcript_text.specs.Texts.{entry_text};
 ghost use Rattle.transcript_reader.specs.Fits.{FitsEntry};
@@ -13,6 +13,7 @@ ghost use Rattle.judge_engine.specs.Reading.{AddsBytes, BeginsText, EndsBytes, H
 use crate::cut::Cut;
 use desk_log::Entry;
 use log_judge::{Keeping, Logs};
+use memchr::memchr;
 use merge_core::Layout;
 use std::alloc::{AllocError, Global};
 use std::mem;
@@ -43,6 +44,26 @@ fn next_line(n: u64) -> Result<u64, AllocError>
     match n.checked_add(1) {
         Some(m) => Ok(m),
         None => Err(AllocError),
+    }
+}
+
+// The bytes up to their first LF, with it, and what follows; nothing where there is no LF.
+fn cut_behind_lf(bytes: &[u8]) -> Option<(&[u8], &[u8])>
+    ensures { IfSome result (λ it. (bytes.now ≡ it.0.now ++ it.1.now) × EndsLine it.0.now) }
+{
+    match memchr(b'\n', bytes) {
+        Some(end) => Some((&bytes[..=end], &bytes[end + 1..])),
+        None => None,
+    }
+}
+
+// The same, and all bytes where there is no LF: whatever stands in front of them, it has its lines with the first part alone.
+fn cut_front(bytes: &[u8]) -> (&[u8], &[u8])
+    ensures { (front : List ℕ) → lines_of (front ++ bytes.now) ≡ lines_of (front ++ result.0.now) ++ lines_of result.1.now }
+{
+    match cut_behind_lf(bytes) {
+        Some(parts) => parts,
+        None => (bytes, &[]),
     }
 }
 
@@ -148,15 +169,26 @@ impl Reading {
         Ok(())
     }
 
-    // Judges what is pending with these lines behind it.
+    // Judges what is pending with these bytes behind it.
+    fn read_joined(&mut self, bytes: &[u8]) -> Result<(), AllocError>
+        requires { HasReadLines self.old }
+        ensures read { IfOk result (λ _. ReadsOn self.old (lines_of (self.old.pending.items ++ bytes.now)) self.new) }
+        ensures empty { IfOk result (λ _. self.new.pending.items ≡ []) }
+    {
+        self.pending.extend_from_slice(bytes)?;
+        let whole = mem::replace(&mut self.pending, Vec::new(self.alloc));
+        self.read_lines(whole.as_slice())
+    }
+
+    // Judges what is pending with these lines behind it. Only the first of them is copied.
     fn read_pending(&mut self, lines: &[u8]) -> Result<(), AllocError>
         requires { HasReadLines self.old }
         ensures read { IfOk result (λ _. ReadsOn self.old (lines_of (self.old.pending.items ++ lines.now)) self.new) }
         ensures empty { IfOk result (λ _. self.new.pending.items ≡ []) }
     {
-        self.pending.extend_from_slice(lines)?;
-        let whole = mem::replace(&mut self.pending, Vec::new(self.alloc));
-        self.read_lines(whole.as_slice())
+        let (front, rest) = cut_front(lines);
+        self.read_joined(front)?;
+        self.read_lines(rest)
     }
 
     /// Takes the next part in.

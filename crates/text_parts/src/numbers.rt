@@ -12,6 +12,7 @@ const MOST_LAST: u64 = u64::MAX % 10;
 /// Numbers below 2^64 in decimal digits, as a way to read and write them.
 pub enum Number {}
 
+#[inline(always)]
 fn with_digit(number: u64, digit: u8) -> Option<u64>
     requires { digit < 10 }
     ensures { result ≡ (if nat_lt (number * 10 + digit) (2 ^ 64) then Some (number * 10 + digit) else None) }
@@ -43,6 +44,7 @@ fn digits(first: u64, bytes: &[u8]) -> Result<(u64, &[u8]), Unread>
 
 /// The number at the front and the bytes behind it. Refused from 2^64 on.
 #[tactic(auto, unfolding(crate::specs::Readers::number_at))]
+#[inline(always)]
 pub fn number_at(bytes: &[u8]) -> Result<(u64, &[u8]), Unread>
     ensures read { Gives (λ x. (x.0, x.1.now)) result (number_at bytes.now) }
     ensures no_memory { IfErr result (λ e. e ≡ Unread.Refused) }
@@ -56,6 +58,7 @@ pub fn number_at(bytes: &[u8]) -> Result<(u64, &[u8]), Unread>
 
 /// The number at the front and the bytes behind it. Refused from 2^16 on.
 #[tactic(auto, unfolding(crate::specs::Readers::short_at))]
+#[inline(always)]
 pub fn short_at(bytes: &[u8]) -> Result<(u16, &[u8]), Unread>
     ensures read { Gives (λ x. (x.0, x.1.now)) result (short_at bytes.now) }
     ensures no_memory { IfErr result (λ e. e ≡ Unread.Refused) }

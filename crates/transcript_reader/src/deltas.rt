@@ -7,17 +7,17 @@ ghost use Rattle.text_parts.specs.Readers.{Gives};
 ghost use Rattle.transcript_reader.specs.Quoted.{ReadsQuoted};
 ghost use Rattle.transcript_reader.specs.Deltas.{row_at, rows_at, delta_at};
 
+use delta_codec::counters_at;
 use grow_counters::Counts;
 use merge_core::{Delta, MOST_RECORDS, MOST_SITES, Row};
 use std::alloc::Global;
-use text_parts::{Element, Number, Unread, after, joined_at, number_at, short_at};
+use text_parts::{Element, Unread, after, joined_at, number_at, short_at};
 
-// Behind the first counter of a row there are at most so many, and behind the first row of a delta.
-const MORE_COUNTERS: u16 = MOST_SITES - 1;
-
+// Behind the first row of a delta there are at most so many.
 const MORE_ROWS: u16 = MOST_SITES * MOST_RECORDS as u16 - 1;
 
 #[tactic(auto, unfolding(delta_codec::specs::DeltaReaders::number_behind))]
+#[inline(always)]
 fn number_behind<'a>(literal: &[u8], bytes: &'a [u8]) -> Result<(u64, &'a [u8]), Unread>
     ensures { Gives (λ x. (x.0, x.1.now)) result (number_behind literal.now bytes.now) }
 {
@@ -25,6 +25,7 @@ fn number_behind<'a>(literal: &[u8], bytes: &'a [u8]) -> Result<(u64, &'a [u8]),
 }
 
 #[tactic(auto, unfolding(delta_codec::specs::DeltaReaders::short_behind))]
+#[inline(always)]
 fn short_behind<'a>(literal: &[u8], bytes: &'a [u8]) -> Result<(u16, &'a [u8]), Unread>
     ensures { Gives (λ x. (x.0, x.1.now)) result (short_behind literal.now bytes.now) }
 {
@@ -39,7 +40,7 @@ fn numbers_behind<'a>(
 ) -> Result<(Vec<u64>, &'a [u8]), Unread>
     ensures { Gives (λ x. (x.0.items, x.1.now)) result (numbers_behind literal.now bytes.now) }
 {
-    joined_at::<Number, u64>(alloc, MORE_COUNTERS, after(literal, bytes)?)
+    counters_at(alloc, after(literal, bytes)?)
 }
 
 #[tactic(auto, unfolding(crate::specs::Deltas::row_at))]
