@@ -1,8 +1,8 @@
 //! The lines of closed logs are judged while they come, text by text: of them only the front of one that is not whole yet is
 //! kept.
-ghost use Rattle.std.specs.Prelude.{◌≡◌, ◌+◌, ◌++◌, ◌∷◌, [], ℕ, List, Option, IfOk, IfSome, Some, None};
+ghost use Rattle.std.specs.Prelude.{◌≡◌, ◌+◌, ◌++◌, ◌∷◌, [], ℕ, List, Option, IfOk, MatchOption, Some, None};
 ghost use Rattle.merge_core.specs.Layout.{LayoutState};
-ghost use Rattle.text_input.specs.Lines.{EndsLine, lines_of};
+ghost use Rattle.text_input.specs.Lines.{EndsLine, HasNoLf, lines_of};
 ghost use Rattle.log_judge.specs.declared.keeping.Keeping.{Keeping as KeepingThere};
 ghost use Rattle.transcript_text.specs.Texts.{entry_text};
 ghost use Rattle.transcript_reader.specs.Fits.{FitsEntry};
@@ -49,7 +49,7 @@ fn next_line(n: u64) -> Result<u64, AllocError>
 
 // The bytes up to their first LF, with it, and what follows; nothing where there is no LF.
 fn cut_behind_lf(bytes: &[u8]) -> Option<(&[u8], &[u8])>
-    ensures { IfSome result (λ it. (bytes.now ≡ it.0.now ++ it.1.now) × EndsLine it.0.now) }
+    ensures { MatchOption result (HasNoLf bytes.now) (λ it. (bytes.now ≡ it.0.now ++ it.1.now) × EndsLine it.0.now) }
 {
     match memchr(b'\n', bytes) {
         Some(end) => Some((&bytes[..=end], &bytes[end + 1..])),
