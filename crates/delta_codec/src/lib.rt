@@ -4,7 +4,7 @@
 
 pub use fault::DecodeError;
 pub use reading::decode;
-pub use rows::counters_at;
+pub use rows::{number_behind, numbers_behind, short_behind};
 pub use writing::{encode, push_delta};
 
 /// The most bytes of a text that is read. Every delta's text has fewer.

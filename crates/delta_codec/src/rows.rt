@@ -14,14 +14,18 @@ const MORE_COUNTERS: usize = MOST_SITES as usize - 1;
 // Behind the first row of a delta there are at most so many.
 const MORE_ROWS: u16 = MOST_SITES * MOST_RECORDS as u16 - 1;
 
+/// The number behind a literal at the front, and the bytes behind it.
 #[tactic(auto, unfolding(crate::specs::DeltaReaders::number_behind))]
-fn number_behind<'a>(literal: &[u8], bytes: &'a [u8]) -> Result<(u64, &'a [u8]), Unread>
+#[inline(always)]
+pub fn number_behind<'a>(literal: &[u8], bytes: &'a [u8]) -> Result<(u64, &'a [u8]), Unread>
     ensures { Gives (λ x. (x.0, x.1.now)) result (number_behind literal.now bytes.now) }
 {
     number_at(after(literal, bytes)?)
 }
 
+/// The number below 2^16 behind a literal at the front, and the bytes behind it.
 #[tactic(auto, unfolding(crate::specs::DeltaReaders::short_behind))]
+#[inline(always)]
 pub fn short_behind<'a>(literal: &[u8], bytes: &'a [u8]) -> Result<(u16, &'a [u8]), Unread>
     ensures { Gives (λ x. (x.0, x.1.now)) result (short_behind literal.now bytes.now) }
 {
@@ -39,9 +43,9 @@ fn listed<'a>(
     Ok((Vec::from_slice(alloc, numbers)?, rest))
 }
 
-/// 1 to 16 numbers with commas between them, and the bytes behind them. The list has a place for each and no more.
+// 1 to 16 numbers with commas between them, and the bytes behind them. The list has a place for each and no more.
 #[tactic(auto, unfolding(text_parts::specs::Readers::joined_at))]
-pub fn counters_at(alloc: Global, bytes: &[u8]) -> Result<(Vec<u64>, &[u8]), Unread>
+fn counters_at(alloc: Global, bytes: &[u8]) -> Result<(Vec<u64>, &[u8]), Unread>
     ensures { Gives (λ x. (x.0.items, x.1.now)) result (joined_at number_at 15 bytes.now) }
 {
     let mut numbers = [0; MOST_SITES as usize];
@@ -58,8 +62,9 @@ pub fn counters_at(alloc: Global, bytes: &[u8]) -> Result<(Vec<u64>, &[u8]), Unr
     listed(alloc, &numbers, rest)
 }
 
+/// The list of 1 to 16 numbers behind a literal at the front, and the bytes behind it.
 #[tactic(auto, unfolding(crate::specs::DeltaReaders::numbers_behind))]
-fn numbers_behind<'a>(
+pub fn numbers_behind<'a>(
     alloc: Global,
     literal: &[u8],
     bytes: &'a [u8],

@@ -1,5 +1,5 @@
 -- Literals: what a comparison of the front says, and that a literal is taken exactly where it stands.
-use Rattle.std.proofs.Common.{◌≡◌, ℕ, ◌<◌, arith, Bool, true, false, cond, eqb, nat_eq, List, [], ◌∷◌, ◌++◌, length, take, drop, Option, Some, None, refl, inl, inr}
+use Rattle.std.proofs.Common.{◌≡◌, ℕ, Bool, true, false, cond, eqb, nat_eq, List, [], ◌∷◌, ◌++◌, length, take, drop, Option, Some, None, refl, inl, inr}
 use lib.Pointwise.{pointwise}
 use Rattle.std.proofs.lemmas.Bool.{and_parts, and_cases, eqb-true, eq-eqb}
 use Rattle.std.proofs.lemmas.Option.{none-some}
@@ -26,16 +26,6 @@ after_other (c ∷ cs) (b ∷ bs) other =
     cases : (same : Bool) → after cs bs ≡ None → cond same (after cs bs) None ≡ None
     cases true none = none
     cases false none = refl
-
--- fewer bytes than those of the literal
-pub after_short : (literal bytes : List ℕ) → length bytes < length literal → after literal bytes ≡ None
-after_short [] bytes short = absurd (omega (arith, short))
-after_short (c ∷ cs) [] short = refl
-after_short (c ∷ cs) (b ∷ bs) short = none (eqb b c) (after_short cs bs (omega (arith, short)))
-  where
-    none : (same : Bool) → after cs bs ≡ None → cond same (after cs bs) None ≡ None
-    none true e = e
-    none false e = refl
 
 -- a literal of two parts is taken part by part
 pub after_parts : (front back bytes : List ℕ) → after (front ++ back) bytes ≡ (after front bytes >>= after back)

@@ -1,47 +1,19 @@
 //! Deltas between quotes: in front of each quote of the text of a delta stands a backslash.
 ghost use Rattle.std.specs.Prelude.{◌≡◌};
 ghost use Rattle.merge_core.specs.Delta.{IsDelta};
-ghost use Rattle.delta_codec.specs.DeltaReaders.{number_behind, short_behind, numbers_behind};
 ghost use Rattle.delta_codec.specs.DeltaText.{delta_text};
 ghost use Rattle.text_parts.specs.Readers.{Gives};
 ghost use Rattle.transcript_reader.specs.Quoted.{ReadsQuoted};
 ghost use Rattle.transcript_reader.specs.Deltas.{row_at, rows_at, delta_at};
 
-use delta_codec::counters_at;
+use delta_codec::{number_behind, numbers_behind, short_behind};
 use grow_counters::Counts;
 use merge_core::{Delta, MOST_RECORDS, MOST_SITES, Row};
 use std::alloc::Global;
-use text_parts::{Element, Unread, after, joined_at, number_at, short_at};
+use text_parts::{Element, Unread, after, joined_at};
 
 // Behind the first row of a delta there are at most so many.
 const MORE_ROWS: u16 = MOST_SITES * MOST_RECORDS as u16 - 1;
-
-#[tactic(auto, unfolding(delta_codec::specs::DeltaReaders::number_behind))]
-#[inline(always)]
-fn number_behind<'a>(literal: &[u8], bytes: &'a [u8]) -> Result<(u64, &'a [u8]), Unread>
-    ensures { Gives (λ x. (x.0, x.1.now)) result (number_behind literal.now bytes.now) }
-{
-    number_at(after(literal, bytes)?)
-}
-
-#[tactic(auto, unfolding(delta_codec::specs::DeltaReaders::short_behind))]
-#[inline(always)]
-fn short_behind<'a>(literal: &[u8], bytes: &'a [u8]) -> Result<(u16, &'a [u8]), Unread>
-    ensures { Gives (λ x. (x.0, x.1.now)) result (short_behind literal.now bytes.now) }
-{
-    short_at(after(literal, bytes)?)
-}
-
-#[tactic(auto, unfolding(delta_codec::specs::DeltaReaders::numbers_behind))]
-fn numbers_behind<'a>(
-    alloc: Global,
-    literal: &[u8],
-    bytes: &'a [u8],
-) -> Result<(Vec<u64>, &'a [u8]), Unread>
-    ensures { Gives (λ x. (x.0.items, x.1.now)) result (numbers_behind literal.now bytes.now) }
-{
-    counters_at(alloc, after(literal, bytes)?)
-}
 
 #[tactic(auto, unfolding(crate::specs::Deltas::row_at))]
 fn row_at(alloc: Global, bytes: &[u8]) -> Result<(Row, &[u8]), Unread>
