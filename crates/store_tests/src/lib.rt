@@ -1,6 +1,7 @@
-//! Tests of what keeps a site's durable part, from the tables of its store to the desk above, over databases in memory and
-//! on files that stop; and of the whole program, over stores and a runtime of its own. A program of tests over a database
-//! begins with all that SQLite's crates promise, whatever the tests are: here it does so once for all of them.
+//! Tests of what keeps a site's durable part, from the tables of its store to the services above, over databases in memory and
+//! on files that stop. A program of tests over a database begins with all that SQLite's crates promise, whatever the tests
+//! are: here it does so once for all of them. Those of the whole program stand in `shell_tests`, which needs more libraries, so
+//! that both can be proved at the same time.
 #![tactic(auto)]
 
 #[cfg(test)]
@@ -29,8 +30,6 @@ mod moves_stopped;
 mod rounds;
 #[cfg(test)]
 mod rounds_stopped;
-#[cfg(test)]
-mod shells;
 #[cfg(test)]
 mod sites;
 #[cfg(test)]

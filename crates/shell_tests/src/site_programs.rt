@@ -1,6 +1,6 @@
 //! The command `site` of the whole program on a fake runtime: arguments that are wrong, the store that is named, and
 //! faults.
-use super::programs::{Carried, Faulty, Wrong, wrongly_carried, wrongly_faulted, wrongly_refused};
+use crate::programs::{Carried, Faulty, Wrong, wrongly_carried, wrongly_faulted, wrongly_refused};
 use std::io::ErrorKind;
 use test_streams::NEVER;
 

@@ -1,6 +1,6 @@
 //! The commands `regroup` and `rebuild` of the whole program on a fake runtime: arguments that are wrong, what is printed, and
 //! faults.
-use super::programs::{Carried, Faulty, Wrong, wrongly_carried, wrongly_faulted, wrongly_refused};
+use crate::programs::{Carried, Faulty, Wrong, wrongly_carried, wrongly_faulted, wrongly_refused};
 use std::io::ErrorKind;
 use test_streams::NEVER;
 

@@ -1,9 +1,9 @@
 //! The command `run` of the whole program on a fake runtime: arguments that are wrong, scripts, faults, and the file for
 //! closed logs. Each script's output is the same whatever the schedule.
-use super::programs::{
+use crate::programs::{
     Carried, Faulty, Run, Wrong, wrongly_carried, wrongly_faulted, wrongly_refused,
 };
-use super::runtime::{Fake, Setting, Text};
+use crate::runtime::{Fake, Setting, Text};
 use program_shell::run;
 use std::alloc::Global;
 use std::io::ErrorKind;

@@ -1,5 +1,5 @@
 //! The whole program on a fake runtime: what it reads, what it writes and where, and its exit status.
-use super::runtime::{Fake, Setting, Text};
+use crate::runtime::{Fake, Setting, Text};
 use program_shell::run;
 use std::alloc::Global;
 use std::io::ErrorKind;

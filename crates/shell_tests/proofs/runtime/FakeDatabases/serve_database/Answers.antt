@@ -1,5 +1,5 @@
 use Rattle.stored_site.proofs.StoredLemmas.{ends_stored}
-use Rattle.store_tests.proofs.shells.runtime.FakeDatabases.serve_database.Goals as goal
+use Rattle.shell_tests.proofs.runtime.FakeDatabases.serve_database.Goals as goal
 
 pub returns : goal.returns
 returns g c =

@@ -1,6 +1,6 @@
 use Rattle.live_databases.proofs.MoveLemmas.{matched}
 use Rattle.live_databases.proofs.UntoldLemmas.{untold_move}
-use Rattle.store_tests.proofs.shells.runtime.FakeLiveDatabases.move_store.Goals as goal
+use Rattle.shell_tests.proofs.runtime.FakeLiveDatabases.move_store.Goals as goal
 
 pub returns : goal.returns
 returns c =

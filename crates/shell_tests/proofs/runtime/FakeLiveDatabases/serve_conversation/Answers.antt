@@ -1,5 +1,5 @@
 use Rattle.live_databases.proofs.LiveLemmas.{ends_live}
-use Rattle.store_tests.proofs.shells.runtime.FakeLiveDatabases.serve_conversation.Goals as goal
+use Rattle.shell_tests.proofs.runtime.FakeLiveDatabases.serve_conversation.Goals as goal
 
 pub returns : goal.returns
 returns g c =

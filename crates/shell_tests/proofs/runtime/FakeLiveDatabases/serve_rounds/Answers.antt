@@ -1,5 +1,5 @@
 use Rattle.live_databases.proofs.RoundLemmas.{ends_rounds}
-use Rattle.store_tests.proofs.shells.runtime.FakeLiveDatabases.serve_rounds.Goals as goal
+use Rattle.shell_tests.proofs.runtime.FakeLiveDatabases.serve_rounds.Goals as goal
 
 pub returns : goal.returns
 returns g c =

@@ -1,5 +1,5 @@
 //! What the whole program says of itself on a fake runtime: the help of each command, and the version.
-use super::programs::answers;
+use crate::programs::answers;
 use std::alloc::Global;
 use std::sync::Wait;
 use std::thread::Threads;
