@@ -1,13 +1,8 @@
--- What a caller asks is read again from its line.
-use Rattle.std.proofs.Common.{◌≡◌, ◌≢◌, ℕ, zero, suc, ◌<◌, ◌≤◌, ◌^◌, Bool, true, false, ◌&&◌, not, eqb, ltb, List, [], ◌∷◌, ◌++◌, length, get_or, drop, Option, Some, None, cond, codes, decimal, nat_le, refl, sym, ap, subst, ◌∙◌, ◌⊎◌, inl, inr, arith}
-use Rattle.std.specs.List.{position, position_or_len, list_all}
-use Rattle.std.specs.Str.{bytes_eq}
-use Rattle.std.proofs.lemmas.Bool.{cases_lt, lt-ltb, le-ltb, eqb-true, and_parts, false_from_ne_true, cond-true, cond-false}
-use Rattle.std.proofs.lemmas.List.Folds.{list_any_at}
-use Rattle.std.proofs.lemmas.Slice.Eq.{bytes_eq-Decides}
+-- A call is read from its text, and from no other.
+use Rattle.std.proofs.Common.{◌≡◌, ◌≢◌, ℕ, ◌<◌, ◌^◌, true, List, [], ◌∷◌, ◌++◌, get_or, drop, Option, Some, None, codes, decimal, refl, sym, ap, ◌∙◌, append_assoc, Result, Ok, Err, arith}
+use Rattle.std.proofs.lemmas.Option.{none-some}
 use Rattle.merge_core.specs.declared.layout.RecordSpec.{RecordSpec}
-use Rattle.merge_core.specs.Layout.{LayoutState, IsLayout, is_name_byte, is_record_name, has_name, names_differ}
-use Rattle.std.proofs.lemmas.Option.{none-some, some_pair_parts}
+use Rattle.merge_core.specs.Layout.{LayoutState, IsLayout}
 use Rattle.merge_core.specs.Delta.{DeltaState, IsDelta}
 use Rattle.text_parts.specs.declared.unread.Unread.{Unread}
 use Rattle.text_parts.specs.declared.unread.Unread.TheVariants.{Refused, Memory as NoRoom}
@@ -16,175 +11,110 @@ use Rattle.admission_model.specs.declared.ask.Call.{Call}
 use Rattle.admission_model.specs.declared.ask.Call.TheVariants.{Ask as AskCall, Merge, Snapshot}
 use Rattle.admission_model.specs.declared.ask.Ask.{Ask}
 use Rattle.admission_model.specs.declared.ask.Ask.TheVariants.{Read, Announce, Quill, Leave, Give, Help}
-use Rattle.text_parts.specs.Readers.{◌>>=◌, Fails}
-use Rattle.script_text.specs.Words.{words_of, has_this_name, found_or_unknown}
-use Rattle.transcript_reader.specs.declared.numbers.Numbers.{Numbers}
-use Rattle.transcript_reader.specs.declared.numbers.Numbers.TheVariants.{NoNumber, OneNumber, TwoNumbers}
-use Rattle.transcript_text.specs.Texts.{nameless, record_text, ask_text, call_text}
+use Rattle.text_parts.specs.Readers.{◌>>=◌, Gives, after}
+use Rattle.transcript_text.specs.Texts.{record_text, ask_text, call_text}
 use Rattle.transcript_reader.specs.Fits.{FitsAsk, FitsCall}
-use Rattle.transcript_reader.specs.Quoted.{quoted, Refuses}
-use Rattle.transcript_reader.specs.Readers.{cut_at}
-use Rattle.transcript_reader.specs.Words.{numbers_in, below, record_named, logged_record, ask_with, ask_in, worded_call}
-use Rattle.transcript_reader.proofs.CutLemmas.{cut_takes}
-use Rattle.transcript_reader.proofs.EscapedLemmas.{is_plain, plain_append, decimal_plain, number_plain, plain_quoted, plain_read}
-use Rattle.transcript_reader.proofs.FitLemmas.{Holds, held_by, then_holds, ask_holds}
-use Rattle.transcript_reader.proofs.StrictLemmas.{word_holds, ask_told}
-use Rattle.transcript_reader.proofs.WordLemmas.{IsWord, word_first, word_last, decimal_word, short_again_word, one_number, two_numbers, below_again}
+use Rattle.transcript_reader.specs.Quoted.{quoted, Refuses, ReadsQuoted}
+use Rattle.transcript_reader.specs.Words.{record_at, last_number, gift_at}
+use Rattle.transcript_reader.specs.CallReaders.{held_at, help_at, give_at, ask_at, worded_call}
+use Rattle.transcript_reader.proofs.EscapedLemmas.{is_plain, plain_append, number_plain, plain_quoted}
+use Rattle.transcript_reader.proofs.HoldLemmas.{Holds, held_by, then_holds, literal_holds, behind_holds, says_holds}
+use Rattle.transcript_reader.proofs.RecordLemmas.{record_again, record_says, record_at_again}
+use Rattle.transcript_reader.proofs.WordLemmas.{SaysPair, last_text, spaced, paired, paired_says, paired_again, last_number_says, last_number_again, gift_says, gift_again}
 
--- ---- names
+-- ---- what is read is what stands there
 
-same_bytes : (a : List ℕ) → bytes_eq a a ≡ true
-same_bytes a = (bytes_eq-Decides a a).1 refl
+held_says : (layout : LayoutState) → IsLayout layout → (bytes : List ℕ) → Holds (SaysPair (record_text layout.records) (2 ^ 16) (2 ^ 64) bytes) (held_at layout.records bytes)
+unfolding held_at
+held_says layout is bytes =
+    paired_says (record_text layout.records) (2 ^ 16) (2 ^ 64) bytes (record_at layout.records bytes) last_number (record_says layout is bytes) last_number_says
 
--- the name of a record is found at its place
-place_again : (records : List RecordSpec) (r : ℕ) → r < length records → names_differ records ≡ true
-    → position_or_len (has_this_name (get_or records r nameless).name) records ≡ r
-place_again [] r below apart = absurd (omega arith)
-place_again (x ∷ xs) zero below apart = rw (same_bytes x.name) refl
-place_again (x ∷ xs) (suc r) below apart =
-    let parts = and_parts (not (has_name x.name xs)) (names_differ xs) apart in
-    let other : bytes_eq x.name (get_or xs r nameless).name ≡ false = false_from_ne_true _ (λ same.
-    let equal : x.name ≡ (get_or xs r nameless).name = (bytes_eq-Decides x.name (get_or xs r nameless).name).0 same in
-    let found : has_name x.name xs ≡ true = list_any_at (λ q. bytes_eq q.name x.name) xs r nameless (omega arith) (ap (λ (n : List ℕ). bytes_eq n x.name) (sym equal) ∙ same_bytes x.name) in
-    let clash : false ≡ true = ap not (sym found) ∙ parts.0 in cc) in
-    let rest : position_or_len (has_this_name (get_or xs r nameless).name) xs ≡ r = place_again xs r (omega arith) parts.1 in
-    rw other (omega (arith, rest))
+-- the text of an ask up to the closing quote, and what stands behind it
+abbrev SaysAsk : LayoutState → List ℕ → Ask × List ℕ → Type 0
+SaysAsk layout bytes x = FitsAsk x.0 × (bytes ≡ ask_text layout.records x.0 ++ 34 ∷ x.1)
 
-name_word_bytes : (bs : List ℕ) → list_all is_name_byte bs ≡ true → IsWord bs
-name_word_bytes [] all = tt
-name_word_bytes (b ∷ bs) all =
-    let parts = and_parts (is_name_byte b) (list_all is_name_byte bs) all in
-    (false_from_ne_true (eqb b 32) (λ blank. let clash : is_name_byte 32 ≡ true = ap is_name_byte (sym (eqb-true b 32 blank)) ∙ parts.0 in cc), name_word_bytes bs parts.1)
-
-other_byte : (b k : ℕ) → is_name_byte b ≡ true → is_name_byte k ≡ false → eqb b k ≡ false
-other_byte b k name other = false_from_ne_true (eqb b k) (λ e.
-    let clash : false ≡ true = sym other ∙ (ap is_name_byte (sym (eqb-true b k e)) ∙ name) in cc)
-
-name_plain_bytes : (bs : List ℕ) → list_all is_name_byte bs ≡ true → is_plain bs ≡ true
-name_plain_bytes [] all = refl
-name_plain_bytes (b ∷ bs) all =
-    let parts = and_parts (is_name_byte b) (list_all is_name_byte bs) all in
-    rw (other_byte b 34 parts.0 refl, other_byte b 92 parts.0 refl) (name_plain_bytes bs parts.1)
-
-abbrev is_lower : ℕ → Bool
-is_lower b = nat_le 97 b && nat_le b 122
-
-not_lower : (b k : ℕ) → is_lower b ≡ true → is_lower k ≡ false → eqb b k ≡ false
-not_lower b k low other = false_from_ne_true (eqb b k) (λ e.
-    let clash : false ≡ true = sym other ∙ (ap is_lower (sym (eqb-true b k e)) ∙ low) in cc)
-
-pub record RecordAgain (records : List RecordSpec) (r : ℕ) : Type 0 where
-  pub word : IsWord (record_text records r)
-  pub plain : is_plain (record_text records r) ≡ true
-  pub found : logged_record records (record_text records r) ≡ Some r
-
-abbrev named_or_none : List RecordSpec → ℕ → Option ℕ
-named_or_none records r = cond (ltb r (length records)) (Some r) None
-
-abbrev numbered_or_none : List RecordSpec → ℕ → Option ℕ
-numbered_or_none records r = cond (ltb r (length records)) None (Some r)
-
-named_again : (records : List RecordSpec) (r : ℕ) (name : List ℕ) → r < length records → is_record_name name ≡ true → position (has_this_name name) records ≡ Some r
-    → IsWord name × ((is_plain name ≡ true) × (logged_record records name ≡ Some r))
-named_again records r [] below is found = absurd cc
-named_again records r (b ∷ bs) below is found =
-    let first = and_parts (is_lower b) _ is in
-    let rest = and_parts _ (list_all is_name_byte bs) first.1 in
-    let question : eqb b 63 ≡ false = not_lower b 63 first.0 refl in
-    let there : named_or_none records r ≡ Some r = cond-true (ltb r (length records)) (Some r) None (lt-ltb r (length records) below) in
-    let read : record_named records (b ∷ bs) ≡ Some r = ap (λ (o : Option ℕ). found_or_unknown o (b ∷ bs) >>= named_or_none records) found ∙ there in (
-      (not_lower b 32 first.0 refl, name_word_bytes bs rest.1),
-      (rw (not_lower b 34 first.0 refl, not_lower b 92 first.0 refl) (name_plain_bytes bs rest.1), rw question read),
-    )
-
--- the name of a record that is there is a word, and stands for it
-pub record NameAgain (records : List RecordSpec) (r : ℕ) : Type 0 where
-  pub text : record_text records r ≡ (get_or records r nameless).name
-  pub place : position (has_this_name (get_or records r nameless).name) records ≡ Some r
-  pub word : IsWord (get_or records r nameless).name
-  pub plain : is_plain (get_or records r nameless).name ≡ true
-  pub logged : logged_record records (get_or records r nameless).name ≡ Some r
-
-pub name_again : (layout : LayoutState) → IsLayout layout → (r : ℕ) → r < length layout.records → NameAgain layout.records r
-name_again layout is r below =
+help_says : (layout : LayoutState) → IsLayout layout → (bytes rest : List ℕ) → bytes ≡ codes "help " ++ rest → Holds (SaysAsk layout bytes) (help_at layout.records rest)
+unfolding help_at
+help_says layout is bytes rest same =
     let records = layout.records in
-    let name = (get_or records r nameless).name in
-    let place : position_or_len (has_this_name name) records ≡ r = place_again records r below is.apart in
-    let found : position (has_this_name name) records ≡ Some r = rw place (cond-true (ltb r (length records)) (Some r) None (lt-ltb r (length records) below)) in
-    let all = named_again records r name below (is.names r nameless below) found in
-    record {
-      text = cond-true (ltb r (length records)) _ _ (lt-ltb r (length records) below);
-      place = found;
-      word = all.0;
-      plain = all.1.0;
-      logged = all.1.1;
-    }
+    then_holds (λ (r : ℕ × List ℕ). (r.0 < 2 ^ 16) × (rest ≡ record_text records r.0 ++ r.1)) (SaysAsk layout bytes) (record_at records rest)
+    (λ r. after (codes "\"") r.1 >>= λ behind. Some (Help r.0, behind)) (record_says layout is rest)
+    (λ r it. then_holds (λ (behind : List ℕ). r.1 ≡ 34 ∷ behind) (SaysAsk layout bytes) (after (codes "\"") r.1) (λ behind. Some (Help r.0, behind)) (literal_holds (codes "\"") r.1)
+    (λ behind e. (it.0, same ∙ ap (λ (t : List ℕ). codes "help " ++ t) (it.1 ∙ ap (λ (t : List ℕ). record_text records r.0 ++ t) e))))
 
-record_again : (layout : LayoutState) → IsLayout layout → (r : ℕ) → r < 2 ^ 16 → RecordAgain layout.records r
-record_again layout is r fits = at (cases_lt r (length layout.records))
+give_says : (layout : LayoutState) → IsLayout layout → (bytes rest : List ℕ) → bytes ≡ codes "give " ++ rest → Holds (SaysAsk layout bytes) (give_at layout.records rest)
+unfolding give_at
+give_says layout is bytes rest same =
+    let records = layout.records in
+    let Says = SaysAsk layout bytes in
+    then_holds (λ (r : ℕ × List ℕ). (r.0 < 2 ^ 16) × (rest ≡ record_text records r.0 ++ r.1)) Says (record_at records rest)
+    (λ r. after (codes " ") r.1 >>= λ behind. gift_at behind >>= λ gift. Some (Give r.0 gift.0 gift.1, gift.2)) (record_says layout is rest)
+    (λ r it. then_holds (λ (behind : List ℕ). r.1 ≡ 32 ∷ behind) Says (after (codes " ") r.1) (λ behind. gift_at behind >>= λ gift. Some (Give r.0 gift.0 gift.1, gift.2)) (literal_holds (codes " ") r.1)
+    (λ behind e. then_holds (SaysPair decimal (2 ^ 16) (2 ^ 64) behind) Says (gift_at behind) (λ gift. Some (Give r.0 gift.0 gift.1, gift.2)) (gift_says behind)
+    (λ gift is2. (
+      (it.0, (is2.0, is2.1.0)),
+      same ∙ ap (λ (t : List ℕ). codes "give " ++ t) (spaced (record_text records r.0) (decimal gift.0 ++ 32 ∷ last_text gift.1) rest r.1 behind gift.2 it.1 e is2.1.1),
+    ))))
+
+pub ask_says : (layout : LayoutState) → IsLayout layout → (bytes : List ℕ) → Holds (SaysAsk layout bytes) (ask_at layout.records bytes)
+unfolding ask_at
+ask_says layout is bytes =
+    behind_holds Says (codes "read ") bytes _ _
+    (λ rest e. then_holds (Held rest) Says (held_at layout.records rest) (λ x. Some (Read x.0 x.1, x.2)) (held_says layout is rest) (λ x it. ((it.0, it.1.0), e ∙ ap (λ (t : List ℕ). codes "read " ++ t) it.1.1)))
+    (behind_holds Says (codes "leave ") bytes _ _
+    (λ rest e. then_holds (Held rest) Says (held_at layout.records rest) (λ x. Some (Leave x.0 x.1, x.2)) (held_says layout is rest) (λ x it. ((it.0, it.1.0), e ∙ ap (λ (t : List ℕ). codes "leave " ++ t) it.1.1)))
+    (behind_holds Says (codes "announce ") bytes _ _
+    (λ rest e. then_holds (Held rest) Says (held_at layout.records rest) (λ x. Some (Announce x.0 x.1, x.2)) (held_says layout is rest) (λ x it. ((it.0, it.1.0), e ∙ ap (λ (t : List ℕ). codes "announce " ++ t) it.1.1)))
+    (behind_holds Says (codes "write ") bytes _ _
+    (λ rest e. then_holds (Held rest) Says (held_at layout.records rest) (λ x. Some (Quill x.0 x.1, x.2)) (held_says layout is rest) (λ x it. ((it.0, it.1.0), e ∙ ap (λ (t : List ℕ). codes "write " ++ t) it.1.1)))
+    (behind_holds Says (codes "help ") bytes (help_at layout.records) _ (λ rest e. help_says layout is bytes rest e)
+    (behind_holds Says (codes "give ") bytes (give_at layout.records) None (λ rest e. give_says layout is bytes rest e) tt)))))
   where
-    records : List RecordSpec
-    records = layout.records
+    Says : Ask × List ℕ → Type 0
+    Says = SaysAsk layout bytes
 
-    at : (r < length records) ⊎ (length records ≤ r) → RecordAgain records r
-    at (inl below) =
-        let it = name_again layout is r below in
-        record {
-          word = subst IsWord (sym it.text) it.word;
-          plain = ap is_plain it.text ∙ it.plain;
-          found = ap (logged_record records) it.text ∙ it.logged;
-        }
-    at (inr past) =
-        let text : record_text records r ≡ 63 ∷ decimal r = cond-false (ltb r (length records)) _ _ (le-ltb r (length records) past) in
-        record {
-          word = subst IsWord (sym text) (refl, decimal_word r (omega (arith, fits)));
-          plain = ap is_plain text ∙ decimal_plain r (omega (arith, fits));
-          found = ap (logged_record records) text
-              ∙ (ap (λ (o : Option ℕ). o >>= numbered_or_none records) (short_again_word r fits) ∙ cond-false (ltb r (length records)) None (Some r) (le-ltb r (length records) past));
-        }
+    Held : List ℕ → ℕ × ℕ × List ℕ → Type 0
+    Held = SaysPair (record_text layout.records) (2 ^ 16) (2 ^ 64)
 
--- ---- asks
+-- ---- what stands there is read
 
--- a record and a number behind a verb
-held : (layout : LayoutState) → IsLayout layout → (verb : List ℕ) (r h : ℕ) (ask : Ask) → r < 2 ^ 16 → h < 2 ^ 64 → ask_with verb r (OneNumber h) ≡ Some ask
-    → ask_in layout.records (verb ∷ words_of (record_text layout.records r ++ 32 ∷ (decimal h ++ []))) ≡ Some ask
-held layout is verb r h ask fits fits2 says =
-    let again = record_again layout is r fits in
-    rw (word_first (record_text layout.records r) (decimal h ++ []) again.word) (rw (again.found, one_number h fits2) says)
+held_again : (layout : LayoutState) → IsLayout layout → (r h : ℕ) (rest : List ℕ) → r < 2 ^ 16 → h < 2 ^ 64
+    → held_at layout.records ((record_text layout.records r ++ 32 ∷ last_text h) ++ 34 ∷ rest) ≡ Some (r, h, rest)
+unfolding held_at
+held_again layout is r h rest fits fits2 =
+    paired_again (record_text layout.records r) r h rest (record_at layout.records) last_number
+    (record_at_again layout is r 32 (last_text h ++ 34 ∷ rest) fits refl) (last_number_again h rest fits2)
 
-pub ask_again : (layout : LayoutState) → IsLayout layout → (ask : Ask) → FitsAsk ask → ask_in layout.records (words_of (ask_text layout.records ask)) ≡ Some ask
-ask_again layout is (Read r h) fits = held layout is (codes "read") r h (Read r h) fits.0 fits.1 refl
-ask_again layout is (Announce r h) fits = held layout is (codes "announce") r h (Announce r h) fits.0 fits.1 refl
-ask_again layout is (Quill r h) fits = held layout is (codes "write") r h (Quill r h) fits.0 fits.1 refl
-ask_again layout is (Leave r h) fits = held layout is (codes "leave") r h (Leave r h) fits.0 fits.1 refl
-ask_again layout is (Give r to seats) fits =
-    let again = record_again layout is r fits.0 in
-    let gives : ask_with (codes "give") r (TwoNumbers to seats) ≡ Some (Give r to seats) = rw (below_again (2 ^ 16) to fits.1.0) refl in
-    rw (word_first (record_text layout.records r) (decimal to ++ 32 ∷ (decimal seats ++ [])) again.word)
-    (rw (again.found, two_numbers to seats (omega (arith, fits.1.0)) fits.1.1) gives)
-ask_again layout is (Help r) fits =
-    let again = record_again layout is r fits in
-    rw (word_last (record_text layout.records r) again.word) (rw again.found refl)
+help_again : (layout : LayoutState) → IsLayout layout → (r : ℕ) (rest : List ℕ) → r < 2 ^ 16 → help_at layout.records (record_text layout.records r ++ 34 ∷ rest) ≡ Some (Help r, rest)
+unfolding help_at
+help_again layout is r rest fits =
+    ap (λ (o : Option (ℕ × List ℕ)). o >>= λ x. after (codes "\"") x.1 >>= λ behind. Some (Help x.0, behind)) (record_at_again layout is r 34 rest fits refl)
 
--- other verbs ask nothing
-other_verb : (records : List RecordSpec) (verb : List ℕ) (words : List (List ℕ)) → ((r : ℕ) (n : Numbers) → ask_with verb r n ≡ None) → ask_in records (verb ∷ words) ≡ None
-other_verb records verb [] none = refl
-other_verb records verb (name ∷ words) none = at (logged_record records name) (numbers_in words)
-  where
-    at : (r : Option ℕ) (n : Option Numbers) → (r >>= λ x. n >>= λ y. ask_with verb x y) ≡ None
-    at None n = refl
-    at (Some x) None = refl
-    at (Some x) (Some y) = none x y
+give_again : (layout : LayoutState) → IsLayout layout → (r to seats : ℕ) (rest : List ℕ) → r < 2 ^ 16 → to < 2 ^ 16 → seats < 2 ^ 64
+    → give_at layout.records ((record_text layout.records r ++ 32 ∷ (decimal to ++ 32 ∷ last_text seats)) ++ 34 ∷ rest) ≡ Some (Give r to seats, rest)
+unfolding give_at
+give_again layout is r to seats rest fits fits2 fits3 =
+    let records = layout.records in
+    let gift = decimal to ++ 32 ∷ last_text seats in
+    ap (give_at records) (append_assoc (record_text records r) (32 ∷ gift) (34 ∷ rest))
+    ∙ (ap (λ (o : Option (ℕ × List ℕ)). o >>= λ x. after (codes " ") x.1 >>= λ behind. gift_at behind >>= λ y. Some (Give x.0 y.0 y.1, y.2))
+    (record_at_again layout is r 32 (gift ++ 34 ∷ rest) fits refl)
+    ∙ ap (λ (o : Option (ℕ × ℕ × List ℕ)). o >>= λ y. Some (Give r y.0 y.1, y.2)) (gift_again to seats rest fits2 fits3))
 
-takes_nothing : (r : ℕ) (n : Numbers) → ask_with (codes "take") r n ≡ None
-takes_nothing r NoNumber = refl
-takes_nothing r (OneNumber h) = refl
-takes_nothing r (TwoNumbers to seats) = refl
+pub ask_again : (layout : LayoutState) → IsLayout layout → (ask : Ask) (rest : List ℕ) → FitsAsk ask → ask_at layout.records (ask_text layout.records ask ++ 34 ∷ rest) ≡ Some (ask, rest)
+unfolding ask_at
+ask_again layout is (Read r h) rest fits =
+    ap (λ (o : Option (ℕ × ℕ × List ℕ)). o >>= λ x. Some (Read x.0 x.1, x.2)) (held_again layout is r h rest fits.0 fits.1)
+ask_again layout is (Announce r h) rest fits =
+    ap (λ (o : Option (ℕ × ℕ × List ℕ)). o >>= λ x. Some (Announce x.0 x.1, x.2)) (held_again layout is r h rest fits.0 fits.1)
+ask_again layout is (Quill r h) rest fits =
+    ap (λ (o : Option (ℕ × ℕ × List ℕ)). o >>= λ x. Some (Quill x.0 x.1, x.2)) (held_again layout is r h rest fits.0 fits.1)
+ask_again layout is (Leave r h) rest fits =
+    ap (λ (o : Option (ℕ × ℕ × List ℕ)). o >>= λ x. Some (Leave x.0 x.1, x.2)) (held_again layout is r h rest fits.0 fits.1)
+ask_again layout is (Give r to seats) rest fits = give_again layout is r to seats rest fits.0 fits.1.0 fits.1.1
+ask_again layout is (Help r) rest fits = help_again layout is r rest fits
 
-pub take_asks_nothing : (records : List RecordSpec) (text : List ℕ) → ask_in records (words_of (codes "take " ++ text)) ≡ None
-take_asks_nothing records text = other_verb records (codes "take") (words_of text) takes_nothing
-
--- ---- what stands between quotes
+-- ---- between quotes
 
 -- the text of an ask needs no backslash
 ask_plain : (layout : LayoutState) → IsLayout layout → (ask : Ask) → FitsAsk ask → is_plain (ask_text layout.records ask) ≡ true
@@ -197,68 +127,57 @@ ask_plain layout is (Give r to seats) fits =
     (number_plain to (32 ∷ (decimal seats ++ [])) (omega (arith, fits.1.0)) (number_plain seats [] fits.1.1 refl))
 ask_plain layout is (Help r) fits = (record_again layout is r fits).plain
 
--- .. and is not that of a snapshot
-no_send : (records : List RecordSpec) (ask : Ask) → bytes_eq (ask_text records ask) (codes "send") ≡ false
-no_send records (Read r h) = refl
-no_send records (Announce r h) = refl
-no_send records (Quill r h) = refl
-no_send records (Leave r h) = refl
-no_send records (Give r to seats) = refl
-no_send records (Help r) = refl
+abbrev SaysCall : LayoutState → List ℕ → Call × List ℕ → Type 0
+SaysCall layout bytes x = FitsCall x.0 × (bytes ≡ quoted (call_text layout.records x.0) x.1)
 
--- a call without a delta stands in front of the first quote, and is read again
-call_stands : (layout : LayoutState) → IsLayout layout → (call : Call) → FitsCall call → (bytes rest : List ℕ) → bytes ≡ quoted (call_text layout.records call) rest
-    → ((t : List ℕ) → bytes ≢ codes "take " ++ t)
-    → (cut_at 34 bytes ≡ Some (call_text layout.records call, rest)) × (worded_call layout.records (call_text layout.records call) ≡ Some call)
-call_stands layout is (AskCall a) fits bytes rest same none = (
-  ap (cut_at 34) same ∙ plain_read (ask_text layout.records a) rest (ask_plain layout is a fits),
-  rw (no_send layout.records a) (ap (λ (o : Option Ask). o >>= λ x. Some (AskCall x)) (ask_again layout is a fits)),
-)
-call_stands layout is (Merge d) fits bytes rest same none = absurd (none (quoted (delta_text d) rest) same)
-call_stands layout is Snapshot fits bytes rest same none = (ap (cut_at 34) same ∙ plain_read (codes "send") rest refl, refl)
+call_says : (layout : LayoutState) → IsLayout layout → (bytes : List ℕ) → Holds (SaysCall layout bytes) (worded_call layout.records bytes)
+unfolding worded_call
+call_says layout is bytes =
+    says_holds (SaysCall layout bytes) (codes "send\"") Snapshot bytes (ask_at layout.records bytes >>= λ ask. Some (AskCall ask.0, ask.1)) (λ rest e. (tt, e))
+    (then_holds (SaysAsk layout bytes) (SaysCall layout bytes) (ask_at layout.records bytes) (λ ask. Some (AskCall ask.0, ask.1)) (ask_says layout is bytes)
+    (λ x it. (it.0, it.1 ∙ sym (plain_quoted (ask_text layout.records x.0) x.1 (ask_plain layout is x.0 it.0)))))
+
+-- no ask is a snapshot
+not_sent : (records : List RecordSpec) (ask : Ask) (rest : List ℕ) → worded_call records (ask_text records ask ++ 34 ∷ rest) ≡ (ask_at records (ask_text records ask ++ 34 ∷ rest) >>= λ x. Some (AskCall x.0, x.1))
+unfolding worded_call
+not_sent records (Read r h) rest = refl
+not_sent records (Announce r h) rest = refl
+not_sent records (Quill r h) rest = refl
+not_sent records (Leave r h) rest = refl
+not_sent records (Give r to seats) rest = refl
+not_sent records (Help r) rest = refl
+
+pub asked_again : (layout : LayoutState) → IsLayout layout → (ask : Ask) (rest : List ℕ) → FitsAsk ask
+    → worded_call layout.records (quoted (ask_text layout.records ask) rest) ≡ Some (AskCall ask, rest)
+asked_again layout is ask rest fits =
+    ap (worded_call layout.records) (plain_quoted (ask_text layout.records ask) rest (ask_plain layout is ask fits))
+    ∙ (not_sent layout.records ask rest ∙ ap (λ (o : Option (Ask × List ℕ)). o >>= λ x. Some (AskCall x.0, x.1)) (ask_again layout is ask rest fits))
+
+pub sent_again : (records : List RecordSpec) (rest : List ℕ) → worded_call records (quoted (codes "send") rest) ≡ Some (Snapshot, rest)
+unfolding worded_call
+sent_again records rest = refl
+
+-- what begins with the verb that takes a delta is none of these
+pub take_asks_nothing : (records : List RecordSpec) (text : List ℕ) → worded_call records (codes "take " ++ text) ≡ None
+unfolding worded_call ask_at
+take_asks_nothing records text = refl
 
 abbrev NoCall : LayoutState → List ℕ → Type 0
 NoCall layout bytes = (call : Call) → (rest : List ℕ) → FitsCall call → bytes ≢ quoted (call_text layout.records call) rest
 
--- there is no quote
-pub no_quote : (layout : LayoutState) → IsLayout layout → (e : Unread) (bytes : List ℕ) → Fails e (cut_at 34 bytes) → ((t : List ℕ) → bytes ≢ codes "take " ++ t) → Refuses e (NoCall layout bytes)
-no_quote layout is Refused bytes none takes_none = λ call rest fits same.
-    none-some (call_text layout.records call, rest) (sym none ∙ (call_stands layout is call fits bytes rest same takes_none).0)
-no_quote layout is NoRoom bytes none takes_none = tt
+no_call : (layout : LayoutState) → IsLayout layout → (bytes : List ℕ) → worded_call layout.records bytes ≡ None → ((t : List ℕ) → bytes ≢ codes "take " ++ t) → NoCall layout bytes
+no_call layout is bytes none takes_none (AskCall a) rest fits same =
+    none-some (AskCall a, rest) (sym none ∙ (ap (worded_call layout.records) same ∙ asked_again layout is a rest fits))
+no_call layout is bytes none takes_none (Merge d) rest fits same = takes_none (quoted (delta_text d) rest) same
+no_call layout is bytes none takes_none Snapshot rest fits same =
+    none-some (Snapshot, rest) (sym none ∙ (ap (worded_call layout.records) same ∙ sent_again layout.records rest))
 
--- what stands in front of the quote is no call
-pub no_words : (layout : LayoutState) → IsLayout layout → (bytes text behind : List ℕ) → cut_at 34 bytes ≡ Some (text, behind) → None ≡ worded_call layout.records text
-    → ((t : List ℕ) → bytes ≢ codes "take " ++ t) → NoCall layout bytes
-no_words layout is bytes text behind cut none takes_none = λ call rest fits same.
-    let stands = call_stands layout is call fits bytes rest same takes_none in
-    let texts = some_pair_parts text (call_text layout.records call) behind rest (sym cut ∙ stands.0) in
-    none-some call (none ∙ (ap (worded_call layout.records) texts.0 ∙ stands.1))
-
--- it is that call alone
-both_hold : {A : Type 0} (P Q : A → Type 0) (o : Option A) → Holds P o → Holds Q o → Holds (λ x. P x × Q x) o
-both_hold P Q None p q = tt
-both_hold P Q (Some x) p q = (p, q)
-
-pub words_say : (layout : LayoutState) → IsLayout layout → (bytes text behind : List ℕ) (call : Call) → cut_at 34 bytes ≡ Some (text, behind) → Some call ≡ worded_call layout.records text
-    → FitsCall call × (bytes ≡ quoted (call_text layout.records call) behind)
-words_say layout is bytes text behind call cut read =
-    let says = held_by Says (worded_call layout.records text) call holds read in (
-      says.0,
-      cut_takes 34 bytes text behind cut ∙ (ap (λ (t : List ℕ). t ++ 34 ∷ behind) says.1.0 ∙ sym (plain_quoted (call_text layout.records call) behind says.1.1)),
-    )
-  where
-    Says : Call → Type 0
-    Says c = FitsCall c × ((text ≡ call_text layout.records c) × (is_plain (call_text layout.records c) ≡ true))
-
-    asked : Holds (λ (a : Ask). FitsAsk a × (text ≡ ask_text layout.records a)) (ask_in layout.records (words_of text))
-    asked =
-        both_hold FitsAsk (λ (a : Ask). text ≡ ask_text layout.records a) (ask_in layout.records (words_of text)) (ask_holds layout is (words_of text)) (ask_told layout is text)
-
-    holds : Holds Says (worded_call layout.records text)
-    holds =
-        word_holds Says text (codes "send") (Some Snapshot) (ask_in layout.records (words_of text) >>= λ ask. Some (AskCall ask)) (λ e. (tt, (e, refl)))
-        (then_holds (λ (a : Ask). FitsAsk a × (text ≡ ask_text layout.records a)) Says (ask_in layout.records (words_of text)) (λ ask. Some (AskCall ask)) asked
-        (λ a it. (it.0, (it.1, ask_plain layout is a it.0))))
+-- what a reader of calls without a delta answers
+pub call_so : {X : Type 0} (view : X → Call × List ℕ) (layout : LayoutState) → IsLayout layout → (bytes : List ℕ) (result : Result X Unread)
+    → Gives view result (worded_call layout.records bytes) → ((t : List ℕ) → bytes ≢ codes "take " ++ t) → ReadsQuoted view FitsCall (call_text layout.records) bytes result
+call_so view layout is bytes (Ok x) gives takes_none = held_by (SaysCall layout bytes) (worded_call layout.records bytes) (view x) (call_says layout is bytes) gives
+call_so view layout is bytes (Err Refused) gives takes_none = no_call layout is bytes gives takes_none
+call_so view layout is bytes (Err NoRoom) gives takes_none = tt
 
 -- the bytes behind its verb are those of no delta
 pub no_merge : (e : Unread) (records : List RecordSpec) (bytes : List ℕ) → Refuses e ((d : DeltaState) → (rest : List ℕ) → IsDelta d → bytes ≢ quoted (delta_text d) rest)

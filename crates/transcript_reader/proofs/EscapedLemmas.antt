@@ -1,13 +1,11 @@
 -- Text between quotes: its parts, and bytes that need no backslash.
-use Rattle.std.proofs.Common.{◌≡◌, ℕ, ◌+◌, ◌%◌, ◌<◌, ◌^◌, Bool, true, false, cond, ◌||◌, eqb, List, [], ◌∷◌, ◌++◌, Some, decimal, refl, sym, ap, ◌∙◌, arith}
+use Rattle.std.proofs.Common.{◌≡◌, ℕ, ◌+◌, ◌%◌, ◌<◌, ◌^◌, Bool, true, false, cond, ◌||◌, eqb, List, [], ◌∷◌, ◌++◌, decimal, refl, sym, ap, ◌∙◌, arith}
 use Rattle.std.proofs.lemmas.Bool.{ne_eqb}
 use Rattle.std.proofs.lemmas.Fmt.{decimal_by_steps}
 use Rattle.std.proofs.lemmas.Option.{some_pair_parts}
 use Rattle.text_parts.specs.Lists.{later, joined}
-use Rattle.text_parts.specs.Readers.{onto}
 use Rattle.transcript_text.specs.Quoted.{escaped}
 use Rattle.transcript_reader.specs.Quoted.{quoted}
-use Rattle.transcript_reader.specs.Readers.{cut_at}
 use Rattle.transcript_reader.proofs.QuotedLemmas.{unescaped, unescaped_again}
 
 pub escaped_append : (a b : List ℕ) → escaped (a ++ b) ≡ escaped a ++ escaped b
@@ -30,7 +28,7 @@ abbrev pub is_plain : List ℕ → Bool
 is_plain [] = true
 is_plain (b ∷ bs) = cond ((eqb b 34) || (eqb b 92)) false (is_plain bs)
 
-plain_front : (q s rest : Bool) → cond (q || s) false rest ≡ true → (q ≡ false) × ((s ≡ false) × (rest ≡ true))
+pub plain_front : (q s rest : Bool) → cond (q || s) false rest ≡ true → (q ≡ false) × ((s ≡ false) × (rest ≡ true))
 plain_front true s rest e = absurd cc
 plain_front false true rest e = absurd cc
 plain_front false false rest e = (refl, (refl, e))
@@ -66,17 +64,6 @@ number_plain n rest fits plain = plain_append (decimal n) rest (decimal_plain n 
 
 pub escaped_decimal : (n : ℕ) → n < 2 ^ 64 → escaped (decimal n) ≡ decimal n
 escaped_decimal n fits = plain_escaped (decimal n) (decimal_plain n fits)
-
--- the first quote stands behind plain bytes
-pub plain_cut : (t rest : List ℕ) → is_plain t ≡ true → cut_at 34 (t ++ 34 ∷ rest) ≡ Some (t, rest)
-plain_cut [] rest plain = refl
-plain_cut (b ∷ bs) rest plain =
-    let p = plain_front (eqb b 34) (eqb b 92) (is_plain bs) plain in
-    rw p.0 (ap (onto b) (plain_cut bs rest p.1.1))
-
--- .. as they stand between quotes
-pub plain_read : (t rest : List ℕ) → is_plain t ≡ true → cut_at 34 (quoted t rest) ≡ Some (t, rest)
-plain_read t rest plain = ap (cut_at 34) (plain_quoted t rest plain) ∙ plain_cut t rest plain
 
 -- ---- lists
 

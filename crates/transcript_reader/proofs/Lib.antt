@@ -1,14 +1,13 @@
 pub mod QuotedLemmas
 pub mod EscapedLemmas
 pub mod DeltaLemmas
-pub mod NumberLemmas
 pub mod CutLemmas
+pub mod HoldLemmas
 pub mod WordLemmas
+pub mod RecordLemmas
 pub mod EntryLemmas
 pub mod CallLemmas
 pub mod ReplyLemmas
-pub mod FitLemmas
-pub mod StrictLemmas
 pub mod ReadingLemmas
 pub mod OpeningLemmas
 pub mod PartLemmas

@@ -1,6 +1,6 @@
 -- A text has one reading at most: a line is that of one entry, or begins one run, and not both.
-use Rattle.std.proofs.Common.{◌≡◌, ℕ, List, get_or, drop, Some, codes, unwrap_or, refl, sym, ap, subst, ◌∙◌, ◌⊎◌, inl, inr, arith}
-use Rattle.std.proofs.lemmas.Option.{none-some, same_Some}
+use Rattle.std.proofs.Common.{◌≡◌, ℕ, List, [], ◌++◌, get_or, drop, Option, Some, codes, unwrap_or, refl, sym, ap, subst, ◌∙◌, ◌⊎◌, inl, inr, arith}
+use Rattle.std.proofs.lemmas.Option.{none-some, same_Some, some_pair_parts}
 use Rattle.merge_core.specs.Layout.{LayoutState, IsLayout, at_sites, shape_of}
 use Rattle.merge_core.specs.Rows.{start_counter}
 use Rattle.merge_core.specs.Delta.{DeltaState}
@@ -15,17 +15,17 @@ use Rattle.admission_core.specs.Kept.{DurableState}
 use Rattle.delta_codec.specs.DeltaText.{delta_text}
 use Rattle.delta_codec.proofs.DeltaLaws.{one_delta}
 use Rattle.desk_log.specs.declared.entry.Entry.{Entry}
-use Rattle.script_text.specs.Words.{words_of}
 use Rattle.script_text.specs.Replies.{reply_text}
 use Rattle.transcript_text.specs.Texts.{ask_text, call_text, entry_text, front_text, book_told, MayBegin}
 use Rattle.transcript_reader.specs.declared.openings.Opening.{Opening}
 use Rattle.transcript_reader.specs.Fits.{FitsAsk, FitsCall, FitsReply, FitsEntry}
-use Rattle.transcript_reader.specs.Words.{ask_in, reply_in}
+use Rattle.transcript_reader.specs.CallReaders.{worded_call}
+use Rattle.transcript_reader.specs.ReplyReaders.{worded_reply}
 use Rattle.transcript_reader.specs.Quoted.{quoted}
 use Rattle.transcript_reader.specs.Readers.{OpeningParts, opening_parts}
 use Rattle.transcript_reader.specs.Reading.{BeginsRun}
-use Rattle.transcript_reader.proofs.CallLemmas.{ask_again, take_asks_nothing}
-use Rattle.transcript_reader.proofs.ReplyLemmas.{IsTold, reply_again}
+use Rattle.transcript_reader.proofs.CallLemmas.{asked_again, sent_again, take_asks_nothing}
+use Rattle.transcript_reader.proofs.ReplyLemmas.{IsTold, worded_or_told, told_unread}
 use Rattle.transcript_reader.proofs.EscapedLemmas.{quoted_once}
 use Rattle.transcript_reader.proofs.EntryLemmas.{tail_text, front_same, passes_same, entry_same}
 use Rattle.transcript_reader.proofs.PartLemmas.{told_delta, cells_told}
@@ -33,36 +33,45 @@ use Rattle.transcript_reader.proofs.BeginLemmas.{spelled_so, one_front, layout_t
 
 -- ---- entries
 
--- the ask of a text
-asked : (layout : LayoutState) → IsLayout layout → (a : Ask) (text : List ℕ) → FitsAsk a → ask_text layout.records a ≡ text → Some a ≡ ask_in layout.records (words_of text)
-asked layout is a text fits same = sym (ask_again layout is a fits) ∙ ap (λ (t : List ℕ). ask_in layout.records (words_of t)) same
+-- the call of an ask's text
+asked : (layout : LayoutState) → IsLayout layout → (a : Ask) (text : List ℕ) → FitsAsk a → ask_text layout.records a ≡ text
+    → worded_call layout.records (quoted text []) ≡ Some (AskCall a, [])
+asked layout is a text fits same = ap (λ (t : List ℕ). worded_call layout.records (quoted t [])) (sym same) ∙ asked_again layout is a [] fits
+
+-- no ask takes a delta
+not_taken : (layout : LayoutState) → IsLayout layout → (a : Ask) (d : DeltaState) → FitsAsk a → ask_text layout.records a ≡ codes "take " ++ delta_text d → ⊥
+not_taken layout is a d fits same =
+    none-some (AskCall a, []) (sym (take_asks_nothing layout.records (quoted (delta_text d) [])) ∙ asked layout is a (codes "take " ++ delta_text d) fits same)
+
+same_call : (c d : Call) → ◌≡◌ {A = Option (Call × List ℕ)} (Some (c, [])) (Some (d, [])) → c ≡ d
+same_call c d same = (some_pair_parts c d [] [] same).0
 
 one_call : (layout : LayoutState) → IsLayout layout → (c d : Call) → FitsCall c → FitsCall d → call_text layout.records c ≡ call_text layout.records d → c ≡ d
 one_call layout is (AskCall a) (AskCall b) fits fits2 same =
-    ap AskCall (same_Some a b (asked layout is a (ask_text layout.records b) fits same ∙ ask_again layout is b fits2))
-one_call layout is (AskCall a) (Merge d) fits fits2 same =
-    absurd (none-some a (sym (asked layout is a (call_text layout.records (Merge d)) fits same ∙ take_asks_nothing layout.records (delta_text d))))
-one_call layout is (AskCall a) Snapshot fits fits2 same = absurd (none-some a (sym (asked layout is a (codes "send") fits same)))
-one_call layout is (Merge d) (AskCall b) fits fits2 same =
-    absurd (none-some b (sym (asked layout is b (call_text layout.records (Merge d)) fits2 (sym same) ∙ take_asks_nothing layout.records (delta_text d))))
+    same_call (AskCall a) (AskCall b) (sym (asked layout is a (ask_text layout.records b) fits same) ∙ asked_again layout is b [] fits2)
+one_call layout is (AskCall a) (Merge d) fits fits2 same = absurd (not_taken layout is a d fits same)
+one_call layout is (AskCall a) Snapshot fits fits2 same =
+    same_call (AskCall a) Snapshot (sym (asked layout is a (codes "send") fits same) ∙ sent_again layout.records [])
+one_call layout is (Merge d) (AskCall b) fits fits2 same = absurd (not_taken layout is b d fits2 (sym same))
 one_call layout is (Merge d) (Merge e) fits fits2 same = ap Merge (one_delta d e fits fits2 (ap (λ (t : List ℕ). drop 5 t) same))
 one_call layout is (Merge d) Snapshot fits fits2 same =
     let clash : ◌≡◌ {A = ℕ} 116 115 = ap (λ (t : List ℕ). get_or t 0 0) same in absurd (omega arith)
-one_call layout is Snapshot (AskCall b) fits fits2 same = absurd (none-some b (sym (asked layout is b (codes "send") fits2 (sym same))))
+one_call layout is Snapshot (AskCall b) fits fits2 same =
+    same_call Snapshot (AskCall b) (sym (sent_again layout.records []) ∙ asked layout is b (codes "send") fits2 (sym same))
 one_call layout is Snapshot (Merge e) fits fits2 same =
     let clash : ◌≡◌ {A = ℕ} 115 116 = ap (λ (t : List ℕ). get_or t 0 0) same in absurd (omega arith)
 one_call layout is Snapshot Snapshot fits fits2 same = refl
 
 one_reply : (r q : Reply) → FitsReply r → FitsReply q → reply_text r ≡ reply_text q → r ≡ q
-one_reply r q fits fits2 same = at (reply_again r fits) (reply_again q fits2)
+one_reply r q fits fits2 same = at (worded_or_told r [] fits) (worded_or_told q [] fits2)
   where
-    read : reply_in (words_of (reply_text r)) ≡ reply_in (words_of (reply_text q))
-    read = ap (λ (t : List ℕ). reply_in (words_of t)) same
+    read : worded_reply (quoted (reply_text r) []) ≡ worded_reply (quoted (reply_text q) [])
+    read = ap (λ (t : List ℕ). worded_reply (quoted t [])) same
 
-    at : (reply_in (words_of (reply_text r)) ≡ Some r) ⊎ IsTold r → (reply_in (words_of (reply_text q)) ≡ Some q) ⊎ IsTold q → r ≡ q
-    at (inl one) (inl other) = same_Some r q (sym one ∙ (read ∙ other))
-    at (inl one) (inr told) = absurd (none-some r (sym told.unread ∙ (sym read ∙ one)))
-    at (inr told) (inl other) = absurd (none-some q (sym told.unread ∙ (read ∙ other)))
+    at : (worded_reply (quoted (reply_text r) []) ≡ Some (r, [])) ⊎ IsTold r → (worded_reply (quoted (reply_text q) []) ≡ Some (q, [])) ⊎ IsTold q → r ≡ q
+    at (inl one) (inl other) = (some_pair_parts r q [] [] (sym one ∙ (read ∙ other))).0
+    at (inl one) (inr told) = absurd (none-some (r, []) (sym (told_unread q told []) ∙ (sym read ∙ one)))
+    at (inr told) (inl other) = absurd (none-some (q, []) (sym (told_unread r told []) ∙ (read ∙ other)))
     at (inr told) (inr told2) =
         let texts : delta_text told.delta ≡ delta_text told2.delta = sym (ap reply_text told.is) ∙ (same ∙ ap reply_text told2.is) in
         told.is ∙ (ap SnapshotReply (one_delta told.delta told2.delta told.fits told2.fits texts) ∙ sym told2.is)

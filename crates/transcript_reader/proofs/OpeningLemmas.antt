@@ -21,7 +21,7 @@ use Rattle.transcript_text.specs.Texts.{nameless, record_text, session_text, fro
 use Rattle.transcript_reader.specs.Quoted.{quoted}
 use Rattle.transcript_reader.specs.Readers.{OpeningParts, cut_at, phase_at, session_at, sessions_at, sites_at, opening_parts}
 use Rattle.transcript_reader.proofs.WordLemmas.{IsWord}
-use Rattle.transcript_reader.proofs.CallLemmas.{name_again}
+use Rattle.transcript_reader.proofs.RecordLemmas.{name_again}
 use Rattle.admission_model.specs.Replies.{holder_limit}
 
 abbrev Quoted : Type 0

@@ -2,6 +2,8 @@ pub mod Quoted
 pub mod Deltas
 pub mod Fits
 pub mod Words
+pub mod CallReaders
+pub mod ReplyReaders
 pub mod Readers
 pub mod Reading
 pub mod Lines

@@ -1,20 +1,21 @@
-//! Calls of a site from their lines.
+//! Calls of a site from their texts.
 ghost use Rattle.std.specs.Prelude.{◌≡◌, ◌≢◌, ◌++◌, ℕ, List, codes, length, nat_lt, MatchOption};
 ghost use Rattle.merge_core.specs.declared.layout.RecordSpec.{RecordSpec};
-ghost use Rattle.script_text.specs.Words.{words_of};
+ghost use Rattle.text_parts.specs.Readers.{Gives};
 ghost use Rattle.transcript_text.specs.Texts.{call_text};
 ghost use Rattle.transcript_reader.specs.Fits.{FitsCall};
 ghost use Rattle.transcript_reader.specs.Quoted.{ReadsQuoted};
-ghost use Rattle.transcript_reader.specs.Words.{record_named, record_numbered, logged_record, held_ask, ask_with, ask_in, worded_call};
+ghost use Rattle.transcript_reader.specs.Words.{record_named, record_numbered, logged_record, record_at};
+ghost use Rattle.transcript_reader.specs.CallReaders.{held_at, help_at, give_at, ask_at, worded_call};
 
 use crate::deltas::told_at;
-use crate::numbers::{Numbers, numbers_in, short_of};
-use crate::quoted::cut_at;
+use crate::numbers::{gift_at, last_number};
+use crate::words::{behind, word_at};
 use admission_core::{Ask, Call};
 use merge_core::Layout;
-use script_text::{cut_word, record_word, short_word};
+use script_text::{record_word, short_word};
 use std::alloc::Global;
-use text_parts::Unread;
+use text_parts::{Unread, after};
 
 // Whether the layout has a record of that number.
 fn has_record(layout: &Layout, r: u16) -> bool
@@ -55,69 +56,90 @@ fn logged_record(layout: &Layout, word: &[u8]) -> Option<u16>
     }
 }
 
-// What a verb asks with a holder.
-fn held_ask(verb: &[u8], r: u16, h: u64) -> Option<Ask>
-    ensures { result ≡ held_ask verb.now r h }
+// The record whose word stands at the front, and the bytes behind it.
+#[tactic(auto, unfolding(crate::specs::Words::record_at))]
+fn record_at<'a>(layout: &Layout, bytes: &'a [u8]) -> Result<(u16, &'a [u8]), Unread>
+    ensures { Gives (λ x. (x.0, x.1.now)) result (record_at layout.now.records bytes.now) }
 {
-    if verb == b"read".as_slice() {
-        return Some(Ask::Read { r, h });
-    }
-    if verb == b"announce".as_slice() {
-        return Some(Ask::Announce { r, h });
-    }
-    if verb == b"write".as_slice() {
-        return Some(Ask::Quill { r, h });
-    }
-    if verb == b"leave".as_slice() {
-        return Some(Ask::Leave { r, h });
-    }
-    None
-}
-
-// What a verb asks with these numbers.
-fn ask_with(verb: &[u8], r: u16, numbers: Numbers) -> Option<Ask>
-    ensures { result ≡ ask_with verb.now r numbers }
-{
-    match numbers {
-        Numbers::NoNumber => {
-            if verb == b"help".as_slice() {
-                return Some(Ask::Help { r });
-            }
-            None
-        }
-        Numbers::OneNumber(h) => held_ask(verb, r, h),
-        Numbers::TwoNumbers(to, seats) => {
-            if verb == b"give".as_slice() {
-                let to = short_of(to)?;
-                return Some(Ask::Give { r, to, seats });
-            }
-            None
-        }
-    }
-}
-
-// What a line asks of a site.
-fn ask_in(layout: &Layout, line: &[u8]) -> Option<Ask>
-    ensures { result ≡ ask_in layout.now.records (words_of line.now) }
-{
-    let (verb, Some(words)) = cut_word(line) else {
-        return None;
+    let Some((word, rest)) = word_at(bytes) else {
+        return Err(Unread::Refused);
     };
-    let (name, rest) = cut_word(words);
-    let r = logged_record(layout, name)?;
-    let numbers = numbers_in(rest)?;
-    ask_with(verb, r, numbers)
+    match logged_record(layout, word) {
+        Some(r) => Ok((r, rest)),
+        None => Err(Unread::Refused),
+    }
+}
+
+// A record and a holder.
+#[tactic(auto, unfolding(crate::specs::CallReaders::held_at))]
+fn held_at<'a>(layout: &Layout, bytes: &'a [u8]) -> Result<(u16, u64, &'a [u8]), Unread>
+    ensures { Gives (λ x. (x.0, x.1, x.2.now)) result (held_at layout.now.records bytes.now) }
+{
+    let (r, rest) = record_at(layout, bytes)?;
+    let rest = after(b" ", rest)?;
+    let (h, rest) = last_number(rest)?;
+    Ok((r, h, rest))
+}
+
+#[tactic(auto, unfolding(crate::specs::CallReaders::help_at))]
+fn help_at<'a>(layout: &Layout, bytes: &'a [u8]) -> Result<(Ask, &'a [u8]), Unread>
+    ensures { Gives (λ x. (x.0, x.1.now)) result (help_at layout.now.records bytes.now) }
+{
+    let (r, rest) = record_at(layout, bytes)?;
+    let rest = after(b"\"", rest)?;
+    Ok((Ask::Help { r }, rest))
+}
+
+#[tactic(auto, unfolding(crate::specs::CallReaders::give_at))]
+fn give_at<'a>(layout: &Layout, bytes: &'a [u8]) -> Result<(Ask, &'a [u8]), Unread>
+    ensures { Gives (λ x. (x.0, x.1.now)) result (give_at layout.now.records bytes.now) }
+{
+    let (r, rest) = record_at(layout, bytes)?;
+    let rest = after(b" ", rest)?;
+    let (to, seats, rest) = gift_at(rest)?;
+    Ok((Ask::Give { r, to, seats }, rest))
+}
+
+// What is asked of a site. No two verbs begin with one letter.
+#[tactic(auto, unfolding(crate::specs::CallReaders::ask_at))]
+fn ask_at<'a>(layout: &Layout, bytes: &'a [u8]) -> Result<(Ask, &'a [u8]), Unread>
+    ensures { Gives (λ x. (x.0, x.1.now)) result (ask_at layout.now.records bytes.now) }
+{
+    if let Some(rest) = behind(b"read ", bytes) {
+        let (r, h, rest) = held_at(layout, rest)?;
+        return Ok((Ask::Read { r, h }, rest));
+    }
+    if let Some(rest) = behind(b"leave ", bytes) {
+        let (r, h, rest) = held_at(layout, rest)?;
+        return Ok((Ask::Leave { r, h }, rest));
+    }
+    if let Some(rest) = behind(b"announce ", bytes) {
+        let (r, h, rest) = held_at(layout, rest)?;
+        return Ok((Ask::Announce { r, h }, rest));
+    }
+    if let Some(rest) = behind(b"write ", bytes) {
+        let (r, h, rest) = held_at(layout, rest)?;
+        return Ok((Ask::Quill { r, h }, rest));
+    }
+    if let Some(rest) = behind(b"help ", bytes) {
+        return help_at(layout, rest);
+    }
+    if let Some(rest) = behind(b"give ", bytes) {
+        return give_at(layout, rest);
+    }
+    Err(Unread::Refused)
 }
 
 // A call without a delta.
-fn worded_call(layout: &Layout, text: &[u8]) -> Option<Call>
-    ensures { result ≡ worded_call layout.now.records text.now }
+#[tactic(auto, unfolding(crate::specs::CallReaders::worded_call))]
+fn worded_call<'a>(layout: &Layout, bytes: &'a [u8]) -> Result<(Call, &'a [u8]), Unread>
+    ensures { Gives (λ x. (x.0, x.1.now)) result (worded_call layout.now.records bytes.now) }
 {
-    if text == b"send".as_slice() {
-        return Some(Call::Snapshot);
+    if let Some(rest) = behind(b"send\"", bytes) {
+        return Ok((Call::Snapshot, rest));
     }
-    let ask = ask_in(layout, text)?;
-    Some(Call::Ask(ask))
+    let (ask, rest) = ask_at(layout, bytes)?;
+    Ok((Call::Ask(ask), rest))
 }
 
 // The bytes behind the verb that takes a delta.
@@ -152,9 +174,5 @@ pub(crate) fn call_at<'a>(
     if let Some(delta) = taken_text(bytes) {
         return merge_at(alloc, delta);
     }
-    let (text, rest) = cut_at(b'"', bytes)?;
-    match worded_call(layout, text) {
-        Some(call) => Ok((call, rest)),
-        None => Err(Unread::Refused),
-    }
+    worded_call(layout, bytes)
 }

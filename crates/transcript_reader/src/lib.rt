@@ -19,3 +19,4 @@ mod replies;
 mod runs;
 mod sessions;
 mod told;
+mod words;

@@ -1,61 +1,68 @@
-//! The numbers at the end of a text of words.
-ghost use Rattle.std.specs.Prelude.{◌≡◌, ◌^◌, [], MatchOption};
-ghost use Rattle.script_text.specs.Words.{words_of};
-ghost use Rattle.transcript_reader.specs.Words.{numbers_in, below};
+//! Numbers up to the closing quote.
+ghost use Rattle.text_parts.specs.Readers.{Gives};
+ghost use Rattle.transcript_reader.specs.Words.{middle_at, last_number, last_short, last_middle, gift_at, shortage_at};
 
-use script_text::{cut_word, number_word};
+use text_parts::{Unread, after, number_at, short_at};
 
-/// At most two numbers.
-#[derive(Clone, Copy, Debug, PartialEq, Eq)]
-pub(crate) enum Numbers {
-    NoNumber,
-    OneNumber(u64),
-    TwoNumbers(u64, u64),
-}
-
-// One or two numbers, all of the words.
-fn some_numbers(words: &[u8]) -> Option<Numbers>
-    ensures { result ≡ numbers_in (words_of words.now) }
+// The number at the front and the bytes behind it. Refused from 2^32 on.
+#[tactic(auto, unfolding(crate::specs::Words::middle_at))]
+fn middle_at(bytes: &[u8]) -> Result<(u32, &[u8]), Unread>
+    ensures { Gives (λ x. (x.0, x.1.now)) result (middle_at bytes.now) }
 {
-    let (first, Some(rest)) = cut_word(words) else {
-        return Some(Numbers::OneNumber(number_word(words)?));
-    };
-    match cut_word(rest) {
-        (second, None) => {
-            let n = number_word(first)?;
-            let m = number_word(second)?;
-            Some(Numbers::TwoNumbers(n, m))
-        }
-        (_, Some(_)) => None,
+    let (number, rest) = number_at(bytes)?;
+    match u32::try_from(number) {
+        Ok(middle) => Ok((middle, rest)),
+        Err(_) => Err(Unread::Refused),
     }
 }
 
-/// The numbers that are all of the words, if there are words.
-pub(crate) fn numbers_in(words: Option<&[u8]>) -> Option<Numbers>
-    ensures { MatchOption words.entry (result ≡ numbers_in []) (λ it. result ≡ numbers_in (words_of it.now)) }
+/// A number up to the closing quote, and the bytes behind it.
+#[tactic(auto, unfolding(crate::specs::Words::last_number))]
+pub(crate) fn last_number(bytes: &[u8]) -> Result<(u64, &[u8]), Unread>
+    ensures { Gives (λ x. (x.0, x.1.now)) result (last_number bytes.now) }
 {
-    match words {
-        None => Some(Numbers::NoNumber),
-        Some(words) => some_numbers(words),
-    }
+    let (number, rest) = number_at(bytes)?;
+    let rest = after(b"\"", rest)?;
+    Ok((number, rest))
 }
 
-/// A number of 16 bits.
-pub(crate) fn short_of(n: u64) -> Option<u16>
-    ensures { result ≡ below (2 ^ 16) n }
+/// Such a number below 2^16.
+#[tactic(auto, unfolding(crate::specs::Words::last_short))]
+pub(crate) fn last_short(bytes: &[u8]) -> Result<(u16, &[u8]), Unread>
+    ensures { Gives (λ x. (x.0, x.1.now)) result (last_short bytes.now) }
 {
-    match u16::try_from(n) {
-        Ok(short) => Some(short),
-        Err(_) => None,
-    }
+    let (short, rest) = short_at(bytes)?;
+    let rest = after(b"\"", rest)?;
+    Ok((short, rest))
 }
 
-/// A number of 32 bits.
-pub(crate) fn middle_of(n: u64) -> Option<u32>
-    ensures { result ≡ below (2 ^ 32) n }
+#[tactic(auto, unfolding(crate::specs::Words::last_middle))]
+fn last_middle(bytes: &[u8]) -> Result<(u32, &[u8]), Unread>
+    ensures { Gives (λ x. (x.0, x.1.now)) result (last_middle bytes.now) }
 {
-    match u32::try_from(n) {
-        Ok(middle) => Some(middle),
-        Err(_) => None,
-    }
+    let (middle, rest) = middle_at(bytes)?;
+    let rest = after(b"\"", rest)?;
+    Ok((middle, rest))
+}
+
+/// A site and a number of seats for it up to the closing quote, and the bytes behind it.
+#[tactic(auto, unfolding(crate::specs::Words::gift_at))]
+pub(crate) fn gift_at(bytes: &[u8]) -> Result<(u16, u64, &[u8]), Unread>
+    ensures { Gives (λ x. (x.0, x.1, x.2.now)) result (gift_at bytes.now) }
+{
+    let (to, rest) = short_at(bytes)?;
+    let rest = after(b" ", rest)?;
+    let (seats, rest) = last_number(rest)?;
+    Ok((to, seats, rest))
+}
+
+/// Rights and the seats of a record up to the closing quote, and the bytes behind it.
+#[tactic(auto, unfolding(crate::specs::Words::shortage_at))]
+pub(crate) fn shortage_at(bytes: &[u8]) -> Result<(u64, u32, &[u8]), Unread>
+    ensures { Gives (λ x. (x.0, x.1, x.2.now)) result (shortage_at bytes.now) }
+{
+    let (rights, rest) = number_at(bytes)?;
+    let rest = after(b" ", rest)?;
+    let (seats, rest) = last_middle(rest)?;
+    Ok((rights, seats, rest))
 }

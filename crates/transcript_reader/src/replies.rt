@@ -1,210 +1,196 @@
 //! Replies from their texts.
-ghost use Rattle.std.specs.Prelude.{◌≡◌, ◌≢◌, ◌∷◌, [], ℕ, List, MatchOption};
-ghost use Rattle.script_text.specs.Words.{words_of};
+ghost use Rattle.std.specs.Prelude.{◌≡◌, ◌≢◌, ◌∷◌, ℕ, List, option_map, MatchOption};
+ghost use Rattle.text_parts.specs.Readers.{Gives};
 ghost use Rattle.script_text.specs.Replies.{reply_text};
 ghost use Rattle.transcript_reader.specs.Fits.{FitsReply};
 ghost use Rattle.transcript_reader.specs.Quoted.{ReadsQuoted};
-ghost use Rattle.transcript_reader.specs.Words.{plain_refusal, other_plain_refusal, refusal_with, refusal_of, counted_reply, left_reply, refused_reply, reply_in};
+ghost use Rattle.transcript_reader.specs.ReplyReaders.{plain_refusal, other_plain_refusal, row_refusal, counted_refusal, refusal_at, plain_reply, counted_reply, worded_reply};
 
 use crate::deltas::told_at;
-use crate::numbers::{Numbers, middle_of, numbers_in, short_of};
-use crate::quoted::cut_at;
+use crate::numbers::{gift_at, last_number, last_short, shortage_at};
+use crate::words::behind;
 use admission_core::{Phase, Refusal, Reply};
-use script_text::cut_word;
 use std::alloc::Global;
 use text_parts::Unread;
 
 // Half of the refusals without numbers.
-fn plain_refusal(name: &[u8]) -> Option<Refusal>
-    ensures { result ≡ plain_refusal name.now }
+#[tactic(auto, unfolding(crate::specs::ReplyReaders::plain_refusal))]
+fn plain_refusal(bytes: &[u8]) -> Option<(Refusal, &[u8])>
+    ensures { option_map (λ x. (x.0, x.1.now)) result ≡ plain_refusal bytes.now }
 {
-    if name == b"NoRecord".as_slice() {
-        return Some(Refusal::NoRecord);
+    if let Some(rest) = behind(b"NotHere\"", bytes) {
+        return Some((Refusal::NotHere, rest));
     }
-    if name == b"BadHolder".as_slice() {
-        return Some(Refusal::BadHolder);
+    if let Some(rest) = behind(b"AlreadyHere\"", bytes) {
+        return Some((Refusal::AlreadyHere, rest));
     }
-    if name == b"AlreadyHere".as_slice() {
-        return Some(Refusal::AlreadyHere);
+    if let Some(rest) = behind(b"AlreadyInside\"", bytes) {
+        return Some((Refusal::AlreadyInside, rest));
     }
-    if name == b"CounterFull".as_slice() {
-        return Some(Refusal::CounterFull);
+    if let Some(rest) = behind(b"NotAnnounced\"", bytes) {
+        return Some((Refusal::NotAnnounced, rest));
     }
-    if name == b"TooManyWriters".as_slice() {
-        return Some(Refusal::TooManyWriters);
+    if let Some(rest) = behind(b"CounterFull\"", bytes) {
+        return Some((Refusal::CounterFull, rest));
     }
-    if name == b"NotAnnounced".as_slice() {
-        return Some(Refusal::NotAnnounced);
+    if let Some(rest) = behind(b"TooManyWriters\"", bytes) {
+        return Some((Refusal::TooManyWriters, rest));
     }
-    if name == b"AlreadyInside".as_slice() {
-        return Some(Refusal::AlreadyInside);
+    if let Some(rest) = behind(b"NoRecord\"", bytes) {
+        return Some((Refusal::NoRecord, rest));
     }
-    if name == b"NotHere".as_slice() {
-        return Some(Refusal::NotHere);
+    if let Some(rest) = behind(b"BadHolder\"", bytes) {
+        return Some((Refusal::BadHolder, rest));
     }
     None
 }
 
 // The other half.
-fn other_plain_refusal(name: &[u8]) -> Option<Refusal>
-    ensures { result ≡ other_plain_refusal name.now }
+#[tactic(auto, unfolding(crate::specs::ReplyReaders::other_plain_refusal))]
+fn other_plain_refusal(bytes: &[u8]) -> Option<(Refusal, &[u8])>
+    ensures { option_map (λ x. (x.0, x.1.now)) result ≡ other_plain_refusal bytes.now }
 {
-    if name == b"NoSite".as_slice() {
-        return Some(Refusal::NoSite);
+    if let Some(rest) = behind(b"NoPlan\"", bytes) {
+        return Some((Refusal::NoPlan, rest));
     }
-    if name == b"ToSelf".as_slice() {
-        return Some(Refusal::ToSelf);
+    if let Some(rest) = behind(b"ToSelf\"", bytes) {
+        return Some((Refusal::ToSelf, rest));
     }
-    if name == b"ZeroSeats".as_slice() {
-        return Some(Refusal::ZeroSeats);
+    if let Some(rest) = behind(b"NoSite\"", bytes) {
+        return Some((Refusal::NoSite, rest));
     }
-    if name == b"NoPlan".as_slice() {
-        return Some(Refusal::NoPlan);
+    if let Some(rest) = behind(b"ZeroSeats\"", bytes) {
+        return Some((Refusal::ZeroSeats, rest));
     }
-    if name == b"Memory".as_slice() {
-        return Some(Refusal::Memory);
+    if let Some(rest) = behind(b"LogFull\"", bytes) {
+        return Some((Refusal::LogFull, rest));
     }
-    if name == b"Frozen".as_slice() {
-        return Some(Refusal::Frozen);
+    if let Some(rest) = behind(b"Frozen\"", bytes) {
+        return Some((Refusal::Frozen, rest));
     }
-    if name == b"LogFull".as_slice() {
-        return Some(Refusal::LogFull);
+    if let Some(rest) = behind(b"Memory\"", bytes) {
+        return Some((Refusal::Memory, rest));
     }
-    if name == b"StoreFault".as_slice() {
-        return Some(Refusal::StoreFault);
+    if let Some(rest) = behind(b"StoreFault\"", bytes) {
+        return Some((Refusal::StoreFault, rest));
     }
     None
 }
 
-// A refusal with one number.
-fn refusal_with(name: &[u8], n: u64) -> Option<Refusal>
-    ensures { result ≡ refusal_with name.now n }
+// Why a delta was refused, with a number.
+#[tactic(auto, unfolding(crate::specs::ReplyReaders::row_refusal))]
+fn row_refusal(bytes: &[u8]) -> Result<(Refusal, &[u8]), Unread>
+    ensures { Gives (λ x. (x.0, x.1.now)) result (row_refusal bytes.now) }
 {
-    if name == b"WriterAnnounced".as_slice() {
-        let site = short_of(n)?;
-        return Some(Refusal::WriterAnnounced { site });
+    if let Some(rest) = behind(b"OtherLayout ", bytes) {
+        let (row, rest) = last_number(rest)?;
+        return Ok((Refusal::OtherLayout { row: row as usize }, rest));
     }
-    if name == b"NoSeat".as_slice() {
-        return Some(Refusal::NoSeat { rights: n });
+    if let Some(rest) = behind(b"BadRow ", bytes) {
+        let (row, rest) = last_number(rest)?;
+        return Ok((Refusal::BadRow { row: row as usize }, rest));
     }
-    if name == b"TooFewRights".as_slice() {
-        return Some(Refusal::TooFewRights { rights: n });
+    if let Some(rest) = behind(b"OwnRowAhead ", bytes) {
+        let (rec, rest) = last_short(rest)?;
+        return Ok((Refusal::OwnRowAhead { rec }, rest));
     }
-    if name == b"OtherLayout".as_slice() {
-        return Some(Refusal::OtherLayout { row: n as usize });
+    Err(Unread::Refused)
+}
+
+// Why another call was refused, with numbers.
+#[tactic(auto, unfolding(crate::specs::ReplyReaders::counted_refusal))]
+fn counted_refusal(bytes: &[u8]) -> Result<(Refusal, &[u8]), Unread>
+    ensures { Gives (λ x. (x.0, x.1.now)) result (counted_refusal bytes.now) }
+{
+    if let Some(rest) = behind(b"TooFewRights ", bytes) {
+        let (rights, rest) = last_number(rest)?;
+        return Ok((Refusal::TooFewRights { rights }, rest));
     }
-    if name == b"BadRow".as_slice() {
-        return Some(Refusal::BadRow { row: n as usize });
+    if let Some(rest) = behind(b"WriterAnnounced ", bytes) {
+        let (site, rest) = last_short(rest)?;
+        return Ok((Refusal::WriterAnnounced { site }, rest));
     }
-    if name == b"OwnRowAhead".as_slice() {
-        let rec = short_of(n)?;
-        return Some(Refusal::OwnRowAhead { rec });
+    if let Some(rest) = behind(b"MissingSeats ", bytes) {
+        let (rights, seats, rest) = shortage_at(rest)?;
+        return Ok((Refusal::MissingSeats { rights, seats }, rest));
     }
-    None
+    row_refusal(bytes)
 }
 
 // A refusal by its name and numbers.
-fn refusal_of(name: &[u8], numbers: Numbers) -> Option<Refusal>
-    ensures { result ≡ refusal_of name.now numbers }
+#[tactic(auto, unfolding(crate::specs::ReplyReaders::refusal_at))]
+fn refusal_at(bytes: &[u8]) -> Result<(Refusal, &[u8]), Unread>
+    ensures { Gives (λ x. (x.0, x.1.now)) result (refusal_at bytes.now) }
 {
-    match numbers {
-        Numbers::NoNumber => match plain_refusal(name) {
-            Some(refusal) => Some(refusal),
-            None => other_plain_refusal(name),
-        },
-        Numbers::OneNumber(n) => refusal_with(name, n),
-        Numbers::TwoNumbers(rights, seats) => {
-            if name == b"MissingSeats".as_slice() {
-                let seats = middle_of(seats)?;
-                return Some(Refusal::MissingSeats { rights, seats });
-            }
-            None
-        }
+    if let Some(rest) = behind(b"NoSeat ", bytes) {
+        let (rights, rest) = last_number(rest)?;
+        return Ok((Refusal::NoSeat { rights }, rest));
     }
+    if let Some(read) = plain_refusal(bytes) {
+        return Ok(read);
+    }
+    if let Some(read) = other_plain_refusal(bytes) {
+        return Ok(read);
+    }
+    counted_refusal(bytes)
 }
 
-// A reply of one word.
-fn plain_reply(word: &[u8]) -> Option<Reply>
-    ensures { result ≡ counted_reply word.now Numbers.NoNumber }
+// A reply without numbers.
+#[tactic(auto, unfolding(crate::specs::ReplyReaders::plain_reply))]
+fn plain_reply(bytes: &[u8]) -> Option<(Reply, &[u8])>
+    ensures { option_map (λ x. (x.0, x.1.now)) result ≡ plain_reply bytes.now }
 {
-    if word == b"admitted".as_slice() {
-        return Some(Reply::Admitted);
+    if let Some(rest) = behind(b"admitted\"", bytes) {
+        return Some((Reply::Admitted, rest));
     }
-    if word == b"withdrawn".as_slice() {
-        return Some(Reply::Left(Phase::Waiting));
+    if let Some(rest) = behind(b"left reader\"", bytes) {
+        return Some((Reply::Left(Phase::Reader), rest));
     }
-    if word == b"given".as_slice() {
-        return Some(Reply::Given);
+    if let Some(rest) = behind(b"left writer\"", bytes) {
+        return Some((Reply::Left(Phase::Writer), rest));
+    }
+    if let Some(rest) = behind(b"withdrawn\"", bytes) {
+        return Some((Reply::Left(Phase::Waiting), rest));
+    }
+    if let Some(rest) = behind(b"given\"", bytes) {
+        return Some((Reply::Given, rest));
     }
     None
 }
 
-// A reply of one word and numbers.
-fn counted_reply(word: &[u8], numbers: Numbers) -> Option<Reply>
-    ensures { result ≡ counted_reply word.now numbers }
+// A reply with numbers.
+#[tactic(auto, unfolding(crate::specs::ReplyReaders::counted_reply))]
+fn counted_reply(bytes: &[u8]) -> Result<(Reply, &[u8]), Unread>
+    ensures { Gives (λ x. (x.0, x.1.now)) result (counted_reply bytes.now) }
 {
-    match numbers {
-        Numbers::NoNumber => plain_reply(word),
-        Numbers::OneNumber(n) => {
-            if word == b"announced".as_slice() {
-                return Some(Reply::Announced(n));
-            }
-            if word == b"merged".as_slice() {
-                return Some(Reply::Merged(n));
-            }
-            None
-        }
-        Numbers::TwoNumbers(to, seats) => {
-            if word == b"gave".as_slice() {
-                let to = short_of(to)?;
-                return Some(Reply::Gave { to, seats });
-            }
-            None
-        }
+    if let Some(rest) = behind(b"merged ", bytes) {
+        let (risen, rest) = last_number(rest)?;
+        return Ok((Reply::Merged(risen), rest));
     }
-}
-
-// Who left.
-fn left_reply(words: Option<&[u8]>) -> Option<Reply>
-    ensures { MatchOption words.entry (result ≡ left_reply []) (λ it. result ≡ left_reply (words_of it.now)) }
-{
-    match cut_word(words?) {
-        (word, None) => {
-            if word == b"reader".as_slice() {
-                return Some(Reply::Left(Phase::Reader));
-            }
-            if word == b"writer".as_slice() {
-                return Some(Reply::Left(Phase::Writer));
-            }
-            None
-        }
-        (_, Some(_)) => None,
+    if let Some(rest) = behind(b"announced ", bytes) {
+        let (number, rest) = last_number(rest)?;
+        return Ok((Reply::Announced(number), rest));
     }
-}
-
-// A refusal behind its first word.
-fn refused_reply(words: Option<&[u8]>) -> Option<Reply>
-    ensures { MatchOption words.entry (result ≡ refused_reply []) (λ it. result ≡ refused_reply (words_of it.now)) }
-{
-    let (name, rest) = cut_word(words?);
-    let numbers = numbers_in(rest)?;
-    let refusal = refusal_of(name, numbers)?;
-    Some(Reply::Refused(refusal))
+    if let Some(rest) = behind(b"gave ", bytes) {
+        let (to, seats, rest) = gift_at(rest)?;
+        return Ok((Reply::Gave { to, seats }, rest));
+    }
+    Err(Unread::Refused)
 }
 
 // Any reply but a snapshot.
-fn worded_reply(text: &[u8]) -> Option<Reply>
-    ensures { result ≡ reply_in (words_of text.now) }
+#[tactic(auto, unfolding(crate::specs::ReplyReaders::worded_reply))]
+fn worded_reply(bytes: &[u8]) -> Result<(Reply, &[u8]), Unread>
+    ensures { Gives (λ x. (x.0, x.1.now)) result (worded_reply bytes.now) }
 {
-    let (word, rest) = cut_word(text);
-    if word == b"refused".as_slice() {
-        return refused_reply(rest);
+    if let Some(rest) = behind(b"refused ", bytes) {
+        let (refusal, rest) = refusal_at(rest)?;
+        return Ok((Reply::Refused(refusal), rest));
     }
-    if word == b"left".as_slice() {
-        return left_reply(rest);
+    if let Some(read) = plain_reply(bytes) {
+        return Ok(read);
     }
-    let numbers = numbers_in(rest)?;
-    counted_reply(word, numbers)
+    counted_reply(bytes)
 }
 
 // The bytes behind the brace with which the text of a delta begins, and that of no other reply.
@@ -234,9 +220,5 @@ pub(crate) fn reply_at(alloc: Global, bytes: &[u8]) -> Result<(Reply, &[u8]), Un
     if let Some(_) = behind_brace(bytes) {
         return snapshot_at(alloc, bytes);
     }
-    let (text, rest) = cut_at(b'"', bytes)?;
-    match worded_reply(text) {
-        Some(reply) => Ok((reply, rest)),
-        None => Err(Unread::Refused),
-    }
+    worded_reply(bytes)
 }

@@ -1,0 +1,59 @@
+-- What holds of each value that a reading gives.
+use Rattle.std.proofs.Common.{◌≡◌, ℕ, Bool, true, false, cond, List, ◌++◌, Option, Some, None, refl, subst}
+use Rattle.std.proofs.lemmas.Option.{same_Some, none-some}
+use Rattle.text_parts.specs.Readers.{◌>>=◌, after}
+use Rattle.text_parts.proofs.LiteralLaws.{after_takes}
+use Rattle.transcript_reader.specs.Readers.{first_at}
+use Rattle.transcript_reader.specs.Words.{behind_or, says_or}
+
+-- P holds of what is there
+abbrev pub Holds : {A : Type 0} → (A → Type 0) → Option A → Type 0
+Holds P None = Unit {0}
+Holds P (Some x) = P x
+
+pub held_by : {A : Type 0} (P : A → Type 0) (o : Option A) (x : A) → Holds P o → o ≡ Some x → P x
+held_by P None x holds is = absurd (none-some x is)
+held_by P (Some y) x holds is = subst P (same_Some y x is) holds
+
+pub both_hold : {A : Type 0} (P Q : A → Type 0) (o : Option A) → Holds P o → Holds Q o → Holds (λ x. P x × Q x) o
+both_hold P Q None p q = tt
+both_hold P Q (Some x) p q = (p, q)
+
+-- P holds of what is there on either side of a test
+pub when_holds : {A : Type 0} (P : A → Type 0) (b : Bool) (o p : Option A) → (b ≡ true → Holds P o) → (b ≡ false → Holds P p) → Holds P (cond b o p)
+when_holds P true o p one other = one refl
+when_holds P false o p one other = other refl
+
+pub if_holds : {A : Type 0} (P : A → Type 0) (b : Bool) (o p : Option A) → Holds P o → Holds P p → Holds P (cond b o p)
+if_holds P true o p one other = one
+if_holds P false o p one other = other
+
+-- .. behind a step
+pub then_holds : {A B : Type 0} (Q : A → Type 0) (P : B → Type 0) (o : Option A) (f : A → Option B) → Holds Q o → ((x : A) → Q x → Holds P (f x)) → Holds P (o >>= f)
+then_holds Q P None f holds each = tt
+then_holds Q P (Some x) f holds each = each x holds
+
+-- .. of the first of two that is there
+pub first_holds : {A : Type 0} (P : A → Type 0) (o p : Option A) → Holds P o → Holds P p → Holds P (first_at o p)
+first_holds P None p one other = other
+first_holds P (Some x) p one other = one
+
+-- .. behind a literal
+pub literal_holds : (literal bytes : List ℕ) → Holds (λ rest. bytes ≡ literal ++ rest) (after literal bytes)
+literal_holds literal bytes = at (after literal bytes) refl
+  where
+    at : (o : Option (List ℕ)) → after literal bytes ≡ o → Holds (λ rest. bytes ≡ literal ++ rest) o
+    at None e = tt
+    at (Some rest) e = after_takes literal bytes rest e
+
+pub behind_holds : {A : Type 0} (P : A → Type 0) (literal bytes : List ℕ) (f : List ℕ → Option A) (other : Option A)
+    → ((rest : List ℕ) → bytes ≡ literal ++ rest → Holds P (f rest)) → Holds P other → Holds P (behind_or (after literal bytes) f other)
+behind_holds P literal bytes f other each else = at (after literal bytes) (literal_holds literal bytes)
+  where
+    at : (o : Option (List ℕ)) → Holds (λ rest. bytes ≡ literal ++ rest) o → Holds P (behind_or o f other)
+    at None e = else
+    at (Some rest) e = each rest e
+
+pub says_holds : {A : Type 0} (P : A × List ℕ → Type 0) (literal : List ℕ) (x : A) (bytes : List ℕ) (other : Option (A × List ℕ))
+    → ((rest : List ℕ) → bytes ≡ literal ++ rest → P (x, rest)) → Holds P other → Holds P (says_or literal x bytes other)
+says_holds P literal x bytes other each else = behind_holds P literal bytes (λ rest. Some (x, rest)) other each else
