@@ -21,4 +21,6 @@ pub mod LawLemmas
 pub mod LayoutLemmas
 pub mod MovedLemmas
 pub mod SnapshotLemmas
+pub mod TellingLemmas
+pub mod CoverLemmas
 pub mod MarkLemmas

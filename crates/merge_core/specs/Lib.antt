@@ -9,6 +9,7 @@ pub mod Check
 pub mod Changes
 pub mod Order
 pub mod Moved
+pub mod Cover
 pub mod Thin
 pub mod Start
 pub mod Joined

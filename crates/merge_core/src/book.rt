@@ -8,6 +8,7 @@ use std::alloc::{AllocError, Global};
 use std::marker::Model;
 use writer_notices::NoticeError;
 
+mod covering;
 mod equality;
 mod genesis;
 mod growth;
@@ -15,6 +16,7 @@ mod join;
 mod keep;
 mod marks;
 mod snapshot;
+mod telling;
 mod validity;
 
 /// What a site knows of every record: the counters of all sites, as far as it did or heard what they count.
