@@ -33,6 +33,7 @@ pub fn short_behind<'a>(literal: &[u8], bytes: &'a [u8]) -> Result<(u16, &'a [u8
 }
 
 // A list of these numbers, and the bytes behind them.
+#[inline(always)]
 fn listed<'a>(
     alloc: Global,
     numbers: &[u64],
@@ -45,6 +46,7 @@ fn listed<'a>(
 
 // 1 to 16 numbers with commas between them, and the bytes behind them. The list has a place for each and no more.
 #[tactic(auto, unfolding(text_parts::specs::Readers::joined_at))]
+#[inline(always)]
 fn counters_at(alloc: Global, bytes: &[u8]) -> Result<(Vec<u64>, &[u8]), Unread>
     ensures { Gives (λ x. (x.0.items, x.1.now)) result (joined_at number_at 15 bytes.now) }
 {
@@ -64,6 +66,7 @@ fn counters_at(alloc: Global, bytes: &[u8]) -> Result<(Vec<u64>, &[u8]), Unread>
 
 /// The list of 1 to 16 numbers behind a literal at the front, and the bytes behind it.
 #[tactic(auto, unfolding(crate::specs::DeltaReaders::numbers_behind))]
+#[inline(always)]
 pub fn numbers_behind<'a>(
     alloc: Global,
     literal: &[u8],
@@ -75,6 +78,7 @@ pub fn numbers_behind<'a>(
 }
 
 #[tactic(auto, unfolding(crate::specs::DeltaReaders::row_at))]
+#[inline(always)]
 fn row_at(alloc: Global, bytes: &[u8]) -> Result<(Row, &[u8]), Unread>
     ensures { Gives (λ x. (x.0, x.1.now)) result (row_at bytes.now) }
 {
@@ -105,6 +109,7 @@ impl Element<Row> for RowText {
 
     ghost at = { row_at };
 
+    #[inline(always)]
     fn read_front(alloc: Global, bytes: &[u8]) -> Result<(Row, &[u8]), Unread> {
         row_at(alloc, bytes)
     }

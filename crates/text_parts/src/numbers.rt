@@ -24,6 +24,7 @@ fn with_digit(number: u64, digit: u8) -> Option<u64>
     Some(number * 10 + digit)
 }
 
+#[inline(always)]
 fn digits(first: u64, bytes: &[u8]) -> Result<(u64, &[u8]), Unread>
     ensures read { Gives (λ x. (x.0, x.1.now)) result (digits_at first bytes.now) }
     ensures no_memory { IfErr result (λ e. e ≡ Unread.Refused) }

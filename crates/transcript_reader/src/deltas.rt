@@ -16,6 +16,7 @@ use text_parts::{Element, Unread, after, joined_at};
 const MORE_ROWS: u16 = MOST_SITES * MOST_RECORDS as u16 - 1;
 
 #[tactic(auto, unfolding(crate::specs::Deltas::row_at))]
+#[inline(always)]
 fn row_at(alloc: Global, bytes: &[u8]) -> Result<(Row, &[u8]), Unread>
     ensures { Gives (λ x. (x.0, x.1.now)) result (row_at bytes.now) }
 {
@@ -46,6 +47,7 @@ impl Element<Row> for QuotedRow {
 
     ghost at = { row_at };
 
+    #[inline(always)]
     fn read_front(alloc: Global, bytes: &[u8]) -> Result<(Row, &[u8]), Unread> {
         row_at(alloc, bytes)
     }
