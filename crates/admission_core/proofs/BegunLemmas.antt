@@ -1,5 +1,5 @@
 -- What a core stands for at its start, after a restart, and after a delta.
-use Rattle.std.proofs.Common.{◌≡◌, ℕ, ◌<◌, ◌⊎◌, inl, inr, cond, List, [], ◌∷◌, refl, sym, ap, ◌∙◌, arith}
+use Rattle.std.proofs.Common.{◌≡◌, ℕ, ◌<◌, ◌⊎◌, inl, inr, ◌↔◌, IsTrue, Bool, cond, List, [], ◌∷◌, refl, sym, ap, ◌∙◌, arith}
 use Rattle.std.proofs.lemmas.Bool.{cases_eq}
 use Rattle.merge_core.specs.declared.cell.Cell.{Cell}
 use Rattle.merge_core.specs.Delta.{DeltaState}
@@ -83,3 +83,10 @@ tells a c is d from rows = own_rows ∙ ap snapshot_of (shows_account a c is)
   where
     own_rows : d ≡ snapshot_of (core_view c)
     own_rows = λ i. record { from = from i; rows = (rows ∙ ap (λ (shape : Shape). all_moved shape (counter_of c.book)) (sym is.shape)) i }
+
+-- a delta is what the account tells where it is what the core tells
+pub tells_this : (a : Account) (c : Core) → Stands a c → (d : DeltaState) (told : Bool) → IsTrue told ↔ (d ≡ record { from = c.site; rows = all_moved (book_shape c.book) (counter_of c.book) }) → IsTrue told ↔ (d ≡ snapshot_of (view_of a))
+tells_this a c is d told test =
+    let own : DeltaState = record { from = c.site; rows = all_moved (book_shape c.book) (counter_of c.book) } in
+    let same : own ≡ snapshot_of (view_of a) = tells a c is own refl refl in
+    (λ yes. test.0 yes ∙ same, λ this. test.1 (this ∙ sym same))

@@ -44,7 +44,7 @@ impl Model for SiteCore {
 }
 
 impl SiteCore {
-    ghost use Rattle.std.specs.Prelude.{◌≡◌, ◌≢◌, ℕ, ◌<◌, ◌≤◌, ◌⊎◌, length, IfOk, None, Some, false};
+    ghost use Rattle.std.specs.Prelude.{◌≡◌, ◌≢◌, ◌↔◌, ℕ, ◌<◌, ◌≤◌, ◌⊎◌, length, IfOk, IsTrue, None, Some, false};
     ghost use Rattle.session_list.specs.declared.session.Phase.{Phase};
     ghost use Rattle.session_list.specs.Sessions.{phase_in};
     ghost use Rattle.merge_core.specs.declared.cell.Cell.TheVariants.{Ann, Fin};
@@ -224,6 +224,14 @@ impl SiteCore {
         ensures { IfOk result (λ d. (a : Account) → Stands a self.now → d ≡ snapshot_of (view_of a)) }
     {
         self.book.snapshot(self.alloc, self.site)
+    }
+
+    /// Whether a delta is the one that [`SiteCore::snapshot`] makes. Takes no memory. Linear in the book, up to the first
+    /// difference.
+    pub fn is_snapshot(&self, delta: &Delta) -> bool
+        ensures { (a : Account) → Stands a self.now → IsTrue result ↔ (delta.now ≡ snapshot_of (view_of a)) }
+    {
+        self.book.is_snapshot(self.site, delta)
     }
 
     /// What a stop leaves of the site. Linear in the book, and `n log n` in the sessions.
