@@ -1,17 +1,16 @@
 -- A site goes on: what it has done once it has done for good.
-use Rattle.std.proofs.Common.{◌≡◌, ℕ, zero, suc, ◌+◌, ◌-◌, ◌<◌, ◌≤◌, inl, inr, Bool, cond, ltb, List, [], ◌∷◌, ◌++◌, length, take, Option, None, Some, refl, sym, ap, subst, ◌∙◌, arith}
-use Rattle.std.specs.Prelude.{slice_index, slice_index_or}
-use Rattle.std.proofs.lemmas.Bool.{cond_both, ltb-true, ltb-false, cases_lt}
+use Rattle.std.proofs.Common.{◌≡◌, ℕ, zero, suc, ◌+◌, ◌-◌, ◌<◌, ◌≤◌, ltb, List, [], ◌∷◌, ◌++◌, length, take, None, Some, sym, ap, subst, ◌∙◌, arith}
+use Rattle.std.specs.Prelude.{slice_index_or}
+use Rattle.std.proofs.lemmas.Bool.{cond_both}
 use Rattle.merge_core.specs.declared.cell.Cell.{Cell}
-use Rattle.merge_core.specs.declared.cell.Cell.TheVariants.{Out, Taken, Ann, Fin}
 use Rattle.merge_core.specs.declared.delta.Row.{Row}
 use Rattle.merge_core.specs.Layout.{LayoutState}
 use Rattle.merge_core.specs.Book.{BookState, counter_of}
 use Rattle.merge_core.specs.Rows.{RowCounters, counter_in, counters_of}
 use Rattle.admission_model.specs.declared.ask.Call.{Call}
 use Rattle.admission_model.specs.declared.ask.Call.TheVariants.{Ask as AskCall, Merge, Snapshot as SnapshotCall}
-use Rattle.admission_model.specs.Account.{Account, Origin, own}
-use Rattle.admission_model.specs.Knowledge.{known, hears}
+use Rattle.admission_model.specs.Account.{Account, own}
+use Rattle.admission_model.specs.Knowledge.{hears}
 use Rattle.admission_model.specs.View.{view_of}
 use Rattle.admission_model.specs.Replies.{ask_lines, merge_lines}
 use Rattle.admission_model.specs.Serving.{after, advanced, unless_refused}
@@ -23,19 +22,10 @@ use Rattle.desk_log.specs.declared.transcript.Run.{Run}
 use Rattle.desk_log.specs.Log.{is_fault, after_entry, account_after, account_tried}
 use Rattle.desk_log.proofs.LogLemmas.{after_answered}
 use Rattle.log_replay.specs.Legal.{started, was_kept, answered_in, tried_in, after_run, start_account, account_at}
-use Rattle.log_replay.specs.Replay.{IsPath, IsWay, TellsOwn}
-use Rattle.log_replay.specs.declared.stream.Stage.{Stage}
-use Rattle.log_replay.specs.declared.stream.Stage.TheVariants.{Open}
+use Rattle.log_replay.specs.Replay.{IsWay}
 use Rattle.log_replay.specs.declared.stream.SiteReplay.{SiteReplay}
 use Rattle.log_replay.specs.Stream.{HasEnded, IsInRun, IsMarkedAt, IsReplaying, IsStage, count_of, length_by}
 use Rattle.log_replay.proofs.StreamLemmas.{path_account, cut_ahead, cut_behind}
-
--- a counter of each kind
-pub each_cell : (p : RowCounters) (f : Cell → ℕ) → ((j : ℕ) → slice_index p.out j ≤ f (Out j)) → p.taken ≤ f Taken → p.ann ≤ f Ann → p.fin ≤ f Fin → (cell : Cell) → counter_in p cell ≤ f cell
-each_cell p f out taken ann fin (Out j) = out j
-each_cell p f out taken ann fin Taken = taken
-each_cell p f out taken ann fin Ann = ann
-each_cell p f out taken ann fin Fin = fin
 
 -- the own counters of a core's book
 pub stands_own : (a : Account) (c : Core) → Stands a c → (r : ℕ) (cell : Cell) → counter_of c.book r c.site cell ≡ own a r cell

@@ -34,10 +34,13 @@ pub applied : (old mid new : Core) (call : Call) (p : Prepared) → SameContent 
 applied old mid new call p same ready memory account a stands =
     subst (λ (x : Account). Stands x new) (served_after a call p.reply memory) (account call ready a (stands_along a old mid same stands))
 
--- what a call that was served answers, and the account that its core stands for
-pub served_reply : (old new : Core) (call : Call) (reply : Reply) → IsServed old new call reply → is_memory reply ≡ false → (a : Account) → Stands a old → reply ≡ reply_of (view_of a) call
-served_reply old new call reply served memory = served.answered memory
+-- a reply is the model's where it is the one that a core gave
+pub served_reply : (old new : Core) (call : Call) (given reply : Reply) (ok : Bool) → IsServed old new call given → is_memory given ≡ false → IsTrue ok ↔ (reply ≡ given) → (a : Account) → Stands a old → IsTrue ok ↔ (reply ≡ reply_of (view_of a) call)
+served_reply old new call given reply ok served memory tells a stands =
+    let model : given ≡ reply_of (view_of a) call = served.answered memory a stands in
+    (λ is. tells.0 is ∙ model, λ same. tells.1 (same ∙ sym model))
 
+-- the account that a core stands for after a call that was served
 pub served_stands : (old new : Core) (call : Call) (reply : Reply) → IsServed old new call reply → is_memory reply ≡ false → (a : Account) → Stands a old → Stands (after a call) new
 served_stands old new call reply is memory a stands =
     subst (λ (x : Account). Stands x new) (served_after a call reply memory) (is.account a stands)

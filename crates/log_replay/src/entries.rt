@@ -1,6 +1,7 @@
 //! The entries of one run, replayed at a core.
 ghost use Rattle.std.specs.Prelude.{◌≡◌, ◌↔◌, ◌<◌, ◌≤◌, ◌+◌, ◌-◌, IfOk, IsSome, IsTrue, None, Some, false, if◌then◌else◌, length, take, List};
 ghost use Rattle.merge_core.specs.declared.delta.Row.{Row};
+ghost use Rattle.admission_model.specs.declared.ask.Call.TheVariants.{Snapshot};
 ghost use Rattle.admission_model.specs.Account.{Account};
 ghost use Rattle.admission_model.specs.View.{view_of};
 ghost use Rattle.admission_model.specs.Serving.{after, reply_of};
@@ -29,30 +30,40 @@ pub(crate) fn is_fault(reply: &Reply) -> bool
     matches!(reply, Reply::Refused(Refusal::StoreFault))
 }
 
-// The reply, unless it is want of memory.
-fn unless_memory(reply: Reply) -> Result<Reply, AllocError>
-    ensures { IfOk result (λ it. (it ≡ reply) × (is_memory reply ≡ false)) }
+// Whether a reply is the one that a core gave, unless that is want of memory.
+fn is_same(reply: &Reply, given: Reply) -> Result<bool, AllocError>
+    ensures { IfOk result (λ ok. (IsTrue ok ↔ (reply.now ≡ given)) × (is_memory given ≡ false)) }
 {
-    if is_memory(&reply) {
+    if is_memory(&given) {
         return Err(AllocError);
     }
-    Ok(reply)
+    Ok(same_reply(reply, &given))
 }
 
-// Carries a call out, and answers what the model answers.
-fn answered(core: &mut SiteCore, call: &Call) -> Result<Reply, AllocError>
-    ensures reply { IfOk result (λ reply. (a : Account) → Stands a core.old → reply ≡ reply_of (view_of a) call.now) }
-    ensures stands { IfOk result (λ reply. (a : Account) → Stands a core.old → Stands (after a call.now) core.new) }
+// Whether a reply to a request for a snapshot is the model's. Takes no memory.
+fn is_shown(core: &SiteCore, reply: &Reply) -> bool
+    ensures { (a : Account) → Stands a core.now → IsTrue result ↔ (reply.now ≡ reply_of (view_of a) Snapshot) }
+{
+    match reply {
+        Reply::Snapshot(delta) => core.is_snapshot(delta),
+        _ => false,
+    }
+}
+
+// Carries a call out: whether a reply to it is the model's.
+fn is_answer(core: &mut SiteCore, call: &Call, reply: &Reply) -> Result<bool, AllocError>
+    ensures same { IfOk result (λ ok. (a : Account) → Stands a core.old → IsTrue ok ↔ (reply.now ≡ reply_of (view_of a) call.now)) }
+    ensures stands { IfOk result (λ ok. (a : Account) → Stands a core.old → Stands (after a call.now) core.new) }
 {
     match call {
-        Call::Ask(ask) => unless_memory(core.ask(*ask)),
-        Call::Merge(delta) => unless_memory(core.merge(delta)),
-        Call::Snapshot => Ok(Reply::Snapshot(core.snapshot()?)),
+        Call::Ask(ask) => is_same(reply, core.ask(*ask)),
+        Call::Merge(delta) => is_same(reply, core.merge(delta)),
+        Call::Snapshot => Ok(is_shown(core, reply)),
     }
 }
 
 // Replays an entry: whether its reply is the model's. No call of the model is answered by a fault of the store; any other
-// entry is carried out, whether its reply is the model's or not.
+// entry is carried out, whether its reply is the model's or not. A request for a snapshot takes no memory.
 pub(crate) fn follow_one(core: &mut SiteCore, entry: &Entry) -> Result<bool, AllocError>
     ensures same { IfOk result (λ ok. (a : Account) → Stands a core.old → IsTrue ok ↔ (entry.now.reply ≡ reply_of (view_of a) entry.now.call)) }
     ensures fault { IfOk result (λ ok. IsTrue ok → is_fault entry.now.reply ≡ false) }
@@ -61,8 +72,7 @@ pub(crate) fn follow_one(core: &mut SiteCore, entry: &Entry) -> Result<bool, All
     if is_fault(&entry.reply) {
         return Ok(false);
     }
-    let reply = answered(core, &entry.call)?;
-    Ok(same_reply(&entry.reply, &reply))
+    is_answer(core, &entry.call, &entry.reply)
 }
 
 /// Replays entries at a core, up to the first whose reply is not the model's: how many come before it.

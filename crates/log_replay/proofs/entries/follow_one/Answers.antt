@@ -1,4 +1,4 @@
-use Rattle.std.proofs.Common.{sym, ap, ◌∙◌}
+use Rattle.std.proofs.Common.{sym, ◌∙◌}
 use Rattle.admission_model.specs.View.{view_of}
 use Rattle.log_replay.proofs.EntryLemmas.{fault_is_other}
 use Rattle.log_replay.proofs.entries.follow_one.Goals as goal
