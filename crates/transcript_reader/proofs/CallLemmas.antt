@@ -10,142 +10,191 @@ use Rattle.delta_codec.specs.DeltaText.{delta_text}
 use Rattle.admission_model.specs.declared.ask.Call.{Call}
 use Rattle.admission_model.specs.declared.ask.Call.TheVariants.{Ask as AskCall, Merge, Snapshot}
 use Rattle.admission_model.specs.declared.ask.Ask.{Ask}
-use Rattle.admission_model.specs.declared.ask.Ask.TheVariants.{Read, Announce, Quill, Leave, Give, Help}
+use Rattle.admission_model.specs.declared.ask.Ask.TheVariants.{Read as ReadAsk, Announce as AnnounceAsk, Quill as QuillAsk, Leave as LeaveAsk, Give as GiveAsk, Help as HelpAsk}
 use Rattle.text_parts.specs.Readers.{◌>>=◌, Gives, after}
 use Rattle.transcript_text.specs.Texts.{record_text, ask_text, call_text}
+use Rattle.transcript_reader.specs.declared.asks.Held.{Held}
+use Rattle.transcript_reader.specs.declared.asks.Held.TheVariants.{Read, Announce, Write, Leave}
+use Rattle.transcript_reader.specs.declared.asks.Verb.{Verb}
+use Rattle.transcript_reader.specs.declared.asks.Verb.TheVariants.{Held as HeldVerb, Give, Help}
 use Rattle.transcript_reader.specs.Fits.{FitsAsk, FitsCall}
 use Rattle.transcript_reader.specs.Quoted.{quoted, Refuses, ReadsQuoted}
-use Rattle.transcript_reader.specs.Words.{record_at, last_number, gift_at}
-use Rattle.transcript_reader.specs.CallReaders.{held_at, help_at, give_at, ask_at, worded_call}
+use Rattle.transcript_reader.specs.Words.{ends_word, record_at, last_number, gift_at}
+use Rattle.transcript_reader.specs.CallReaders.{verb_behind, verb_at, held_ask, ask_behind, ask_at, snapshot_call, ask_call, worded_call}
 use Rattle.transcript_reader.proofs.EscapedLemmas.{is_plain, plain_append, number_plain, plain_quoted}
-use Rattle.transcript_reader.proofs.HoldLemmas.{Holds, held_by, then_holds, literal_holds, behind_holds, says_holds}
+use Rattle.transcript_reader.proofs.HoldLemmas.{Holds, held_by, letter_holds, still_holds, then_holds, literal_holds}
 use Rattle.transcript_reader.proofs.RecordLemmas.{record_again, record_says, record_at_again}
-use Rattle.transcript_reader.proofs.WordLemmas.{SaysPair, last_text, spaced, paired, paired_says, paired_again, last_number_says, last_number_again, gift_says, gift_again}
+use Rattle.transcript_reader.proofs.WordLemmas.{SaysLast, SaysPair, last_text, spaced, last_number_says, last_number_again, gift_says, gift_again}
 
 -- ---- what is read is what stands there
 
-held_says : (layout : LayoutState) → IsLayout layout → (bytes : List ℕ) → Holds (SaysPair (record_text layout.records) (2 ^ 16) (2 ^ 64) bytes) (held_at layout.records bytes)
-unfolding held_at
-held_says layout is bytes =
-    paired_says (record_text layout.records) (2 ^ 16) (2 ^ 64) bytes (record_at layout.records bytes) last_number (record_says layout is bytes) last_number_says
+abbrev verb_text : Verb → List ℕ
+verb_text (HeldVerb Read) = codes "read "
+verb_text (HeldVerb Announce) = codes "announce "
+verb_text (HeldVerb Write) = codes "write "
+verb_text (HeldVerb Leave) = codes "leave "
+verb_text Give = codes "give "
+verb_text Help = codes "help "
 
--- the text of an ask up to the closing quote, and what stands behind it
+abbrev SaysVerb : List ℕ → Verb × List ℕ → Type 0
+SaysVerb bytes x = bytes ≡ verb_text x.0 ++ x.1
+
+-- a verb behind its first letter
+letter_says : (k : ℕ) (bs literal : List ℕ) (verb : Verb) → ((rest : List ℕ) → k ∷ (literal ++ rest) ≡ verb_text verb ++ rest) → Holds (SaysVerb (k ∷ bs)) (verb_behind literal verb bs)
+letter_says k bs literal verb whole =
+    then_holds (λ (rest : List ℕ). bs ≡ literal ++ rest) (SaysVerb (k ∷ bs)) (after literal bs) (λ rest. Some (verb, rest)) (literal_holds literal bs)
+    (λ rest e. ap (λ (t : List ℕ). k ∷ t) e ∙ whole rest)
+
+verb_says : (bytes : List ℕ) → Holds (SaysVerb bytes) (verb_at bytes)
+unfolding verb_at
+verb_says [] = tt
+verb_says (b ∷ bs) =
+    letter_holds SaysVerb 114 b bs _ _ (letter_says 114 bs (codes "ead ") (HeldVerb Read) (λ rest. refl))
+    (letter_holds SaysVerb 108 b bs _ _ (letter_says 108 bs (codes "eave ") (HeldVerb Leave) (λ rest. refl))
+    (letter_holds SaysVerb 97 b bs _ _ (letter_says 97 bs (codes "nnounce ") (HeldVerb Announce) (λ rest. refl))
+    (letter_holds SaysVerb 119 b bs _ _ (letter_says 119 bs (codes "rite ") (HeldVerb Write) (λ rest. refl))
+    (letter_holds SaysVerb 104 b bs _ _ (letter_says 104 bs (codes "elp ") Help (λ rest. refl))
+    (letter_holds SaysVerb 103 b bs _ None (letter_says 103 bs (codes "ive ") Give (λ rest. refl)) tt)))))
+
+held_text : (records : List RecordSpec) (held : Held) (r h : ℕ) → ask_text records (held_ask held r h) ≡ verb_text (HeldVerb held) ++ (record_text records r ++ 32 ∷ last_text h)
+held_text records Read r h = refl
+held_text records Announce r h = refl
+held_text records Write r h = refl
+held_text records Leave r h = refl
+
+held_fits : (held : Held) (r h : ℕ) → r < 2 ^ 16 → h < 2 ^ 64 → FitsAsk (held_ask held r h)
+held_fits Read r h low low2 = (low, low2)
+held_fits Announce r h low low2 = (low, low2)
+held_fits Write r h low low2 = (low, low2)
+held_fits Leave r h low low2 = (low, low2)
+
+-- a verb, a record, and what is read behind them are the text of an ask up to the closing quote, and what stands behind it
+abbrev SaysBehind : List RecordSpec → Verb → ℕ → List ℕ → Ask × List ℕ → Type 0
+SaysBehind records verb r bytes x = FitsAsk x.0 × (verb_text verb ++ (record_text records r ++ bytes) ≡ ask_text records x.0 ++ 34 ∷ x.1)
+
+behind_says : (records : List RecordSpec) (verb : Verb) (r : ℕ) (bytes : List ℕ) → r < 2 ^ 16 → Holds (SaysBehind records verb r bytes) (ask_behind verb r bytes)
+behind_says records (HeldVerb held) r bytes low =
+    let Says = SaysBehind records (HeldVerb held) r bytes in
+    let name = record_text records r in
+    let verb = verb_text (HeldVerb held) in
+    then_holds (λ (rest : List ℕ). bytes ≡ 32 ∷ rest) Says (after (codes " ") bytes) (λ rest. last_number rest >>= λ h. Some (held_ask held r h.0, h.1)) (literal_holds (codes " ") bytes)
+    (λ rest e. then_holds (SaysLast (2 ^ 64) rest) Says (last_number rest) (λ h. Some (held_ask held r h.0, h.1)) (last_number_says rest)
+    (λ h it. (
+      held_fits held r h.0 low it.0,
+      ap (λ (t : List ℕ). verb ++ t) (spaced name (last_text h.0) (name ++ bytes) bytes rest h.1 refl e it.1)
+          ∙ (sym (append_assoc verb (name ++ 32 ∷ last_text h.0) (34 ∷ h.1)) ∙ ap (λ (t : List ℕ). t ++ 34 ∷ h.1) (sym (held_text records held r h.0))),
+    )))
+behind_says records Give r bytes low =
+    let Says = SaysBehind records Give r bytes in
+    let name = record_text records r in
+    then_holds (λ (rest : List ℕ). bytes ≡ 32 ∷ rest) Says (after (codes " ") bytes) (λ rest. gift_at rest >>= λ gift. Some (GiveAsk r gift.0 gift.1, gift.2)) (literal_holds (codes " ") bytes)
+    (λ rest e. then_holds (SaysPair decimal (2 ^ 16) (2 ^ 64) rest) Says (gift_at rest) (λ gift. Some (GiveAsk r gift.0 gift.1, gift.2)) (gift_says rest)
+    (λ gift it. (
+      (low, (it.0, it.1.0)),
+      ap (λ (t : List ℕ). codes "give " ++ t) (spaced name (decimal gift.0 ++ 32 ∷ last_text gift.1) (name ++ bytes) bytes rest gift.2 refl e it.1.1),
+    )))
+behind_says records Help r bytes low =
+    then_holds (λ (rest : List ℕ). bytes ≡ 34 ∷ rest) (SaysBehind records Help r bytes) (after (codes "\"") bytes) (λ rest. Some (HelpAsk r, rest)) (literal_holds (codes "\"") bytes)
+    (λ rest e. (low, ap (λ (t : List ℕ). codes "help " ++ (record_text records r ++ t)) e))
+
 abbrev SaysAsk : LayoutState → List ℕ → Ask × List ℕ → Type 0
 SaysAsk layout bytes x = FitsAsk x.0 × (bytes ≡ ask_text layout.records x.0 ++ 34 ∷ x.1)
 
-help_says : (layout : LayoutState) → IsLayout layout → (bytes rest : List ℕ) → bytes ≡ codes "help " ++ rest → Holds (SaysAsk layout bytes) (help_at layout.records rest)
-unfolding help_at
-help_says layout is bytes rest same =
-    let records = layout.records in
-    then_holds (λ (r : ℕ × List ℕ). (r.0 < 2 ^ 16) × (rest ≡ record_text records r.0 ++ r.1)) (SaysAsk layout bytes) (record_at records rest)
-    (λ r. after (codes "\"") r.1 >>= λ behind. Some (Help r.0, behind)) (record_says layout is rest)
-    (λ r it. then_holds (λ (behind : List ℕ). r.1 ≡ 34 ∷ behind) (SaysAsk layout bytes) (after (codes "\"") r.1) (λ behind. Some (Help r.0, behind)) (literal_holds (codes "\"") r.1)
-    (λ behind e. (it.0, same ∙ ap (λ (t : List ℕ). codes "help " ++ t) (it.1 ∙ ap (λ (t : List ℕ). record_text records r.0 ++ t) e))))
-
-give_says : (layout : LayoutState) → IsLayout layout → (bytes rest : List ℕ) → bytes ≡ codes "give " ++ rest → Holds (SaysAsk layout bytes) (give_at layout.records rest)
-unfolding give_at
-give_says layout is bytes rest same =
-    let records = layout.records in
-    let Says = SaysAsk layout bytes in
-    then_holds (λ (r : ℕ × List ℕ). (r.0 < 2 ^ 16) × (rest ≡ record_text records r.0 ++ r.1)) Says (record_at records rest)
-    (λ r. after (codes " ") r.1 >>= λ behind. gift_at behind >>= λ gift. Some (Give r.0 gift.0 gift.1, gift.2)) (record_says layout is rest)
-    (λ r it. then_holds (λ (behind : List ℕ). r.1 ≡ 32 ∷ behind) Says (after (codes " ") r.1) (λ behind. gift_at behind >>= λ gift. Some (Give r.0 gift.0 gift.1, gift.2)) (literal_holds (codes " ") r.1)
-    (λ behind e. then_holds (SaysPair decimal (2 ^ 16) (2 ^ 64) behind) Says (gift_at behind) (λ gift. Some (Give r.0 gift.0 gift.1, gift.2)) (gift_says behind)
-    (λ gift is2. (
-      (it.0, (is2.0, is2.1.0)),
-      same ∙ ap (λ (t : List ℕ). codes "give " ++ t) (spaced (record_text records r.0) (decimal gift.0 ++ 32 ∷ last_text gift.1) rest r.1 behind gift.2 it.1 e is2.1.1),
-    ))))
-
-pub ask_says : (layout : LayoutState) → IsLayout layout → (bytes : List ℕ) → Holds (SaysAsk layout bytes) (ask_at layout.records bytes)
+ask_says : (layout : LayoutState) → IsLayout layout → (bytes : List ℕ) → Holds (SaysAsk layout bytes) (ask_at layout.records bytes)
 unfolding ask_at
 ask_says layout is bytes =
-    behind_holds Says (codes "read ") bytes _ _
-    (λ rest e. then_holds (Held rest) Says (held_at layout.records rest) (λ x. Some (Read x.0 x.1, x.2)) (held_says layout is rest) (λ x it. ((it.0, it.1.0), e ∙ ap (λ (t : List ℕ). codes "read " ++ t) it.1.1)))
-    (behind_holds Says (codes "leave ") bytes _ _
-    (λ rest e. then_holds (Held rest) Says (held_at layout.records rest) (λ x. Some (Leave x.0 x.1, x.2)) (held_says layout is rest) (λ x it. ((it.0, it.1.0), e ∙ ap (λ (t : List ℕ). codes "leave " ++ t) it.1.1)))
-    (behind_holds Says (codes "announce ") bytes _ _
-    (λ rest e. then_holds (Held rest) Says (held_at layout.records rest) (λ x. Some (Announce x.0 x.1, x.2)) (held_says layout is rest) (λ x it. ((it.0, it.1.0), e ∙ ap (λ (t : List ℕ). codes "announce " ++ t) it.1.1)))
-    (behind_holds Says (codes "write ") bytes _ _
-    (λ rest e. then_holds (Held rest) Says (held_at layout.records rest) (λ x. Some (Quill x.0 x.1, x.2)) (held_says layout is rest) (λ x it. ((it.0, it.1.0), e ∙ ap (λ (t : List ℕ). codes "write " ++ t) it.1.1)))
-    (behind_holds Says (codes "help ") bytes (help_at layout.records) _ (λ rest e. help_says layout is bytes rest e)
-    (behind_holds Says (codes "give ") bytes (give_at layout.records) None (λ rest e. give_says layout is bytes rest e) tt)))))
-  where
-    Says : Ask × List ℕ → Type 0
-    Says = SaysAsk layout bytes
-
-    Held : List ℕ → ℕ × ℕ × List ℕ → Type 0
-    Held = SaysPair (record_text layout.records) (2 ^ 16) (2 ^ 64)
+    let records = layout.records in
+    let Says = SaysAsk layout bytes in
+    then_holds (SaysVerb bytes) Says (verb_at bytes) (λ verb. record_at records verb.1 >>= λ r. ask_behind verb.0 r.0 r.1) (verb_says bytes)
+    (λ verb same. then_holds (λ (r : ℕ × List ℕ). (r.0 < 2 ^ 16) × (verb.1 ≡ record_text records r.0 ++ r.1)) Says (record_at records verb.1) (λ r. ask_behind verb.0 r.0 r.1) (record_says layout is verb.1)
+    (λ r it. still_holds (SaysBehind records verb.0 r.0 r.1) Says (ask_behind verb.0 r.0 r.1)
+    (λ x at. (at.0, same ∙ (ap (λ (t : List ℕ). verb_text verb.0 ++ t) it.1 ∙ at.1))) (behind_says records verb.0 r.0 r.1 it.0)))
 
 -- ---- what stands there is read
 
-held_again : (layout : LayoutState) → IsLayout layout → (r h : ℕ) (rest : List ℕ) → r < 2 ^ 16 → h < 2 ^ 64
-    → held_at layout.records ((record_text layout.records r ++ 32 ∷ last_text h) ++ 34 ∷ rest) ≡ Some (r, h, rest)
-unfolding held_at
-held_again layout is r h rest fits fits2 =
-    paired_again (record_text layout.records r) r h rest (record_at layout.records) last_number
-    (record_at_again layout is r 32 (last_text h ++ 34 ∷ rest) fits refl) (last_number_again h rest fits2)
+verb_again : (verb : Verb) (rest : List ℕ) → verb_at (verb_text verb ++ rest) ≡ Some (verb, rest)
+unfolding verb_at
+verb_again (HeldVerb Read) rest = refl
+verb_again (HeldVerb Announce) rest = refl
+verb_again (HeldVerb Write) rest = refl
+verb_again (HeldVerb Leave) rest = refl
+verb_again Give rest = refl
+verb_again Help rest = refl
 
-help_again : (layout : LayoutState) → IsLayout layout → (r : ℕ) (rest : List ℕ) → r < 2 ^ 16 → help_at layout.records (record_text layout.records r ++ 34 ∷ rest) ≡ Some (Help r, rest)
-unfolding help_at
-help_again layout is r rest fits =
-    ap (λ (o : Option (ℕ × List ℕ)). o >>= λ x. after (codes "\"") x.1 >>= λ behind. Some (Help x.0, behind)) (record_at_again layout is r 34 rest fits refl)
+front_again : (layout : LayoutState) → IsLayout layout → (verb : Verb) (r b : ℕ) (rest : List ℕ) → r < 2 ^ 16 → ends_word b ≡ true
+    → ask_at layout.records (verb_text verb ++ (record_text layout.records r ++ b ∷ rest)) ≡ ask_behind verb r (b ∷ rest)
+unfolding ask_at
+front_again layout is verb r b rest fits ends =
+    let records = layout.records in
+    ap (λ (o : Option (Verb × List ℕ)). o >>= λ v. record_at records v.1 >>= λ x. ask_behind v.0 x.0 x.1) (verb_again verb (record_text records r ++ b ∷ rest))
+    ∙ ap (λ (o : Option (ℕ × List ℕ)). o >>= λ x. ask_behind verb x.0 x.1) (record_at_again layout is r b rest fits ends)
+
+held_again : (layout : LayoutState) → IsLayout layout → (held : Held) (r h : ℕ) (rest : List ℕ) → r < 2 ^ 16 → h < 2 ^ 64
+    → ask_at layout.records (ask_text layout.records (held_ask held r h) ++ 34 ∷ rest) ≡ Some (held_ask held r h, rest)
+held_again layout is held r h rest fits fits2 =
+    let records = layout.records in
+    let name = record_text records r in
+    let verb = verb_text (HeldVerb held) in
+    ap (λ (t : List ℕ). ask_at records (t ++ 34 ∷ rest)) (held_text records held r h)
+    ∙ (ap (ask_at records) (append_assoc verb (name ++ 32 ∷ last_text h) (34 ∷ rest) ∙ ap (λ (t : List ℕ). verb ++ t) (append_assoc name (32 ∷ last_text h) (34 ∷ rest)))
+    ∙ (front_again layout is (HeldVerb held) r 32 (last_text h ++ 34 ∷ rest) fits refl
+    ∙ ap (λ (o : Option (ℕ × List ℕ)). o >>= λ x. Some (held_ask held r x.0, x.1)) (last_number_again h rest fits2)))
 
 give_again : (layout : LayoutState) → IsLayout layout → (r to seats : ℕ) (rest : List ℕ) → r < 2 ^ 16 → to < 2 ^ 16 → seats < 2 ^ 64
-    → give_at layout.records ((record_text layout.records r ++ 32 ∷ (decimal to ++ 32 ∷ last_text seats)) ++ 34 ∷ rest) ≡ Some (Give r to seats, rest)
-unfolding give_at
+    → ask_at layout.records (ask_text layout.records (GiveAsk r to seats) ++ 34 ∷ rest) ≡ Some (GiveAsk r to seats, rest)
 give_again layout is r to seats rest fits fits2 fits3 =
     let records = layout.records in
     let gift = decimal to ++ 32 ∷ last_text seats in
-    ap (give_at records) (append_assoc (record_text records r) (32 ∷ gift) (34 ∷ rest))
-    ∙ (ap (λ (o : Option (ℕ × List ℕ)). o >>= λ x. after (codes " ") x.1 >>= λ behind. gift_at behind >>= λ y. Some (Give x.0 y.0 y.1, y.2))
-    (record_at_again layout is r 32 (gift ++ 34 ∷ rest) fits refl)
-    ∙ ap (λ (o : Option (ℕ × ℕ × List ℕ)). o >>= λ y. Some (Give r y.0 y.1, y.2)) (gift_again to seats rest fits2 fits3))
+    ap (λ (t : List ℕ). ask_at records (codes "give " ++ t)) (append_assoc (record_text records r) (32 ∷ gift) (34 ∷ rest))
+    ∙ (front_again layout is Give r 32 (gift ++ 34 ∷ rest) fits refl
+    ∙ ap (λ (o : Option (ℕ × ℕ × List ℕ)). o >>= λ y. Some (GiveAsk r y.0 y.1, y.2)) (gift_again to seats rest fits2 fits3))
 
-pub ask_again : (layout : LayoutState) → IsLayout layout → (ask : Ask) (rest : List ℕ) → FitsAsk ask → ask_at layout.records (ask_text layout.records ask ++ 34 ∷ rest) ≡ Some (ask, rest)
-unfolding ask_at
-ask_again layout is (Read r h) rest fits =
-    ap (λ (o : Option (ℕ × ℕ × List ℕ)). o >>= λ x. Some (Read x.0 x.1, x.2)) (held_again layout is r h rest fits.0 fits.1)
-ask_again layout is (Announce r h) rest fits =
-    ap (λ (o : Option (ℕ × ℕ × List ℕ)). o >>= λ x. Some (Announce x.0 x.1, x.2)) (held_again layout is r h rest fits.0 fits.1)
-ask_again layout is (Quill r h) rest fits =
-    ap (λ (o : Option (ℕ × ℕ × List ℕ)). o >>= λ x. Some (Quill x.0 x.1, x.2)) (held_again layout is r h rest fits.0 fits.1)
-ask_again layout is (Leave r h) rest fits =
-    ap (λ (o : Option (ℕ × ℕ × List ℕ)). o >>= λ x. Some (Leave x.0 x.1, x.2)) (held_again layout is r h rest fits.0 fits.1)
-ask_again layout is (Give r to seats) rest fits = give_again layout is r to seats rest fits.0 fits.1.0 fits.1.1
-ask_again layout is (Help r) rest fits = help_again layout is r rest fits
+ask_again : (layout : LayoutState) → IsLayout layout → (ask : Ask) (rest : List ℕ) → FitsAsk ask → ask_at layout.records (ask_text layout.records ask ++ 34 ∷ rest) ≡ Some (ask, rest)
+ask_again layout is (ReadAsk r h) rest fits = held_again layout is Read r h rest fits.0 fits.1
+ask_again layout is (AnnounceAsk r h) rest fits = held_again layout is Announce r h rest fits.0 fits.1
+ask_again layout is (QuillAsk r h) rest fits = held_again layout is Write r h rest fits.0 fits.1
+ask_again layout is (LeaveAsk r h) rest fits = held_again layout is Leave r h rest fits.0 fits.1
+ask_again layout is (GiveAsk r to seats) rest fits = give_again layout is r to seats rest fits.0 fits.1.0 fits.1.1
+ask_again layout is (HelpAsk r) rest fits = front_again layout is Help r 34 rest fits refl
 
 -- ---- between quotes
 
 -- the text of an ask needs no backslash
 ask_plain : (layout : LayoutState) → IsLayout layout → (ask : Ask) → FitsAsk ask → is_plain (ask_text layout.records ask) ≡ true
-ask_plain layout is (Read r h) fits = plain_append (record_text layout.records r) _ (record_again layout is r fits.0).plain (number_plain h [] fits.1 refl)
-ask_plain layout is (Announce r h) fits = plain_append (record_text layout.records r) _ (record_again layout is r fits.0).plain (number_plain h [] fits.1 refl)
-ask_plain layout is (Quill r h) fits = plain_append (record_text layout.records r) _ (record_again layout is r fits.0).plain (number_plain h [] fits.1 refl)
-ask_plain layout is (Leave r h) fits = plain_append (record_text layout.records r) _ (record_again layout is r fits.0).plain (number_plain h [] fits.1 refl)
-ask_plain layout is (Give r to seats) fits =
+ask_plain layout is (ReadAsk r h) fits = plain_append (record_text layout.records r) _ (record_again layout is r fits.0).plain (number_plain h [] fits.1 refl)
+ask_plain layout is (AnnounceAsk r h) fits = plain_append (record_text layout.records r) _ (record_again layout is r fits.0).plain (number_plain h [] fits.1 refl)
+ask_plain layout is (QuillAsk r h) fits = plain_append (record_text layout.records r) _ (record_again layout is r fits.0).plain (number_plain h [] fits.1 refl)
+ask_plain layout is (LeaveAsk r h) fits = plain_append (record_text layout.records r) _ (record_again layout is r fits.0).plain (number_plain h [] fits.1 refl)
+ask_plain layout is (GiveAsk r to seats) fits =
     plain_append (record_text layout.records r) _ (record_again layout is r fits.0).plain
     (number_plain to (32 ∷ (decimal seats ++ [])) (omega (arith, fits.1.0)) (number_plain seats [] fits.1.1 refl))
-ask_plain layout is (Help r) fits = (record_again layout is r fits).plain
+ask_plain layout is (HelpAsk r) fits = (record_again layout is r fits).plain
 
 abbrev SaysCall : LayoutState → List ℕ → Call × List ℕ → Type 0
 SaysCall layout bytes x = FitsCall x.0 × (bytes ≡ quoted (call_text layout.records x.0) x.1)
 
+ask_call_says : (layout : LayoutState) → IsLayout layout → (bytes : List ℕ) → Holds (SaysCall layout bytes) (ask_call layout.records bytes)
+ask_call_says layout is bytes =
+    then_holds (SaysAsk layout bytes) (SaysCall layout bytes) (ask_at layout.records bytes) (λ ask. Some (AskCall ask.0, ask.1)) (ask_says layout is bytes)
+    (λ x it. (it.0, it.1 ∙ sym (plain_quoted (ask_text layout.records x.0) x.1 (ask_plain layout is x.0 it.0))))
+
 call_says : (layout : LayoutState) → IsLayout layout → (bytes : List ℕ) → Holds (SaysCall layout bytes) (worded_call layout.records bytes)
 unfolding worded_call
-call_says layout is bytes =
-    says_holds (SaysCall layout bytes) (codes "send\"") Snapshot bytes (ask_at layout.records bytes >>= λ ask. Some (AskCall ask.0, ask.1)) (λ rest e. (tt, e))
-    (then_holds (SaysAsk layout bytes) (SaysCall layout bytes) (ask_at layout.records bytes) (λ ask. Some (AskCall ask.0, ask.1)) (ask_says layout is bytes)
-    (λ x it. (it.0, it.1 ∙ sym (plain_quoted (ask_text layout.records x.0) x.1 (ask_plain layout is x.0 it.0)))))
+call_says layout is [] = ask_call_says layout is []
+call_says layout is (b ∷ bs) =
+    letter_holds (SaysCall layout) 115 b bs (snapshot_call bs) (ask_call layout.records (b ∷ bs))
+    (then_holds (λ (rest : List ℕ). bs ≡ codes "end\"" ++ rest) (SaysCall layout (115 ∷ bs)) (after (codes "end\"") bs) (λ rest. Some (Snapshot, rest)) (literal_holds (codes "end\"") bs)
+    (λ rest e. (tt, ap (λ (t : List ℕ). 115 ∷ t) e))) (ask_call_says layout is (b ∷ bs))
 
--- no ask is a snapshot
-not_sent : (records : List RecordSpec) (ask : Ask) (rest : List ℕ) → worded_call records (ask_text records ask ++ 34 ∷ rest) ≡ (ask_at records (ask_text records ask ++ 34 ∷ rest) >>= λ x. Some (AskCall x.0, x.1))
+-- no ask begins as a snapshot does
+not_sent : (records : List RecordSpec) (ask : Ask) (rest : List ℕ) → worded_call records (ask_text records ask ++ 34 ∷ rest) ≡ ask_call records (ask_text records ask ++ 34 ∷ rest)
 unfolding worded_call
-not_sent records (Read r h) rest = refl
-not_sent records (Announce r h) rest = refl
-not_sent records (Quill r h) rest = refl
-not_sent records (Leave r h) rest = refl
-not_sent records (Give r to seats) rest = refl
-not_sent records (Help r) rest = refl
+not_sent records (ReadAsk r h) rest = refl
+not_sent records (AnnounceAsk r h) rest = refl
+not_sent records (QuillAsk r h) rest = refl
+not_sent records (LeaveAsk r h) rest = refl
+not_sent records (GiveAsk r to seats) rest = refl
+not_sent records (HelpAsk r) rest = refl
 
 pub asked_again : (layout : LayoutState) → IsLayout layout → (ask : Ask) (rest : List ℕ) → FitsAsk ask
     → worded_call layout.records (quoted (ask_text layout.records ask) rest) ≡ Some (AskCall ask, rest)
@@ -159,7 +208,7 @@ sent_again records rest = refl
 
 -- what begins with the verb that takes a delta is none of these
 pub take_asks_nothing : (records : List RecordSpec) (text : List ℕ) → worded_call records (codes "take " ++ text) ≡ None
-unfolding worded_call ask_at
+unfolding worded_call ask_at verb_at
 take_asks_nothing records text = refl
 
 abbrev NoCall : LayoutState → List ℕ → Type 0
@@ -189,11 +238,11 @@ no_merge Refused records bytes none = λ call rest fits same. at call rest fits 
     first x y xs ys e = ap (λ (t : List ℕ). get_or t 0 x) e
 
     at : (call : Call) → (rest : List ℕ) → FitsCall call → codes "take " ++ bytes ≡ quoted (call_text records call) rest → ⊥
-    at (AskCall (Read r h)) rest fits same = let clash : ◌≡◌ {A = ℕ} 116 114 = first 116 114 _ _ same in absurd (omega arith)
-    at (AskCall (Announce r h)) rest fits same = let clash : ◌≡◌ {A = ℕ} 116 97 = first 116 97 _ _ same in absurd (omega arith)
-    at (AskCall (Quill r h)) rest fits same = let clash : ◌≡◌ {A = ℕ} 116 119 = first 116 119 _ _ same in absurd (omega arith)
-    at (AskCall (Leave r h)) rest fits same = let clash : ◌≡◌ {A = ℕ} 116 108 = first 116 108 _ _ same in absurd (omega arith)
-    at (AskCall (Give r to seats)) rest fits same = let clash : ◌≡◌ {A = ℕ} 116 103 = first 116 103 _ _ same in absurd (omega arith)
-    at (AskCall (Help r)) rest fits same = let clash : ◌≡◌ {A = ℕ} 116 104 = first 116 104 _ _ same in absurd (omega arith)
+    at (AskCall (ReadAsk r h)) rest fits same = let clash : ◌≡◌ {A = ℕ} 116 114 = first 116 114 _ _ same in absurd (omega arith)
+    at (AskCall (AnnounceAsk r h)) rest fits same = let clash : ◌≡◌ {A = ℕ} 116 97 = first 116 97 _ _ same in absurd (omega arith)
+    at (AskCall (QuillAsk r h)) rest fits same = let clash : ◌≡◌ {A = ℕ} 116 119 = first 116 119 _ _ same in absurd (omega arith)
+    at (AskCall (LeaveAsk r h)) rest fits same = let clash : ◌≡◌ {A = ℕ} 116 108 = first 116 108 _ _ same in absurd (omega arith)
+    at (AskCall (GiveAsk r to seats)) rest fits same = let clash : ◌≡◌ {A = ℕ} 116 103 = first 116 103 _ _ same in absurd (omega arith)
+    at (AskCall (HelpAsk r)) rest fits same = let clash : ◌≡◌ {A = ℕ} 116 104 = first 116 104 _ _ same in absurd (omega arith)
     at (Merge d) rest fits same = none d rest fits (ap (λ (t : List ℕ). drop 5 t) same)
     at Snapshot rest fits same = let clash : ◌≡◌ {A = ℕ} 116 115 = first 116 115 _ _ same in absurd (omega arith)

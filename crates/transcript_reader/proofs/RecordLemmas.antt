@@ -2,7 +2,7 @@
 use Rattle.std.proofs.Common.{◌≡◌, ℕ, zero, suc, ◌<◌, ◌≤◌, ◌^◌, Bool, true, false, ◌&&◌, not, eqb, ltb, ◌==◌, List, [], ◌∷◌, ◌++◌, length, get_or, Option, Some, None, cond, decimal, nat_le, refl, sym, ap, subst, ◌∙◌, append-nil, ◌⊎◌, inl, inr, arith}
 use Rattle.std.specs.List.{position, position_or_len, list_all}
 use Rattle.std.specs.Str.{bytes_eq}
-use Rattle.std.proofs.lemmas.Bool.{cases_lt, lt-ltb, le-ltb, ltb-true, eqb-true, and_parts, false_from_ne_true, cond-true, cond-false}
+use Rattle.std.proofs.lemmas.Bool.{cases_lt, lt-ltb, le-ltb, eqb-true, and_parts, false_from_ne_true, cond-true, cond-false}
 use Rattle.std.proofs.lemmas.List.{nil_from_length}
 use Rattle.std.proofs.lemmas.List.Folds.{list_any_at}
 use Rattle.std.proofs.lemmas.List.Quantifiers.{position-Some}
@@ -11,11 +11,11 @@ use Rattle.merge_core.specs.declared.layout.RecordSpec.{RecordSpec}
 use Rattle.merge_core.specs.Layout.{LayoutState, IsLayout, is_name_byte, is_record_name, has_name, names_differ}
 use Rattle.text_parts.specs.Readers.{◌>>=◌, short_at}
 use Rattle.text_parts.proofs.NumberLaws.{short_again}
-use Rattle.script_text.specs.Words.{short_word, record_word, no_record, has_this_name, found_or_unknown}
+use Rattle.script_text.specs.Words.{short_word, has_this_name}
 use Rattle.transcript_text.specs.Texts.{nameless, record_text}
 use Rattle.transcript_reader.specs.Words.{ends_word, word_at, record_named, record_numbered, logged_record, record_at}
 use Rattle.transcript_reader.proofs.EscapedLemmas.{is_plain, decimal_plain}
-use Rattle.transcript_reader.proofs.HoldLemmas.{Holds, both_hold, when_holds, if_holds, then_holds}
+use Rattle.transcript_reader.proofs.HoldLemmas.{Holds, when_holds, then_holds}
 use Rattle.transcript_reader.proofs.WordLemmas.{IsWord, SaysNumber, word_says, word_again, decimal_word, short_says}
 
 -- ---- a number that is all of a word
@@ -81,9 +81,6 @@ pub record RecordAgain (records : List RecordSpec) (r : ℕ) : Type 0 where
   pub plain : is_plain (record_text records r) ≡ true
   pub found : logged_record records (record_text records r) ≡ Some r
 
-abbrev named_or_none : List RecordSpec → ℕ → Option ℕ
-named_or_none records r = cond (ltb r (length records)) (Some r) None
-
 abbrev numbered_or_none : List RecordSpec → ℕ → Option ℕ
 numbered_or_none records r = cond (ltb r (length records)) None (Some r)
 
@@ -93,11 +90,9 @@ named_again records r [] below is found = absurd cc
 named_again records r (b ∷ bs) below is found =
     let first = and_parts (is_lower b) _ is in
     let rest = and_parts _ (list_all is_name_byte bs) first.1 in
-    let question : eqb b 63 ≡ false = not_lower b 63 first.0 refl in
-    let there : named_or_none records r ≡ Some r = cond-true (ltb r (length records)) (Some r) None (lt-ltb r (length records) below) in
-    let read : record_named records (b ∷ bs) ≡ Some r = ap (λ (o : Option ℕ). found_or_unknown o (b ∷ bs) >>= named_or_none records) found ∙ there in (
+    let question : eqb b 63 ≡ false = not_lower b 63 first.0 refl in (
       (not_lower b 32 first.0 refl, name_word_bytes bs rest.1),
-      (rw (not_lower b 34 first.0 refl, not_lower b 92 first.0 refl) (name_plain_bytes bs rest.1), rw question read),
+      (rw (not_lower b 34 first.0 refl, not_lower b 92 first.0 refl) (name_plain_bytes bs rest.1), rw question found),
     )
 
 -- the name of a record that is there is a word, and stands for it
@@ -153,23 +148,15 @@ abbrev SaysRecord : List RecordSpec → List ℕ → ℕ → Type 0
 SaysRecord records word r = (r < 2 ^ 16) × (word ≡ record_text records r)
 
 -- a record that was found by a name has it
-found_says : (layout : LayoutState) → IsLayout layout → (word : List ℕ) → Holds (λ r. r < length layout.records → SaysRecord layout.records word r) (record_word layout.records word)
-found_says layout is word = at (position (has_this_name word) layout.records) refl
-  where
-    Says : ℕ → Type 0
-    Says r = r < length layout.records → SaysRecord layout.records word r
-
-    at : (found : Option ℕ) → position (has_this_name word) layout.records ≡ found → Holds Says (found_or_unknown found word)
-    at None e = if_holds Says (is_record_name word) (Some no_record) None (λ low. absurd (omega (arith, is.few_records, low))) tt
-    at (Some r) e = λ low.
-        let name : (get_or layout.records r nameless).name ≡ word = (bytes_eq-Decides (get_or layout.records r nameless).name word).0 (position-Some (has_this_name word) layout.records r nameless e).1 in
-        (omega (arith, is.few_records, low), sym name ∙ sym (cond-true (ltb r (length layout.records)) (get_or layout.records r nameless).name (63 ∷ decimal r) (lt-ltb r (length layout.records) low)))
-
 named_says : (layout : LayoutState) → IsLayout layout → (word : List ℕ) → Holds (SaysRecord layout.records word) (record_named layout.records word)
-named_says layout is word =
-    then_holds (λ (r : ℕ). r < length layout.records → SaysRecord layout.records word r) (SaysRecord layout.records word)
-    (record_word layout.records word) (λ r. cond (ltb r (length layout.records)) (Some r) None) (found_says layout is word)
-    (λ r found. when_holds (SaysRecord layout.records word) (ltb r (length layout.records)) (Some r) None (λ e. found (ltb-true r (length layout.records) e)) (λ e. tt))
+named_says layout is word = at (position (has_this_name word) layout.records) refl
+  where
+    at : (found : Option ℕ) → position (has_this_name word) layout.records ≡ found → Holds (SaysRecord layout.records word) found
+    at None e = tt
+    at (Some r) e =
+        let there = position-Some (has_this_name word) layout.records r nameless e in
+        let name : (get_or layout.records r nameless).name ≡ word = (bytes_eq-Decides (get_or layout.records r nameless).name word).0 there.1 in
+        (omega (arith, is.few_records, there.0), sym name ∙ sym (cond-true (ltb r (length layout.records)) (get_or layout.records r nameless).name (63 ∷ decimal r) (lt-ltb r (length layout.records) there.0)))
 
 numbered_says : (layout : LayoutState) (digits : List ℕ) → Holds (SaysRecord layout.records (63 ∷ digits)) (record_numbered layout.records digits)
 numbered_says layout digits =

@@ -1,9 +1,10 @@
 -- Words and numbers of calls and replies between quotes, read off the front: none of their bytes has a backslash in front. For
 -- private clauses: that each text is read as what it was written for is proved in proofs/.
 use Rattle.std.specs.Prelude.{ℕ, ◌^◌, Bool, ◌==◌, ◌||◌, nat_lt, List, [], ◌∷◌, length, codes, if◌then◌else◌, Option, Some, None}
+use Rattle.std.specs.List.{position}
 use Rattle.merge_core.specs.declared.layout.RecordSpec.{RecordSpec}
 use Rattle.text_parts.specs.Readers.{◌>>=◌, onto, after, number_at, short_at}
-use Rattle.script_text.specs.Words.{short_word, record_word}
+use Rattle.script_text.specs.Words.{short_word, has_this_name}
 
 -- what is read behind a literal where it stands at the front, else another reading
 abbrev pub behind_or : {A : Type 0} → Option (List ℕ) → (List ℕ → Option A) → Option A → Option A
@@ -25,7 +26,7 @@ word_at (b ∷ bs) = if ends_word b then Some ([], b ∷ bs) else onto b (word_a
 
 -- the record of that name, if there is one
 abbrev pub record_named : List RecordSpec → List ℕ → Option ℕ
-record_named records name = record_word records name >>= λ r. if nat_lt r (length records) then Some r else None
+record_named records name = position (has_this_name name) records
 
 -- the number in these digits, if no record has it
 abbrev pub record_numbered : List RecordSpec → List ℕ → Option ℕ

@@ -1,21 +1,40 @@
 //! Calls of a site from their texts.
 ghost use Rattle.std.specs.Prelude.{◌≡◌, ◌≢◌, ◌++◌, ℕ, List, codes, length, nat_lt, MatchOption};
+ghost use Rattle.std.specs.List.{position};
 ghost use Rattle.merge_core.specs.declared.layout.RecordSpec.{RecordSpec};
 ghost use Rattle.text_parts.specs.Readers.{Gives};
+ghost use Rattle.script_text.specs.Words.{has_this_name};
 ghost use Rattle.transcript_text.specs.Texts.{call_text};
 ghost use Rattle.transcript_reader.specs.Fits.{FitsCall};
 ghost use Rattle.transcript_reader.specs.Quoted.{ReadsQuoted};
-ghost use Rattle.transcript_reader.specs.Words.{record_named, record_numbered, logged_record, record_at};
-ghost use Rattle.transcript_reader.specs.CallReaders.{held_at, help_at, give_at, ask_at, worded_call};
+ghost use Rattle.transcript_reader.specs.Words.{record_numbered, logged_record, record_at};
+ghost use Rattle.transcript_reader.specs.CallReaders.{verb_behind, verb_at, held_ask, ask_behind, ask_at, snapshot_call, ask_call, worded_call};
 
 use crate::deltas::told_at;
 use crate::numbers::{gift_at, last_number};
-use crate::words::{behind, word_at};
+use crate::words::word_at;
 use admission_core::{Ask, Call};
-use merge_core::Layout;
-use script_text::{record_word, short_word};
+use merge_core::{Layout, RecordSpec};
+use script_text::short_word;
 use std::alloc::Global;
 use text_parts::{Unread, after};
+
+/// What is asked with a holder.
+#[derive(Clone, Copy)]
+pub(crate) enum Held {
+    Read,
+    Announce,
+    Write,
+    Leave,
+}
+
+/// What is asked.
+#[derive(Clone, Copy)]
+pub(crate) enum Verb {
+    Held(Held),
+    Give,
+    Help,
+}
 
 // Whether the layout has a record of that number.
 fn has_record(layout: &Layout, r: u16) -> bool
@@ -24,15 +43,22 @@ fn has_record(layout: &Layout, r: u16) -> bool
     usize::from(r) < layout.records().len()
 }
 
+fn place_of(records: &[RecordSpec], name: &[u8]) -> Option<usize>
+    ensures { result ≡ position (has_this_name name.now) records.now }
+{
+    records
+        .iter()
+        .position(|record| record.name.as_str().as_bytes() == name)
+}
+
 // The record of that name, if there is one.
 fn record_named(layout: &Layout, name: &[u8]) -> Option<u16>
-    ensures { result ≡ record_named layout.now.records name.now }
+    ensures { result ≡ position (has_this_name name.now) layout.now.records }
 {
-    let r = record_word(layout, name)?;
-    if !has_record(layout, r) {
-        return None;
+    match place_of(layout.records(), name) {
+        Some(place) => Some(place as u16),
+        None => None,
     }
-    Some(r)
 }
 
 // The number in these digits, if no record has it.
@@ -70,64 +96,87 @@ fn record_at<'a>(layout: &Layout, bytes: &'a [u8]) -> Result<(u16, &'a [u8]), Un
     }
 }
 
-// A record and a holder.
-#[tactic(auto, unfolding(crate::specs::CallReaders::held_at))]
-fn held_at<'a>(layout: &Layout, bytes: &'a [u8]) -> Result<(u16, u64, &'a [u8]), Unread>
-    ensures { Gives (λ x. (x.0, x.1, x.2.now)) result (held_at layout.now.records bytes.now) }
+// A verb behind its first letter.
+#[inline(always)]
+fn verb_behind<'a>(literal: &[u8], verb: Verb, bytes: &'a [u8]) -> Result<(Verb, &'a [u8]), Unread>
+    ensures { Gives (λ x. (x.0, x.1.now)) result (verb_behind literal.now verb bytes.now) }
 {
-    let (r, rest) = record_at(layout, bytes)?;
-    let rest = after(b" ", rest)?;
-    let (h, rest) = last_number(rest)?;
-    Ok((r, h, rest))
+    let rest = after(literal, bytes)?;
+    Ok((verb, rest))
 }
 
-#[tactic(auto, unfolding(crate::specs::CallReaders::help_at))]
-fn help_at<'a>(layout: &Layout, bytes: &'a [u8]) -> Result<(Ask, &'a [u8]), Unread>
-    ensures { Gives (λ x. (x.0, x.1.now)) result (help_at layout.now.records bytes.now) }
+// The verb at the front, which its first letter tells, and the bytes behind it.
+#[tactic(auto, unfolding(crate::specs::CallReaders::verb_at))]
+fn verb_at(bytes: &[u8]) -> Result<(Verb, &[u8]), Unread>
+    ensures { Gives (λ x. (x.0, x.1.now)) result (verb_at bytes.now) }
 {
-    let (r, rest) = record_at(layout, bytes)?;
-    let rest = after(b"\"", rest)?;
-    Ok((Ask::Help { r }, rest))
+    match bytes {
+        [b'r', rest @ ..] => verb_behind(b"ead ", Verb::Held(Held::Read), rest),
+        [b'l', rest @ ..] => verb_behind(b"eave ", Verb::Held(Held::Leave), rest),
+        [b'a', rest @ ..] => verb_behind(b"nnounce ", Verb::Held(Held::Announce), rest),
+        [b'w', rest @ ..] => verb_behind(b"rite ", Verb::Held(Held::Write), rest),
+        [b'h', rest @ ..] => verb_behind(b"elp ", Verb::Help, rest),
+        [b'g', rest @ ..] => verb_behind(b"ive ", Verb::Give, rest),
+        _ => Err(Unread::Refused),
+    }
 }
 
-#[tactic(auto, unfolding(crate::specs::CallReaders::give_at))]
-fn give_at<'a>(layout: &Layout, bytes: &'a [u8]) -> Result<(Ask, &'a [u8]), Unread>
-    ensures { Gives (λ x. (x.0, x.1.now)) result (give_at layout.now.records bytes.now) }
+// What is asked with a holder.
+fn held_ask(held: Held, r: u16, h: u64) -> Ask
+    ensures { result ≡ held_ask held r h }
 {
-    let (r, rest) = record_at(layout, bytes)?;
-    let rest = after(b" ", rest)?;
-    let (to, seats, rest) = gift_at(rest)?;
-    Ok((Ask::Give { r, to, seats }, rest))
+    match held {
+        Held::Read => Ask::Read { r, h },
+        Held::Announce => Ask::Announce { r, h },
+        Held::Write => Ask::Quill { r, h },
+        Held::Leave => Ask::Leave { r, h },
+    }
 }
 
-// What is asked of a site. No two verbs begin with one letter.
+// What is asked, behind its record.
+fn ask_behind(verb: Verb, r: u16, bytes: &[u8]) -> Result<(Ask, &[u8]), Unread>
+    ensures { Gives (λ x. (x.0, x.1.now)) result (ask_behind verb r bytes.now) }
+{
+    match verb {
+        Verb::Held(held) => {
+            let rest = after(b" ", bytes)?;
+            let (h, rest) = last_number(rest)?;
+            Ok((held_ask(held, r, h), rest))
+        }
+        Verb::Give => {
+            let rest = after(b" ", bytes)?;
+            let (to, seats, rest) = gift_at(rest)?;
+            Ok((Ask::Give { r, to, seats }, rest))
+        }
+        Verb::Help => {
+            let rest = after(b"\"", bytes)?;
+            Ok((Ask::Help { r }, rest))
+        }
+    }
+}
+
+// What is asked of a site: a verb, a record, and numbers.
 #[tactic(auto, unfolding(crate::specs::CallReaders::ask_at))]
 fn ask_at<'a>(layout: &Layout, bytes: &'a [u8]) -> Result<(Ask, &'a [u8]), Unread>
     ensures { Gives (λ x. (x.0, x.1.now)) result (ask_at layout.now.records bytes.now) }
 {
-    if let Some(rest) = behind(b"read ", bytes) {
-        let (r, h, rest) = held_at(layout, rest)?;
-        return Ok((Ask::Read { r, h }, rest));
-    }
-    if let Some(rest) = behind(b"leave ", bytes) {
-        let (r, h, rest) = held_at(layout, rest)?;
-        return Ok((Ask::Leave { r, h }, rest));
-    }
-    if let Some(rest) = behind(b"announce ", bytes) {
-        let (r, h, rest) = held_at(layout, rest)?;
-        return Ok((Ask::Announce { r, h }, rest));
-    }
-    if let Some(rest) = behind(b"write ", bytes) {
-        let (r, h, rest) = held_at(layout, rest)?;
-        return Ok((Ask::Quill { r, h }, rest));
-    }
-    if let Some(rest) = behind(b"help ", bytes) {
-        return help_at(layout, rest);
-    }
-    if let Some(rest) = behind(b"give ", bytes) {
-        return give_at(layout, rest);
-    }
-    Err(Unread::Refused)
+    let (verb, rest) = verb_at(bytes)?;
+    let (r, rest) = record_at(layout, rest)?;
+    ask_behind(verb, r, rest)
+}
+
+fn snapshot_call(bytes: &[u8]) -> Result<(Call, &[u8]), Unread>
+    ensures { Gives (λ x. (x.0, x.1.now)) result (snapshot_call bytes.now) }
+{
+    let rest = after(b"end\"", bytes)?;
+    Ok((Call::Snapshot, rest))
+}
+
+fn ask_call<'a>(layout: &Layout, bytes: &'a [u8]) -> Result<(Call, &'a [u8]), Unread>
+    ensures { Gives (λ x. (x.0, x.1.now)) result (ask_call layout.now.records bytes.now) }
+{
+    let (ask, rest) = ask_at(layout, bytes)?;
+    Ok((Call::Ask(ask), rest))
 }
 
 // A call without a delta.
@@ -135,11 +184,10 @@ fn ask_at<'a>(layout: &Layout, bytes: &'a [u8]) -> Result<(Ask, &'a [u8]), Unrea
 fn worded_call<'a>(layout: &Layout, bytes: &'a [u8]) -> Result<(Call, &'a [u8]), Unread>
     ensures { Gives (λ x. (x.0, x.1.now)) result (worded_call layout.now.records bytes.now) }
 {
-    if let Some(rest) = behind(b"send\"", bytes) {
-        return Ok((Call::Snapshot, rest));
+    match bytes {
+        [b's', rest @ ..] => snapshot_call(rest),
+        _ => ask_call(layout, bytes),
     }
-    let (ask, rest) = ask_at(layout, bytes)?;
-    Ok((Call::Ask(ask), rest))
 }
 
 // The bytes behind the verb that takes a delta.
@@ -148,7 +196,10 @@ fn taken_text(bytes: &[u8]) -> Option<&[u8]>
         ((text : List ℕ) → bytes.now ≢ codes "take " ++ text)
         (λ text. bytes.now ≡ codes "take " ++ text.now) }
 {
-    bytes.strip_prefix(b"take ")
+    match bytes {
+        [b't', rest @ ..] => rest.strip_prefix(b"ake "),
+        _ => None,
+    }
 }
 
 // The call that takes the delta whose text stands up to the closing quote, and the bytes behind it.
