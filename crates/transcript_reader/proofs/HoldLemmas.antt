@@ -4,8 +4,6 @@ use Rattle.std.proofs.lemmas.Bool.{eqb-true}
 use Rattle.std.proofs.lemmas.Option.{same_Some, none-some}
 use Rattle.text_parts.specs.Readers.{◌>>=◌, after}
 use Rattle.text_parts.proofs.LiteralLaws.{after_takes}
-use Rattle.transcript_reader.specs.Readers.{first_at}
-use Rattle.transcript_reader.specs.Words.{behind_or, says_or}
 
 -- P holds of what is there
 abbrev pub Holds : {A : Type 0} → (A → Type 0) → Option A → Type 0
@@ -43,11 +41,6 @@ pub then_holds : {A B : Type 0} (Q : A → Type 0) (P : B → Type 0) (o : Optio
 then_holds Q P None f holds each = tt
 then_holds Q P (Some x) f holds each = each x holds
 
--- .. of the first of two that is there
-pub first_holds : {A : Type 0} (P : A → Type 0) (o p : Option A) → Holds P o → Holds P p → Holds P (first_at o p)
-first_holds P None p one other = other
-first_holds P (Some x) p one other = one
-
 -- .. behind a literal
 pub literal_holds : (literal bytes : List ℕ) → Holds (λ rest. bytes ≡ literal ++ rest) (after literal bytes)
 literal_holds literal bytes = at (after literal bytes) refl
@@ -55,15 +48,3 @@ literal_holds literal bytes = at (after literal bytes) refl
     at : (o : Option (List ℕ)) → after literal bytes ≡ o → Holds (λ rest. bytes ≡ literal ++ rest) o
     at None e = tt
     at (Some rest) e = after_takes literal bytes rest e
-
-pub behind_holds : {A : Type 0} (P : A → Type 0) (literal bytes : List ℕ) (f : List ℕ → Option A) (other : Option A)
-    → ((rest : List ℕ) → bytes ≡ literal ++ rest → Holds P (f rest)) → Holds P other → Holds P (behind_or (after literal bytes) f other)
-behind_holds P literal bytes f other each else = at (after literal bytes) (literal_holds literal bytes)
-  where
-    at : (o : Option (List ℕ)) → Holds (λ rest. bytes ≡ literal ++ rest) o → Holds P (behind_or o f other)
-    at None e = else
-    at (Some rest) e = each rest e
-
-pub says_holds : {A : Type 0} (P : A × List ℕ → Type 0) (literal : List ℕ) (x : A) (bytes : List ℕ) (other : Option (A × List ℕ))
-    → ((rest : List ℕ) → bytes ≡ literal ++ rest → P (x, rest)) → Holds P other → Holds P (says_or literal x bytes other)
-says_holds P literal x bytes other each else = behind_holds P literal bytes (λ rest. Some (x, rest)) other each else

@@ -10,15 +10,15 @@ use Rattle.admission_model.specs.declared.reply.Refusal.TheVariants.{NoRecord, B
 use Rattle.admission_model.specs.declared.reply.Reply.{Reply}
 use Rattle.admission_model.specs.declared.reply.Reply.TheVariants.{Admitted, Announced, Left, Given, Gave, Merged, Snapshot, Refused}
 use Rattle.delta_codec.specs.DeltaText.{delta_text}
-use Rattle.text_parts.specs.Readers.{◌>>=◌, Gives}
+use Rattle.text_parts.specs.Readers.{◌>>=◌, Gives, after}
 use Rattle.script_text.specs.Replies.{numbers_text, refusal_name, refusal_numbers, refusal_text, reply_text}
 use Rattle.transcript_reader.specs.Fits.{FitsRefusal, FitsReply}
-use Rattle.transcript_reader.specs.Words.{last_number, last_short, gift_at, shortage_at}
-use Rattle.transcript_reader.specs.ReplyReaders.{plain_refusal, other_plain_refusal, row_refusal, counted_refusal, refusal_at, plain_reply, counted_reply, worded_reply}
+use Rattle.transcript_reader.specs.Words.{told, last_number, last_short, gift_at, shortage_at}
+use Rattle.transcript_reader.specs.ReplyReaders.{seat_refusal, not_refusal, no_refusal, no_refusal_arms, already_refusal, already_refusal_arms, too_refusal, to_refusal, to_refusal_arms, m_refusal, o_refusal, bad_refusal, bad_refusal_arms, refusal_at, a_reply, left_reply, left_reply_arms, g_reply, worded_reply}
 use Rattle.transcript_text.specs.Quoted.{escaped}
 use Rattle.transcript_reader.specs.Quoted.{quoted, Refuses, ReadsQuoted}
 use Rattle.transcript_reader.proofs.EscapedLemmas.{is_plain, number_plain, plain_quoted}
-use Rattle.transcript_reader.proofs.HoldLemmas.{Holds, held_by, then_holds, first_holds, behind_holds, says_holds}
+use Rattle.transcript_reader.proofs.HoldLemmas.{Holds, held_by, letter_holds, still_holds, then_holds, literal_holds}
 use Rattle.transcript_reader.proofs.WordLemmas.{SaysLast, SaysPair, last_text, last_number_says, last_number_again, last_short_says, last_short_again, gift_says, gift_again, shortage_says, shortage_again}
 
 -- ---- what is read is what stands there
@@ -27,94 +27,203 @@ use Rattle.transcript_reader.proofs.WordLemmas.{SaysLast, SaysPair, last_text, l
 abbrev name_text : Refusal → List ℕ
 name_text x = refusal_name x ++ numbers_text (refusal_numbers x)
 
-abbrev SaysRefusal : List ℕ → Refusal × List ℕ → Type 0
-SaysRefusal bytes x = FitsRefusal x.0 × (bytes ≡ name_text x.0 ++ 34 ∷ x.1)
+-- what was read before these bytes, and they, are the text of a refusal up to the closing quote, and what stands behind it
+abbrev SaysRefusal : List ℕ → List ℕ → Refusal × List ℕ → Type 0
+SaysRefusal front bytes x = FitsRefusal x.0 × (front ++ bytes ≡ name_text x.0 ++ 34 ∷ x.1)
 
-plain_says : (bytes : List ℕ) → Holds (SaysRefusal bytes) (plain_refusal bytes)
-unfolding plain_refusal
-plain_says bytes =
-    says_holds (SaysRefusal bytes) (codes "NotHere\"") NotHere bytes _ (λ rest e. (tt, e))
-    (says_holds (SaysRefusal bytes) (codes "AlreadyHere\"") AlreadyHere bytes _ (λ rest e. (tt, e))
-    (says_holds (SaysRefusal bytes) (codes "AlreadyInside\"") AlreadyInside bytes _ (λ rest e. (tt, e))
-    (says_holds (SaysRefusal bytes) (codes "NotAnnounced\"") NotAnnounced bytes _ (λ rest e. (tt, e))
-    (says_holds (SaysRefusal bytes) (codes "CounterFull\"") CounterFull bytes _ (λ rest e. (tt, e))
-    (says_holds (SaysRefusal bytes) (codes "TooManyWriters\"") TooManyWriters bytes _ (λ rest e. (tt, e))
-    (says_holds (SaysRefusal bytes) (codes "NoRecord\"") NoRecord bytes _ (λ rest e. (tt, e))
-    (says_holds (SaysRefusal bytes) (codes "BadHolder\"") BadHolder bytes None (λ rest e. (tt, e)) tt)))))))
+-- .. of a reply
+abbrev SaysReply : List ℕ → List ℕ → Reply × List ℕ → Type 0
+SaysReply front bytes x = FitsReply x.0 × (front ++ bytes ≡ reply_text x.0 ++ 34 ∷ x.1)
 
-other_plain_says : (bytes : List ℕ) → Holds (SaysRefusal bytes) (other_plain_refusal bytes)
-unfolding other_plain_refusal
-other_plain_says bytes =
-    says_holds (SaysRefusal bytes) (codes "NoPlan\"") NoPlan bytes _ (λ rest e. (tt, e))
-    (says_holds (SaysRefusal bytes) (codes "ToSelf\"") ToSelf bytes _ (λ rest e. (tt, e))
-    (says_holds (SaysRefusal bytes) (codes "NoSite\"") NoSite bytes _ (λ rest e. (tt, e))
-    (says_holds (SaysRefusal bytes) (codes "ZeroSeats\"") ZeroSeats bytes _ (λ rest e. (tt, e))
-    (says_holds (SaysRefusal bytes) (codes "LogFull\"") LogFull bytes _ (λ rest e. (tt, e))
-    (says_holds (SaysRefusal bytes) (codes "Frozen\"") Frozen bytes _ (λ rest e. (tt, e))
-    (says_holds (SaysRefusal bytes) (codes "Memory\"") Memory bytes _ (λ rest e. (tt, e))
-    (says_holds (SaysRefusal bytes) (codes "StoreFault\"") StoreFault bytes None (λ rest e. (tt, e)) tt)))))))
+told_refusal : (front literal : List ℕ) (x : Refusal) (bytes : List ℕ) → FitsRefusal x → ((rest : List ℕ) → front ++ (literal ++ rest) ≡ name_text x ++ 34 ∷ rest) → Holds (SaysRefusal front bytes) (told literal x bytes)
+told_refusal front literal x bytes fits whole =
+    then_holds (λ (rest : List ℕ). bytes ≡ literal ++ rest) (SaysRefusal front bytes) (after literal bytes) (λ rest. Some (x, rest)) (literal_holds literal bytes)
+    (λ rest e. (fits, ap (λ (t : List ℕ). front ++ t) e ∙ whole rest))
 
-row_says : (bytes : List ℕ) → Holds (SaysRefusal bytes) (row_refusal bytes)
-unfolding row_refusal
-row_says bytes =
-    behind_holds (SaysRefusal bytes) (codes "OtherLayout ") bytes _ _
-    (λ rest e. then_holds (SaysLast (2 ^ 64) rest) (SaysRefusal bytes) (last_number rest) (λ n. Some (OtherLayout n.0, n.1)) (last_number_says rest) (λ n it. (it.0, e ∙ ap (λ (t : List ℕ). codes "OtherLayout " ++ t) it.1)))
-    (behind_holds (SaysRefusal bytes) (codes "BadRow ") bytes _ _
-    (λ rest e. then_holds (SaysLast (2 ^ 64) rest) (SaysRefusal bytes) (last_number rest) (λ n. Some (BadRow n.0, n.1)) (last_number_says rest) (λ n it. (it.0, e ∙ ap (λ (t : List ℕ). codes "BadRow " ++ t) it.1)))
-    (behind_holds (SaysRefusal bytes) (codes "OwnRowAhead ") bytes _ None
-    (λ rest e. then_holds (SaysLast (2 ^ 16) rest) (SaysRefusal bytes) (last_short rest) (λ n. Some (OwnRowAhead n.0, n.1)) (last_short_says rest) (λ n it. (it.0, e ∙ ap (λ (t : List ℕ). codes "OwnRowAhead " ++ t) it.1))) tt))
+told_reply : (front literal : List ℕ) (x : Reply) (bytes : List ℕ) → FitsReply x → ((rest : List ℕ) → front ++ (literal ++ rest) ≡ reply_text x ++ 34 ∷ rest) → Holds (SaysReply front bytes) (told literal x bytes)
+told_reply front literal x bytes fits whole =
+    then_holds (λ (rest : List ℕ). bytes ≡ literal ++ rest) (SaysReply front bytes) (after literal bytes) (λ rest. Some (x, rest)) (literal_holds literal bytes)
+    (λ rest e. (fits, ap (λ (t : List ℕ). front ++ t) e ∙ whole rest))
 
-counted_says : (bytes : List ℕ) → Holds (SaysRefusal bytes) (counted_refusal bytes)
-unfolding counted_refusal
-counted_says bytes =
-    behind_holds (SaysRefusal bytes) (codes "TooFewRights ") bytes _ _
-    (λ rest e. then_holds (SaysLast (2 ^ 64) rest) (SaysRefusal bytes) (last_number rest) (λ n. Some (TooFewRights n.0, n.1)) (last_number_says rest) (λ n it. (it.0, e ∙ ap (λ (t : List ℕ). codes "TooFewRights " ++ t) it.1)))
-    (behind_holds (SaysRefusal bytes) (codes "WriterAnnounced ") bytes _ _
-    (λ rest e. then_holds (SaysLast (2 ^ 16) rest) (SaysRefusal bytes) (last_short rest) (λ n. Some (WriterAnnounced n.0, n.1)) (last_short_says rest) (λ n it. (it.0, e ∙ ap (λ (t : List ℕ). codes "WriterAnnounced " ++ t) it.1)))
-    (behind_holds (SaysRefusal bytes) (codes "MissingSeats ") bytes _ _
-    (λ rest e. then_holds (SaysPair decimal (2 ^ 64) (2 ^ 32) rest) (SaysRefusal bytes) (shortage_at rest) (λ n. Some (MissingSeats n.0 n.1, n.2)) (shortage_says rest) (λ n it. ((it.0, it.1.0), e ∙ ap (λ (t : List ℕ). codes "MissingSeats " ++ t) it.1.1))) (row_says bytes)))
+-- behind a literal, what is read of the rest
+part_holds : {A B : Type 0} (Part : List ℕ → A → Type 0) (P : B → Type 0) (literal : List ℕ) (read : List ℕ → Option A) (f : A → Option B) (bytes : List ℕ) → ((rest : List ℕ) → Holds (Part rest) (read rest))
+    → ((rest : List ℕ) (x : A) → bytes ≡ literal ++ rest → Part rest x → Holds P (f x)) → Holds P (after literal bytes >>= λ rest. read rest >>= f)
+part_holds Part P literal read f bytes says each =
+    then_holds (λ (rest : List ℕ). bytes ≡ literal ++ rest) P (after literal bytes) (λ rest. read rest >>= f) (literal_holds literal bytes)
+    (λ rest e. then_holds (Part rest) P (read rest) f (says rest) (λ x it. each rest x e it))
 
-refusal_says : (bytes : List ℕ) → Holds (SaysRefusal bytes) (refusal_at bytes)
+numbered_refusal : (front literal : List ℕ) (make : ℕ → Refusal) (limit : ℕ) (last : List ℕ → Option (ℕ × List ℕ)) (bytes : List ℕ) → ((rest : List ℕ) → Holds (SaysLast limit rest) (last rest))
+    → ((n : ℕ) → n < limit → FitsRefusal (make n)) → ((n : ℕ) (rest : List ℕ) → front ++ (literal ++ (last_text n ++ 34 ∷ rest)) ≡ name_text (make n) ++ 34 ∷ rest)
+    → Holds (SaysRefusal front bytes) (after literal bytes >>= λ rest. last rest >>= λ n. Some (make n.0, n.1))
+numbered_refusal front literal make limit last bytes says fits whole =
+    part_holds (SaysLast limit) (SaysRefusal front bytes) literal last (λ n. Some (make n.0, n.1)) bytes says
+    (λ rest n e it. (fits n.0 it.0, ap (λ (t : List ℕ). front ++ t) (e ∙ ap (λ (t : List ℕ). literal ++ t) it.1) ∙ whole n.0 n.1))
+
+numbered_reply : (front literal : List ℕ) (make : ℕ → Reply) (limit : ℕ) (last : List ℕ → Option (ℕ × List ℕ)) (bytes : List ℕ) → ((rest : List ℕ) → Holds (SaysLast limit rest) (last rest))
+    → ((n : ℕ) → n < limit → FitsReply (make n)) → ((n : ℕ) (rest : List ℕ) → front ++ (literal ++ (last_text n ++ 34 ∷ rest)) ≡ reply_text (make n) ++ 34 ∷ rest)
+    → Holds (SaysReply front bytes) (after literal bytes >>= λ rest. last rest >>= λ n. Some (make n.0, n.1))
+numbered_reply front literal make limit last bytes says fits whole =
+    part_holds (SaysLast limit) (SaysReply front bytes) literal last (λ n. Some (make n.0, n.1)) bytes says
+    (λ rest n e it. (fits n.0 it.0, ap (λ (t : List ℕ). front ++ t) (e ∙ ap (λ (t : List ℕ). literal ++ t) it.1) ∙ whole n.0 n.1))
+
+missingseats_says : (bytes : List ℕ) → Holds (SaysRefusal (codes "Mi") bytes) (after (codes "ssingSeats ") bytes >>= λ rest. shortage_at rest >>= λ n. Some (MissingSeats n.0 n.1, n.2))
+missingseats_says bytes =
+    part_holds (SaysPair decimal (2 ^ 64) (2 ^ 32)) (SaysRefusal (codes "Mi") bytes) (codes "ssingSeats ") shortage_at (λ n. Some (MissingSeats n.0 n.1, n.2)) bytes shortage_says
+    (λ rest n e it. ((it.0, it.1.0), ap (λ (t : List ℕ). codes "Mi" ++ t) (e ∙ ap (λ (t : List ℕ). codes "ssingSeats " ++ t) it.1.1)))
+
+gave_says : (bytes : List ℕ) → Holds (SaysReply (codes "ga") bytes) (after (codes "ve ") bytes >>= λ rest. gift_at rest >>= λ n. Some (Gave n.0 n.1, n.2))
+gave_says bytes =
+    part_holds (SaysPair decimal (2 ^ 16) (2 ^ 64)) (SaysReply (codes "ga") bytes) (codes "ve ") gift_at (λ n. Some (Gave n.0 n.1, n.2)) bytes gift_says
+    (λ rest n e it. ((it.0, it.1.0), ap (λ (t : List ℕ). codes "ga" ++ t) (e ∙ ap (λ (t : List ℕ). codes "ve " ++ t) it.1.1)))
+
+seat_refusal_says : (bytes : List ℕ) → Holds (SaysRefusal (codes "NoS") bytes) (seat_refusal bytes)
+unfolding seat_refusal
+seat_refusal_says [] = tt
+seat_refusal_says (b ∷ bs) =
+    letter_holds (SaysRefusal (codes "NoS")) 101 b bs _ _ (numbered_refusal (codes "NoSe") (codes "at ") NoSeat (2 ^ 64) last_number bs last_number_says (λ n low. low) (λ n rest. refl))
+    (letter_holds (SaysRefusal (codes "NoS")) 105 b bs _ None (told_refusal (codes "NoSi") (codes "te\"") NoSite bs tt (λ rest. refl)) tt)
+
+not_refusal_says : (bytes : List ℕ) → Holds (SaysRefusal (codes "Not") bytes) (not_refusal bytes)
+unfolding not_refusal
+not_refusal_says [] = tt
+not_refusal_says (b ∷ bs) =
+    letter_holds (SaysRefusal (codes "Not")) 72 b bs _ _ (told_refusal (codes "NotH") (codes "ere\"") NotHere bs tt (λ rest. refl))
+    (letter_holds (SaysRefusal (codes "Not")) 65 b bs _ None (told_refusal (codes "NotA") (codes "nnounced\"") NotAnnounced bs tt (λ rest. refl)) tt)
+
+no_refusal_arms_says : (bytes : List ℕ) → Holds (SaysRefusal (codes "No") bytes) (no_refusal_arms bytes)
+no_refusal_arms_says [] = tt
+no_refusal_arms_says (b ∷ bs) =
+    letter_holds (SaysRefusal (codes "No")) 83 b bs _ _ (seat_refusal_says bs)
+    (letter_holds (SaysRefusal (codes "No")) 116 b bs _ _ (not_refusal_says bs)
+    (letter_holds (SaysRefusal (codes "No")) 82 b bs _ _ (told_refusal (codes "NoR") (codes "ecord\"") NoRecord bs tt (λ rest. refl))
+    (letter_holds (SaysRefusal (codes "No")) 80 b bs _ None (told_refusal (codes "NoP") (codes "lan\"") NoPlan bs tt (λ rest. refl)) tt)))
+
+no_refusal_says : (bytes : List ℕ) → Holds (SaysRefusal (codes "N") bytes) (no_refusal bytes)
+unfolding no_refusal
+no_refusal_says bytes =
+    then_holds (λ (rest : List ℕ). bytes ≡ codes "o" ++ rest) (SaysRefusal (codes "N") bytes) (after (codes "o") bytes) no_refusal_arms (literal_holds (codes "o") bytes)
+    (λ rest e. still_holds (SaysRefusal (codes "No") rest) (SaysRefusal (codes "N") bytes) (no_refusal_arms rest) (λ x it. (it.0, ap (λ (t : List ℕ). codes "N" ++ t) e ∙ it.1)) (no_refusal_arms_says rest))
+
+already_refusal_arms_says : (bytes : List ℕ) → Holds (SaysRefusal (codes "Already") bytes) (already_refusal_arms bytes)
+already_refusal_arms_says [] = tt
+already_refusal_arms_says (b ∷ bs) =
+    letter_holds (SaysRefusal (codes "Already")) 72 b bs _ _ (told_refusal (codes "AlreadyH") (codes "ere\"") AlreadyHere bs tt (λ rest. refl))
+    (letter_holds (SaysRefusal (codes "Already")) 73 b bs _ None (told_refusal (codes "AlreadyI") (codes "nside\"") AlreadyInside bs tt (λ rest. refl)) tt)
+
+already_refusal_says : (bytes : List ℕ) → Holds (SaysRefusal (codes "A") bytes) (already_refusal bytes)
+unfolding already_refusal
+already_refusal_says bytes =
+    then_holds (λ (rest : List ℕ). bytes ≡ codes "lready" ++ rest) (SaysRefusal (codes "A") bytes) (after (codes "lready") bytes) already_refusal_arms (literal_holds (codes "lready") bytes)
+    (λ rest e. still_holds (SaysRefusal (codes "Already") rest) (SaysRefusal (codes "A") bytes) (already_refusal_arms rest) (λ x it. (it.0, ap (λ (t : List ℕ). codes "A" ++ t) e ∙ it.1)) (already_refusal_arms_says rest))
+
+too_refusal_says : (bytes : List ℕ) → Holds (SaysRefusal (codes "Too") bytes) (too_refusal bytes)
+unfolding too_refusal
+too_refusal_says [] = tt
+too_refusal_says (b ∷ bs) =
+    letter_holds (SaysRefusal (codes "Too")) 70 b bs _ _ (numbered_refusal (codes "TooF") (codes "ewRights ") TooFewRights (2 ^ 64) last_number bs last_number_says (λ n low. low) (λ n rest. refl))
+    (letter_holds (SaysRefusal (codes "Too")) 77 b bs _ None (told_refusal (codes "TooM") (codes "anyWriters\"") TooManyWriters bs tt (λ rest. refl)) tt)
+
+to_refusal_arms_says : (bytes : List ℕ) → Holds (SaysRefusal (codes "To") bytes) (to_refusal_arms bytes)
+to_refusal_arms_says [] = tt
+to_refusal_arms_says (b ∷ bs) =
+    letter_holds (SaysRefusal (codes "To")) 111 b bs _ _ (too_refusal_says bs)
+    (letter_holds (SaysRefusal (codes "To")) 83 b bs _ None (told_refusal (codes "ToS") (codes "elf\"") ToSelf bs tt (λ rest. refl)) tt)
+
+to_refusal_says : (bytes : List ℕ) → Holds (SaysRefusal (codes "T") bytes) (to_refusal bytes)
+unfolding to_refusal
+to_refusal_says bytes =
+    then_holds (λ (rest : List ℕ). bytes ≡ codes "o" ++ rest) (SaysRefusal (codes "T") bytes) (after (codes "o") bytes) to_refusal_arms (literal_holds (codes "o") bytes)
+    (λ rest e. still_holds (SaysRefusal (codes "To") rest) (SaysRefusal (codes "T") bytes) (to_refusal_arms rest) (λ x it. (it.0, ap (λ (t : List ℕ). codes "T" ++ t) e ∙ it.1)) (to_refusal_arms_says rest))
+
+m_refusal_says : (bytes : List ℕ) → Holds (SaysRefusal (codes "M") bytes) (m_refusal bytes)
+unfolding m_refusal
+m_refusal_says [] = tt
+m_refusal_says (b ∷ bs) =
+    letter_holds (SaysRefusal (codes "M")) 105 b bs _ _ (missingseats_says bs)
+    (letter_holds (SaysRefusal (codes "M")) 101 b bs _ None (told_refusal (codes "Me") (codes "mory\"") Memory bs tt (λ rest. refl)) tt)
+
+o_refusal_says : (bytes : List ℕ) → Holds (SaysRefusal (codes "O") bytes) (o_refusal bytes)
+unfolding o_refusal
+o_refusal_says [] = tt
+o_refusal_says (b ∷ bs) =
+    letter_holds (SaysRefusal (codes "O")) 116 b bs _ _ (numbered_refusal (codes "Ot") (codes "herLayout ") OtherLayout (2 ^ 64) last_number bs last_number_says (λ n low. low) (λ n rest. refl))
+    (letter_holds (SaysRefusal (codes "O")) 119 b bs _ None (numbered_refusal (codes "Ow") (codes "nRowAhead ") OwnRowAhead (2 ^ 16) last_short bs last_short_says (λ n low. low) (λ n rest. refl)) tt)
+
+bad_refusal_arms_says : (bytes : List ℕ) → Holds (SaysRefusal (codes "Bad") bytes) (bad_refusal_arms bytes)
+bad_refusal_arms_says [] = tt
+bad_refusal_arms_says (b ∷ bs) =
+    letter_holds (SaysRefusal (codes "Bad")) 82 b bs _ _ (numbered_refusal (codes "BadR") (codes "ow ") BadRow (2 ^ 64) last_number bs last_number_says (λ n low. low) (λ n rest. refl))
+    (letter_holds (SaysRefusal (codes "Bad")) 72 b bs _ None (told_refusal (codes "BadH") (codes "older\"") BadHolder bs tt (λ rest. refl)) tt)
+
+bad_refusal_says : (bytes : List ℕ) → Holds (SaysRefusal (codes "B") bytes) (bad_refusal bytes)
+unfolding bad_refusal
+bad_refusal_says bytes =
+    then_holds (λ (rest : List ℕ). bytes ≡ codes "ad" ++ rest) (SaysRefusal (codes "B") bytes) (after (codes "ad") bytes) bad_refusal_arms (literal_holds (codes "ad") bytes)
+    (λ rest e. still_holds (SaysRefusal (codes "Bad") rest) (SaysRefusal (codes "B") bytes) (bad_refusal_arms rest) (λ x it. (it.0, ap (λ (t : List ℕ). codes "B" ++ t) e ∙ it.1)) (bad_refusal_arms_says rest))
+
+refusal_at_says : (bytes : List ℕ) → Holds (SaysRefusal [] bytes) (refusal_at bytes)
 unfolding refusal_at
-refusal_says bytes =
-    behind_holds (SaysRefusal bytes) (codes "NoSeat ") bytes _ _
-    (λ rest e. then_holds (SaysLast (2 ^ 64) rest) (SaysRefusal bytes) (last_number rest) (λ n. Some (NoSeat n.0, n.1)) (last_number_says rest) (λ n it. (it.0, e ∙ ap (λ (t : List ℕ). codes "NoSeat " ++ t) it.1)))
-    (first_holds (SaysRefusal bytes) (plain_refusal bytes) _ (plain_says bytes) (first_holds (SaysRefusal bytes) (other_plain_refusal bytes) (counted_refusal bytes) (other_plain_says bytes) (counted_says bytes)))
+refusal_at_says [] = tt
+refusal_at_says (b ∷ bs) =
+    letter_holds (SaysRefusal []) 78 b bs _ _ (no_refusal_says bs)
+    (letter_holds (SaysRefusal []) 65 b bs _ _ (already_refusal_says bs)
+    (letter_holds (SaysRefusal []) 87 b bs _ _ (numbered_refusal (codes "W") (codes "riterAnnounced ") WriterAnnounced (2 ^ 16) last_short bs last_short_says (λ n low. low) (λ n rest. refl))
+    (letter_holds (SaysRefusal []) 84 b bs _ _ (to_refusal_says bs)
+    (letter_holds (SaysRefusal []) 77 b bs _ _ (m_refusal_says bs)
+    (letter_holds (SaysRefusal []) 67 b bs _ _ (told_refusal (codes "C") (codes "ounterFull\"") CounterFull bs tt (λ rest. refl))
+    (letter_holds (SaysRefusal []) 90 b bs _ _ (told_refusal (codes "Z") (codes "eroSeats\"") ZeroSeats bs tt (λ rest. refl))
+    (letter_holds (SaysRefusal []) 66 b bs _ _ (bad_refusal_says bs)
+    (letter_holds (SaysRefusal []) 79 b bs _ _ (o_refusal_says bs)
+    (letter_holds (SaysRefusal []) 76 b bs _ _ (told_refusal (codes "L") (codes "ogFull\"") LogFull bs tt (λ rest. refl))
+    (letter_holds (SaysRefusal []) 70 b bs _ _ (told_refusal (codes "F") (codes "rozen\"") Frozen bs tt (λ rest. refl))
+    (letter_holds (SaysRefusal []) 83 b bs _ None (told_refusal (codes "S") (codes "toreFault\"") StoreFault bs tt (λ rest. refl)) tt)))))))))))
 
-abbrev SaysReply : List ℕ → Reply × List ℕ → Type 0
-SaysReply bytes x = FitsReply x.0 × (bytes ≡ reply_text x.0 ++ 34 ∷ x.1)
+refused_says : (bytes : List ℕ) → Holds (SaysReply (codes "r") bytes) (after (codes "efused ") bytes >>= λ rest. refusal_at rest >>= λ n. Some (Refused n.0, n.1))
+refused_says bytes =
+    part_holds (SaysRefusal []) (SaysReply (codes "r") bytes) (codes "efused ") refusal_at (λ n. Some (Refused n.0, n.1)) bytes refusal_at_says
+    (λ rest n e it. (it.0, ap (λ (t : List ℕ). codes "r" ++ t) (e ∙ ap (λ (t : List ℕ). codes "efused " ++ t) it.1)))
 
-plain_reply_says : (bytes : List ℕ) → Holds (SaysReply bytes) (plain_reply bytes)
-unfolding plain_reply
-plain_reply_says bytes =
-    says_holds (SaysReply bytes) (codes "admitted\"") Admitted bytes _ (λ rest e. (tt, e))
-    (says_holds (SaysReply bytes) (codes "left reader\"") (Left Reader) bytes _ (λ rest e. (tt, e))
-    (says_holds (SaysReply bytes) (codes "left writer\"") (Left Writer) bytes _ (λ rest e. (tt, e))
-    (says_holds (SaysReply bytes) (codes "withdrawn\"") (Left Waiting) bytes _ (λ rest e. (tt, e))
-    (says_holds (SaysReply bytes) (codes "given\"") Given bytes None (λ rest e. (tt, e)) tt))))
+a_reply_says : (bytes : List ℕ) → Holds (SaysReply (codes "a") bytes) (a_reply bytes)
+unfolding a_reply
+a_reply_says [] = tt
+a_reply_says (b ∷ bs) =
+    letter_holds (SaysReply (codes "a")) 100 b bs _ _ (told_reply (codes "ad") (codes "mitted\"") Admitted bs tt (λ rest. refl))
+    (letter_holds (SaysReply (codes "a")) 110 b bs _ None (numbered_reply (codes "an") (codes "nounced ") Announced (2 ^ 64) last_number bs last_number_says (λ n low. low) (λ n rest. refl)) tt)
 
-counted_reply_says : (bytes : List ℕ) → Holds (SaysReply bytes) (counted_reply bytes)
-unfolding counted_reply
-counted_reply_says bytes =
-    behind_holds (SaysReply bytes) (codes "merged ") bytes _ _
-    (λ rest e. then_holds (SaysLast (2 ^ 64) rest) (SaysReply bytes) (last_number rest) (λ n. Some (Merged n.0, n.1)) (last_number_says rest) (λ n it. (it.0, e ∙ ap (λ (t : List ℕ). codes "merged " ++ t) it.1)))
-    (behind_holds (SaysReply bytes) (codes "announced ") bytes _ _
-    (λ rest e. then_holds (SaysLast (2 ^ 64) rest) (SaysReply bytes) (last_number rest) (λ n. Some (Announced n.0, n.1)) (last_number_says rest) (λ n it. (it.0, e ∙ ap (λ (t : List ℕ). codes "announced " ++ t) it.1)))
-    (behind_holds (SaysReply bytes) (codes "gave ") bytes _ None
-    (λ rest e. then_holds (SaysPair decimal (2 ^ 16) (2 ^ 64) rest) (SaysReply bytes) (gift_at rest) (λ n. Some (Gave n.0 n.1, n.2)) (gift_says rest) (λ n it. ((it.0, it.1.0), e ∙ ap (λ (t : List ℕ). codes "gave " ++ t) it.1.1))) tt))
+left_reply_arms_says : (bytes : List ℕ) → Holds (SaysReply (codes "left ") bytes) (left_reply_arms bytes)
+left_reply_arms_says [] = tt
+left_reply_arms_says (b ∷ bs) =
+    letter_holds (SaysReply (codes "left ")) 114 b bs _ _ (told_reply (codes "left r") (codes "eader\"") (Left Reader) bs tt (λ rest. refl))
+    (letter_holds (SaysReply (codes "left ")) 119 b bs _ None (told_reply (codes "left w") (codes "riter\"") (Left Writer) bs tt (λ rest. refl)) tt)
 
-worded_says : (bytes : List ℕ) → Holds (SaysReply bytes) (worded_reply bytes)
+left_reply_says : (bytes : List ℕ) → Holds (SaysReply (codes "l") bytes) (left_reply bytes)
+unfolding left_reply
+left_reply_says bytes =
+    then_holds (λ (rest : List ℕ). bytes ≡ codes "eft " ++ rest) (SaysReply (codes "l") bytes) (after (codes "eft ") bytes) left_reply_arms (literal_holds (codes "eft ") bytes)
+    (λ rest e. still_holds (SaysReply (codes "left ") rest) (SaysReply (codes "l") bytes) (left_reply_arms rest) (λ x it. (it.0, ap (λ (t : List ℕ). codes "l" ++ t) e ∙ it.1)) (left_reply_arms_says rest))
+
+g_reply_says : (bytes : List ℕ) → Holds (SaysReply (codes "g") bytes) (g_reply bytes)
+unfolding g_reply
+g_reply_says [] = tt
+g_reply_says (b ∷ bs) =
+    letter_holds (SaysReply (codes "g")) 105 b bs _ _ (told_reply (codes "gi") (codes "ven\"") Given bs tt (λ rest. refl))
+    (letter_holds (SaysReply (codes "g")) 97 b bs _ None (gave_says bs) tt)
+
+worded_reply_says : (bytes : List ℕ) → Holds (SaysReply [] bytes) (worded_reply bytes)
 unfolding worded_reply
-worded_says bytes =
-    behind_holds (SaysReply bytes) (codes "refused ") bytes _ _
-    (λ rest e. then_holds (SaysRefusal rest) (SaysReply bytes) (refusal_at rest) (λ x. Some (Refused x.0, x.1)) (refusal_says rest)
-    (λ x it. (it.0, e ∙ ap (λ (t : List ℕ). codes "refused " ++ t) it.1)))
-    (first_holds (SaysReply bytes) (plain_reply bytes) (counted_reply bytes) (plain_reply_says bytes) (counted_reply_says bytes))
+worded_reply_says [] = tt
+worded_reply_says (b ∷ bs) =
+    letter_holds (SaysReply []) 114 b bs _ _ (refused_says bs)
+    (letter_holds (SaysReply []) 97 b bs _ _ (a_reply_says bs)
+    (letter_holds (SaysReply []) 108 b bs _ _ (left_reply_says bs)
+    (letter_holds (SaysReply []) 119 b bs _ _ (told_reply (codes "w") (codes "ithdrawn\"") (Left Waiting) bs tt (λ rest. refl))
+    (letter_holds (SaysReply []) 103 b bs _ _ (g_reply_says bs)
+    (letter_holds (SaysReply []) 109 b bs _ None (numbered_reply (codes "m") (codes "erged ") Merged (2 ^ 64) last_number bs last_number_says (λ n low. low) (λ n rest. refl)) tt)))))
 
 -- ---- what stands there is read
 
 refusal_again : (x : Refusal) (rest : List ℕ) → FitsRefusal x → refusal_at (name_text x ++ 34 ∷ rest) ≡ Some (x, rest)
-unfolding refusal_at plain_refusal other_plain_refusal counted_refusal row_refusal
+unfolding refusal_at bad_refusal o_refusal m_refusal to_refusal too_refusal already_refusal no_refusal not_refusal seat_refusal
 refusal_again NoRecord rest fits = refl
 refusal_again BadHolder rest fits = refl
 refusal_again AlreadyHere rest fits = refl
@@ -148,7 +257,7 @@ pub record IsTold (reply : Reply) : Type 0 where
 
 -- a reply of words, or a snapshot
 reply_again : (reply : Reply) (rest : List ℕ) → FitsReply reply → (worded_reply (reply_text reply ++ 34 ∷ rest) ≡ Some (reply, rest)) ⊎ IsTold reply
-unfolding worded_reply plain_reply counted_reply
+unfolding worded_reply g_reply left_reply a_reply
 reply_again Admitted rest fits = inl refl
 reply_again (Announced n) rest fits = inl (ap (λ (o : Option (ℕ × List ℕ)). o >>= λ x. Some (Announced x.0, x.1)) (last_number_again n rest fits))
 reply_again (Left Reader) rest fits = inl refl
@@ -212,7 +321,7 @@ worded_or_told reply rest fits = at (reply_plain reply fits) (reply_again reply 
 
 -- what begins with a brace is none
 pub no_words : (bs : List ℕ) → worded_reply (123 ∷ bs) ≡ None
-unfolding worded_reply plain_reply counted_reply
+unfolding worded_reply
 no_words bs = refl
 
 -- a snapshot begins with a brace
@@ -250,7 +359,7 @@ unfolding delta_text
 reply_says bytes reply rest read = at (reply_plain reply says.0)
   where
     says : FitsReply reply × (bytes ≡ reply_text reply ++ 34 ∷ rest)
-    says = held_by (SaysReply bytes) (worded_reply bytes) (reply, rest) (worded_says bytes) read
+    says = held_by (SaysReply [] bytes) (worded_reply bytes) (reply, rest) (worded_reply_says bytes) read
 
     unbraced : IsTold reply → ⊥
     unbraced told =

@@ -6,14 +6,9 @@ use Rattle.merge_core.specs.declared.layout.RecordSpec.{RecordSpec}
 use Rattle.text_parts.specs.Readers.{◌>>=◌, onto, after, number_at, short_at}
 use Rattle.script_text.specs.Words.{short_word, has_this_name}
 
--- what is read behind a literal where it stands at the front, else another reading
-abbrev pub behind_or : {A : Type 0} → Option (List ℕ) → (List ℕ → Option A) → Option A → Option A
-behind_or (Some rest) read other = read rest
-behind_or None read other = other
-
--- .. where the literal is all that is read
-abbrev pub says_or : {A : Type 0} → List ℕ → A → List ℕ → Option (A × List ℕ) → Option (A × List ℕ)
-says_or literal x bytes other = behind_or (after literal bytes) (λ rest. Some (x, rest)) other
+-- what has a literal as all of its text, and the bytes behind that
+abbrev pub told : {A : Type 0} → List ℕ → A → List ℕ → Option (A × List ℕ)
+told literal x bytes = after literal bytes >>= λ rest. Some (x, rest)
 
 -- a blank or a quote ends a word
 abbrev pub ends_word : ℕ → Bool

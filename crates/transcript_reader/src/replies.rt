@@ -1,120 +1,167 @@
-//! Replies from their texts.
-ghost use Rattle.std.specs.Prelude.{◌≡◌, ◌≢◌, ◌∷◌, ℕ, List, option_map, MatchOption};
+//! Replies from their texts: each letter in front tells what follows, so that no byte is read twice.
+ghost use Rattle.std.specs.Prelude.{◌≡◌, ◌≢◌, ◌∷◌, ℕ, List, MatchOption};
 ghost use Rattle.text_parts.specs.Readers.{Gives};
 ghost use Rattle.script_text.specs.Replies.{reply_text};
 ghost use Rattle.transcript_reader.specs.Fits.{FitsReply};
 ghost use Rattle.transcript_reader.specs.Quoted.{ReadsQuoted};
-ghost use Rattle.transcript_reader.specs.ReplyReaders.{plain_refusal, other_plain_refusal, row_refusal, counted_refusal, refusal_at, plain_reply, counted_reply, worded_reply};
+ghost use Rattle.transcript_reader.specs.Words.{told};
+ghost use Rattle.transcript_reader.specs.ReplyReaders.{seat_refusal, not_refusal, no_refusal, already_refusal, too_refusal, to_refusal, m_refusal, o_refusal, bad_refusal, refusal_at, a_reply, left_reply, g_reply, worded_reply};
 
 use crate::deltas::told_at;
 use crate::numbers::{gift_at, last_number, last_short, shortage_at};
-use crate::words::behind;
 use admission_core::{Phase, Refusal, Reply};
 use std::alloc::Global;
-use text_parts::Unread;
+use text_parts::{Unread, after};
 
-// Half of the refusals without numbers.
-#[tactic(auto, unfolding(crate::specs::ReplyReaders::plain_refusal))]
-fn plain_refusal(bytes: &[u8]) -> Option<(Refusal, &[u8])>
-    ensures { option_map (λ x. (x.0, x.1.now)) result ≡ plain_refusal bytes.now }
+// What is all of its text, and the bytes behind it.
+#[inline(always)]
+fn told<'a>(
+    literal: &[u8],
+    refusal: Refusal,
+    bytes: &'a [u8],
+) -> Result<(Refusal, &'a [u8]), Unread>
+    ensures { Gives (λ x. (x.0, x.1.now)) result (told literal.now refusal bytes.now) }
 {
-    if let Some(rest) = behind(b"NotHere\"", bytes) {
-        return Some((Refusal::NotHere, rest));
-    }
-    if let Some(rest) = behind(b"AlreadyHere\"", bytes) {
-        return Some((Refusal::AlreadyHere, rest));
-    }
-    if let Some(rest) = behind(b"AlreadyInside\"", bytes) {
-        return Some((Refusal::AlreadyInside, rest));
-    }
-    if let Some(rest) = behind(b"NotAnnounced\"", bytes) {
-        return Some((Refusal::NotAnnounced, rest));
-    }
-    if let Some(rest) = behind(b"CounterFull\"", bytes) {
-        return Some((Refusal::CounterFull, rest));
-    }
-    if let Some(rest) = behind(b"TooManyWriters\"", bytes) {
-        return Some((Refusal::TooManyWriters, rest));
-    }
-    if let Some(rest) = behind(b"NoRecord\"", bytes) {
-        return Some((Refusal::NoRecord, rest));
-    }
-    if let Some(rest) = behind(b"BadHolder\"", bytes) {
-        return Some((Refusal::BadHolder, rest));
-    }
-    None
+    let rest = after(literal, bytes)?;
+    Ok((refusal, rest))
 }
 
-// The other half.
-#[tactic(auto, unfolding(crate::specs::ReplyReaders::other_plain_refusal))]
-fn other_plain_refusal(bytes: &[u8]) -> Option<(Refusal, &[u8])>
-    ensures { option_map (λ x. (x.0, x.1.now)) result ≡ other_plain_refusal bytes.now }
+// Behind `NoS`.
+#[tactic(auto, unfolding(crate::specs::ReplyReaders::seat_refusal))]
+fn seat_refusal(bytes: &[u8]) -> Result<(Refusal, &[u8]), Unread>
+    ensures { Gives (λ x. (x.0, x.1.now)) result (seat_refusal bytes.now) }
 {
-    if let Some(rest) = behind(b"NoPlan\"", bytes) {
-        return Some((Refusal::NoPlan, rest));
+    match bytes {
+        [b'e', rest @ ..] => {
+            let rest = after(b"at ", rest)?;
+            let (rights, rest) = last_number(rest)?;
+            Ok((Refusal::NoSeat { rights }, rest))
+        }
+        [b'i', rest @ ..] => told(b"te\"", Refusal::NoSite, rest),
+        _ => Err(Unread::Refused),
     }
-    if let Some(rest) = behind(b"ToSelf\"", bytes) {
-        return Some((Refusal::ToSelf, rest));
-    }
-    if let Some(rest) = behind(b"NoSite\"", bytes) {
-        return Some((Refusal::NoSite, rest));
-    }
-    if let Some(rest) = behind(b"ZeroSeats\"", bytes) {
-        return Some((Refusal::ZeroSeats, rest));
-    }
-    if let Some(rest) = behind(b"LogFull\"", bytes) {
-        return Some((Refusal::LogFull, rest));
-    }
-    if let Some(rest) = behind(b"Frozen\"", bytes) {
-        return Some((Refusal::Frozen, rest));
-    }
-    if let Some(rest) = behind(b"Memory\"", bytes) {
-        return Some((Refusal::Memory, rest));
-    }
-    if let Some(rest) = behind(b"StoreFault\"", bytes) {
-        return Some((Refusal::StoreFault, rest));
-    }
-    None
 }
 
-// Why a delta was refused, with a number.
-#[tactic(auto, unfolding(crate::specs::ReplyReaders::row_refusal))]
-fn row_refusal(bytes: &[u8]) -> Result<(Refusal, &[u8]), Unread>
-    ensures { Gives (λ x. (x.0, x.1.now)) result (row_refusal bytes.now) }
+// Behind `Not`.
+#[tactic(auto, unfolding(crate::specs::ReplyReaders::not_refusal))]
+fn not_refusal(bytes: &[u8]) -> Result<(Refusal, &[u8]), Unread>
+    ensures { Gives (λ x. (x.0, x.1.now)) result (not_refusal bytes.now) }
 {
-    if let Some(rest) = behind(b"OtherLayout ", bytes) {
-        let (row, rest) = last_number(rest)?;
-        return Ok((Refusal::OtherLayout { row: row as usize }, rest));
+    match bytes {
+        [b'H', rest @ ..] => told(b"ere\"", Refusal::NotHere, rest),
+        [b'A', rest @ ..] => told(b"nnounced\"", Refusal::NotAnnounced, rest),
+        _ => Err(Unread::Refused),
     }
-    if let Some(rest) = behind(b"BadRow ", bytes) {
-        let (row, rest) = last_number(rest)?;
-        return Ok((Refusal::BadRow { row: row as usize }, rest));
-    }
-    if let Some(rest) = behind(b"OwnRowAhead ", bytes) {
-        let (rec, rest) = last_short(rest)?;
-        return Ok((Refusal::OwnRowAhead { rec }, rest));
-    }
-    Err(Unread::Refused)
 }
 
-// Why another call was refused, with numbers.
-#[tactic(auto, unfolding(crate::specs::ReplyReaders::counted_refusal))]
-fn counted_refusal(bytes: &[u8]) -> Result<(Refusal, &[u8]), Unread>
-    ensures { Gives (λ x. (x.0, x.1.now)) result (counted_refusal bytes.now) }
+// Behind `N`.
+#[tactic(auto, unfolding(crate::specs::ReplyReaders::no_refusal))]
+fn no_refusal(bytes: &[u8]) -> Result<(Refusal, &[u8]), Unread>
+    ensures { Gives (λ x. (x.0, x.1.now)) result (no_refusal bytes.now) }
 {
-    if let Some(rest) = behind(b"TooFewRights ", bytes) {
-        let (rights, rest) = last_number(rest)?;
-        return Ok((Refusal::TooFewRights { rights }, rest));
+    let rest = after(b"o", bytes)?;
+    match rest {
+        [b'S', rest @ ..] => seat_refusal(rest),
+        [b't', rest @ ..] => not_refusal(rest),
+        [b'R', rest @ ..] => told(b"ecord\"", Refusal::NoRecord, rest),
+        [b'P', rest @ ..] => told(b"lan\"", Refusal::NoPlan, rest),
+        _ => Err(Unread::Refused),
     }
-    if let Some(rest) = behind(b"WriterAnnounced ", bytes) {
-        let (site, rest) = last_short(rest)?;
-        return Ok((Refusal::WriterAnnounced { site }, rest));
+}
+
+// Behind `A`.
+#[tactic(auto, unfolding(crate::specs::ReplyReaders::already_refusal))]
+fn already_refusal(bytes: &[u8]) -> Result<(Refusal, &[u8]), Unread>
+    ensures { Gives (λ x. (x.0, x.1.now)) result (already_refusal bytes.now) }
+{
+    let rest = after(b"lready", bytes)?;
+    match rest {
+        [b'H', rest @ ..] => told(b"ere\"", Refusal::AlreadyHere, rest),
+        [b'I', rest @ ..] => told(b"nside\"", Refusal::AlreadyInside, rest),
+        _ => Err(Unread::Refused),
     }
-    if let Some(rest) = behind(b"MissingSeats ", bytes) {
-        let (rights, seats, rest) = shortage_at(rest)?;
-        return Ok((Refusal::MissingSeats { rights, seats }, rest));
+}
+
+// Behind `Too`.
+#[tactic(auto, unfolding(crate::specs::ReplyReaders::too_refusal))]
+fn too_refusal(bytes: &[u8]) -> Result<(Refusal, &[u8]), Unread>
+    ensures { Gives (λ x. (x.0, x.1.now)) result (too_refusal bytes.now) }
+{
+    match bytes {
+        [b'F', rest @ ..] => {
+            let rest = after(b"ewRights ", rest)?;
+            let (rights, rest) = last_number(rest)?;
+            Ok((Refusal::TooFewRights { rights }, rest))
+        }
+        [b'M', rest @ ..] => told(b"anyWriters\"", Refusal::TooManyWriters, rest),
+        _ => Err(Unread::Refused),
     }
-    row_refusal(bytes)
+}
+
+// Behind `T`.
+#[tactic(auto, unfolding(crate::specs::ReplyReaders::to_refusal))]
+fn to_refusal(bytes: &[u8]) -> Result<(Refusal, &[u8]), Unread>
+    ensures { Gives (λ x. (x.0, x.1.now)) result (to_refusal bytes.now) }
+{
+    let rest = after(b"o", bytes)?;
+    match rest {
+        [b'o', rest @ ..] => too_refusal(rest),
+        [b'S', rest @ ..] => told(b"elf\"", Refusal::ToSelf, rest),
+        _ => Err(Unread::Refused),
+    }
+}
+
+// Behind `M`.
+#[tactic(auto, unfolding(crate::specs::ReplyReaders::m_refusal))]
+fn m_refusal(bytes: &[u8]) -> Result<(Refusal, &[u8]), Unread>
+    ensures { Gives (λ x. (x.0, x.1.now)) result (m_refusal bytes.now) }
+{
+    match bytes {
+        [b'i', rest @ ..] => {
+            let rest = after(b"ssingSeats ", rest)?;
+            let (rights, seats, rest) = shortage_at(rest)?;
+            Ok((Refusal::MissingSeats { rights, seats }, rest))
+        }
+        [b'e', rest @ ..] => told(b"mory\"", Refusal::Memory, rest),
+        _ => Err(Unread::Refused),
+    }
+}
+
+// Behind `O`.
+#[tactic(auto, unfolding(crate::specs::ReplyReaders::o_refusal))]
+fn o_refusal(bytes: &[u8]) -> Result<(Refusal, &[u8]), Unread>
+    ensures { Gives (λ x. (x.0, x.1.now)) result (o_refusal bytes.now) }
+{
+    match bytes {
+        [b't', rest @ ..] => {
+            let rest = after(b"herLayout ", rest)?;
+            let (row, rest) = last_number(rest)?;
+            Ok((Refusal::OtherLayout { row: row as usize }, rest))
+        }
+        [b'w', rest @ ..] => {
+            let rest = after(b"nRowAhead ", rest)?;
+            let (rec, rest) = last_short(rest)?;
+            Ok((Refusal::OwnRowAhead { rec }, rest))
+        }
+        _ => Err(Unread::Refused),
+    }
+}
+
+// Behind `B`.
+#[tactic(auto, unfolding(crate::specs::ReplyReaders::bad_refusal))]
+fn bad_refusal(bytes: &[u8]) -> Result<(Refusal, &[u8]), Unread>
+    ensures { Gives (λ x. (x.0, x.1.now)) result (bad_refusal bytes.now) }
+{
+    let rest = after(b"ad", bytes)?;
+    match rest {
+        [b'R', rest @ ..] => {
+            let rest = after(b"ow ", rest)?;
+            let (row, rest) = last_number(rest)?;
+            Ok((Refusal::BadRow { row: row as usize }, rest))
+        }
+        [b'H', rest @ ..] => told(b"older\"", Refusal::BadHolder, rest),
+        _ => Err(Unread::Refused),
+    }
 }
 
 // A refusal by its name and numbers.
@@ -122,60 +169,82 @@ fn counted_refusal(bytes: &[u8]) -> Result<(Refusal, &[u8]), Unread>
 fn refusal_at(bytes: &[u8]) -> Result<(Refusal, &[u8]), Unread>
     ensures { Gives (λ x. (x.0, x.1.now)) result (refusal_at bytes.now) }
 {
-    if let Some(rest) = behind(b"NoSeat ", bytes) {
-        let (rights, rest) = last_number(rest)?;
-        return Ok((Refusal::NoSeat { rights }, rest));
+    match bytes {
+        [b'N', rest @ ..] => no_refusal(rest),
+        [b'A', rest @ ..] => already_refusal(rest),
+        [b'W', rest @ ..] => {
+            let rest = after(b"riterAnnounced ", rest)?;
+            let (site, rest) = last_short(rest)?;
+            Ok((Refusal::WriterAnnounced { site }, rest))
+        }
+        [b'T', rest @ ..] => to_refusal(rest),
+        [b'M', rest @ ..] => m_refusal(rest),
+        [b'C', rest @ ..] => told(b"ounterFull\"", Refusal::CounterFull, rest),
+        [b'Z', rest @ ..] => told(b"eroSeats\"", Refusal::ZeroSeats, rest),
+        [b'B', rest @ ..] => bad_refusal(rest),
+        [b'O', rest @ ..] => o_refusal(rest),
+        [b'L', rest @ ..] => told(b"ogFull\"", Refusal::LogFull, rest),
+        [b'F', rest @ ..] => told(b"rozen\"", Refusal::Frozen, rest),
+        [b'S', rest @ ..] => told(b"toreFault\"", Refusal::StoreFault, rest),
+        _ => Err(Unread::Refused),
     }
-    if let Some(read) = plain_refusal(bytes) {
-        return Ok(read);
-    }
-    if let Some(read) = other_plain_refusal(bytes) {
-        return Ok(read);
-    }
-    counted_refusal(bytes)
 }
 
-// A reply without numbers.
-#[tactic(auto, unfolding(crate::specs::ReplyReaders::plain_reply))]
-fn plain_reply(bytes: &[u8]) -> Option<(Reply, &[u8])>
-    ensures { option_map (λ x. (x.0, x.1.now)) result ≡ plain_reply bytes.now }
+// Behind `a`.
+#[tactic(auto, unfolding(crate::specs::ReplyReaders::a_reply))]
+fn a_reply(bytes: &[u8]) -> Result<(Reply, &[u8]), Unread>
+    ensures { Gives (λ x. (x.0, x.1.now)) result (a_reply bytes.now) }
 {
-    if let Some(rest) = behind(b"admitted\"", bytes) {
-        return Some((Reply::Admitted, rest));
+    match bytes {
+        [b'd', rest @ ..] => {
+            let rest = after(b"mitted\"", rest)?;
+            Ok((Reply::Admitted, rest))
+        }
+        [b'n', rest @ ..] => {
+            let rest = after(b"nounced ", rest)?;
+            let (number, rest) = last_number(rest)?;
+            Ok((Reply::Announced(number), rest))
+        }
+        _ => Err(Unread::Refused),
     }
-    if let Some(rest) = behind(b"left reader\"", bytes) {
-        return Some((Reply::Left(Phase::Reader), rest));
-    }
-    if let Some(rest) = behind(b"left writer\"", bytes) {
-        return Some((Reply::Left(Phase::Writer), rest));
-    }
-    if let Some(rest) = behind(b"withdrawn\"", bytes) {
-        return Some((Reply::Left(Phase::Waiting), rest));
-    }
-    if let Some(rest) = behind(b"given\"", bytes) {
-        return Some((Reply::Given, rest));
-    }
-    None
 }
 
-// A reply with numbers.
-#[tactic(auto, unfolding(crate::specs::ReplyReaders::counted_reply))]
-fn counted_reply(bytes: &[u8]) -> Result<(Reply, &[u8]), Unread>
-    ensures { Gives (λ x. (x.0, x.1.now)) result (counted_reply bytes.now) }
+// Behind `l`.
+#[tactic(auto, unfolding(crate::specs::ReplyReaders::left_reply))]
+fn left_reply(bytes: &[u8]) -> Result<(Reply, &[u8]), Unread>
+    ensures { Gives (λ x. (x.0, x.1.now)) result (left_reply bytes.now) }
 {
-    if let Some(rest) = behind(b"merged ", bytes) {
-        let (risen, rest) = last_number(rest)?;
-        return Ok((Reply::Merged(risen), rest));
+    let rest = after(b"eft ", bytes)?;
+    match rest {
+        [b'r', rest @ ..] => {
+            let rest = after(b"eader\"", rest)?;
+            Ok((Reply::Left(Phase::Reader), rest))
+        }
+        [b'w', rest @ ..] => {
+            let rest = after(b"riter\"", rest)?;
+            Ok((Reply::Left(Phase::Writer), rest))
+        }
+        _ => Err(Unread::Refused),
     }
-    if let Some(rest) = behind(b"announced ", bytes) {
-        let (number, rest) = last_number(rest)?;
-        return Ok((Reply::Announced(number), rest));
+}
+
+// Behind `g`.
+#[tactic(auto, unfolding(crate::specs::ReplyReaders::g_reply))]
+fn g_reply(bytes: &[u8]) -> Result<(Reply, &[u8]), Unread>
+    ensures { Gives (λ x. (x.0, x.1.now)) result (g_reply bytes.now) }
+{
+    match bytes {
+        [b'i', rest @ ..] => {
+            let rest = after(b"ven\"", rest)?;
+            Ok((Reply::Given, rest))
+        }
+        [b'a', rest @ ..] => {
+            let rest = after(b"ve ", rest)?;
+            let (to, seats, rest) = gift_at(rest)?;
+            Ok((Reply::Gave { to, seats }, rest))
+        }
+        _ => Err(Unread::Refused),
     }
-    if let Some(rest) = behind(b"gave ", bytes) {
-        let (to, seats, rest) = gift_at(rest)?;
-        return Ok((Reply::Gave { to, seats }, rest));
-    }
-    Err(Unread::Refused)
 }
 
 // Any reply but a snapshot.
@@ -183,14 +252,26 @@ fn counted_reply(bytes: &[u8]) -> Result<(Reply, &[u8]), Unread>
 fn worded_reply(bytes: &[u8]) -> Result<(Reply, &[u8]), Unread>
     ensures { Gives (λ x. (x.0, x.1.now)) result (worded_reply bytes.now) }
 {
-    if let Some(rest) = behind(b"refused ", bytes) {
-        let (refusal, rest) = refusal_at(rest)?;
-        return Ok((Reply::Refused(refusal), rest));
+    match bytes {
+        [b'r', rest @ ..] => {
+            let rest = after(b"efused ", rest)?;
+            let (refusal, rest) = refusal_at(rest)?;
+            Ok((Reply::Refused(refusal), rest))
+        }
+        [b'a', rest @ ..] => a_reply(rest),
+        [b'l', rest @ ..] => left_reply(rest),
+        [b'w', rest @ ..] => {
+            let rest = after(b"ithdrawn\"", rest)?;
+            Ok((Reply::Left(Phase::Waiting), rest))
+        }
+        [b'g', rest @ ..] => g_reply(rest),
+        [b'm', rest @ ..] => {
+            let rest = after(b"erged ", rest)?;
+            let (risen, rest) = last_number(rest)?;
+            Ok((Reply::Merged(risen), rest))
+        }
+        _ => Err(Unread::Refused),
     }
-    if let Some(read) = plain_reply(bytes) {
-        return Ok(read);
-    }
-    counted_reply(bytes)
 }
 
 // The bytes behind the brace with which the text of a delta begins, and that of no other reply.

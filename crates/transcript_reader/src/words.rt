@@ -1,21 +1,6 @@
 //! Words between quotes, read off the front.
 ghost use Rattle.std.specs.Prelude.{◌≡◌, option_map};
-ghost use Rattle.text_parts.specs.Readers.{after};
 ghost use Rattle.transcript_reader.specs.Words.{ends_word, word_at};
-
-use text_parts::{Unread, after};
-
-/// The bytes behind a literal, if it stands at the front.
-#[inline(always)]
-pub(crate) fn behind<'a>(literal: &[u8], bytes: &'a [u8]) -> Option<&'a [u8]>
-    ensures { option_map (λ rest. rest.now) result ≡ after literal.now bytes.now }
-{
-    match after(literal, bytes) {
-        Ok(rest) => Some(rest),
-        Err(Unread::Refused) => None,
-        Err(Unread::Memory) => None,
-    }
-}
 
 #[inline(always)]
 fn ends_word(byte: u8) -> bool
