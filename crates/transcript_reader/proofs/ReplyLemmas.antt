@@ -14,7 +14,7 @@ use Rattle.text_parts.specs.Readers.{◌>>=◌, Gives, after}
 use Rattle.script_text.specs.Replies.{numbers_text, refusal_name, refusal_numbers, refusal_text, reply_text}
 use Rattle.transcript_reader.specs.Fits.{FitsRefusal, FitsReply}
 use Rattle.transcript_reader.specs.Words.{told, last_number, last_short, gift_at, shortage_at}
-use Rattle.transcript_reader.specs.ReplyReaders.{seat_refusal, not_refusal, no_refusal, no_refusal_arms, already_refusal, already_refusal_arms, too_refusal, to_refusal, to_refusal_arms, m_refusal, o_refusal, bad_refusal, bad_refusal_arms, refusal_at, a_reply, left_reply, left_reply_arms, g_reply, worded_reply}
+use Rattle.transcript_reader.specs.ReplyReaders.{seat_refusal, not_refusal, no_refusal, no_refusal_arms, already_refusal, already_refusal_arms, too_refusal, to_refusal, to_refusal_arms, m_refusal, o_refusal, bad_refusal, bad_refusal_arms, rare_refusal, refusal_at, a_reply, left_reply, left_reply_arms, g_reply, worded_reply}
 use Rattle.transcript_text.specs.Quoted.{escaped}
 use Rattle.transcript_reader.specs.Quoted.{quoted, Refuses, ReadsQuoted}
 use Rattle.transcript_reader.proofs.EscapedLemmas.{is_plain, number_plain, plain_quoted}
@@ -161,22 +161,27 @@ bad_refusal_says bytes =
     then_holds (λ (rest : List ℕ). bytes ≡ codes "ad" ++ rest) (SaysRefusal (codes "B") bytes) (after (codes "ad") bytes) bad_refusal_arms (literal_holds (codes "ad") bytes)
     (λ rest e. still_holds (SaysRefusal (codes "Bad") rest) (SaysRefusal (codes "B") bytes) (bad_refusal_arms rest) (λ x it. (it.0, ap (λ (t : List ℕ). codes "B" ++ t) e ∙ it.1)) (bad_refusal_arms_says rest))
 
+rare_refusal_says : (bytes : List ℕ) → Holds (SaysRefusal [] bytes) (rare_refusal bytes)
+unfolding rare_refusal
+rare_refusal_says [] = tt
+rare_refusal_says (b ∷ bs) =
+    letter_holds (SaysRefusal []) 66 b bs _ _ (bad_refusal_says bs)
+    (letter_holds (SaysRefusal []) 79 b bs _ _ (o_refusal_says bs)
+    (letter_holds (SaysRefusal []) 90 b bs _ _ (told_refusal (codes "Z") (codes "eroSeats\"") ZeroSeats bs tt (λ rest. refl))
+    (letter_holds (SaysRefusal []) 76 b bs _ _ (told_refusal (codes "L") (codes "ogFull\"") LogFull bs tt (λ rest. refl))
+    (letter_holds (SaysRefusal []) 70 b bs _ _ (told_refusal (codes "F") (codes "rozen\"") Frozen bs tt (λ rest. refl))
+    (letter_holds (SaysRefusal []) 83 b bs _ None (told_refusal (codes "S") (codes "toreFault\"") StoreFault bs tt (λ rest. refl)) tt)))))
+
 refusal_at_says : (bytes : List ℕ) → Holds (SaysRefusal [] bytes) (refusal_at bytes)
 unfolding refusal_at
-refusal_at_says [] = tt
+refusal_at_says [] = rare_refusal_says []
 refusal_at_says (b ∷ bs) =
     letter_holds (SaysRefusal []) 78 b bs _ _ (no_refusal_says bs)
     (letter_holds (SaysRefusal []) 65 b bs _ _ (already_refusal_says bs)
     (letter_holds (SaysRefusal []) 87 b bs _ _ (numbered_refusal (codes "W") (codes "riterAnnounced ") WriterAnnounced (2 ^ 16) last_short bs last_short_says (λ n low. low) (λ n rest. refl))
     (letter_holds (SaysRefusal []) 84 b bs _ _ (to_refusal_says bs)
-    (letter_holds (SaysRefusal []) 77 b bs _ _ (m_refusal_says bs)
     (letter_holds (SaysRefusal []) 67 b bs _ _ (told_refusal (codes "C") (codes "ounterFull\"") CounterFull bs tt (λ rest. refl))
-    (letter_holds (SaysRefusal []) 90 b bs _ _ (told_refusal (codes "Z") (codes "eroSeats\"") ZeroSeats bs tt (λ rest. refl))
-    (letter_holds (SaysRefusal []) 66 b bs _ _ (bad_refusal_says bs)
-    (letter_holds (SaysRefusal []) 79 b bs _ _ (o_refusal_says bs)
-    (letter_holds (SaysRefusal []) 76 b bs _ _ (told_refusal (codes "L") (codes "ogFull\"") LogFull bs tt (λ rest. refl))
-    (letter_holds (SaysRefusal []) 70 b bs _ _ (told_refusal (codes "F") (codes "rozen\"") Frozen bs tt (λ rest. refl))
-    (letter_holds (SaysRefusal []) 83 b bs _ None (told_refusal (codes "S") (codes "toreFault\"") StoreFault bs tt (λ rest. refl)) tt)))))))))))
+    (letter_holds (SaysRefusal []) 77 b bs _ _ (m_refusal_says bs) (rare_refusal_says (b ∷ bs)))))))
 
 refused_says : (bytes : List ℕ) → Holds (SaysReply (codes "r") bytes) (after (codes "efused ") bytes >>= λ rest. refusal_at rest >>= λ n. Some (Refused n.0, n.1))
 refused_says bytes =
@@ -223,7 +228,7 @@ worded_reply_says (b ∷ bs) =
 -- ---- what stands there is read
 
 refusal_again : (x : Refusal) (rest : List ℕ) → FitsRefusal x → refusal_at (name_text x ++ 34 ∷ rest) ≡ Some (x, rest)
-unfolding refusal_at bad_refusal o_refusal m_refusal to_refusal too_refusal already_refusal no_refusal not_refusal seat_refusal
+unfolding refusal_at rare_refusal bad_refusal o_refusal m_refusal to_refusal too_refusal already_refusal no_refusal not_refusal seat_refusal
 refusal_again NoRecord rest fits = refl
 refusal_again BadHolder rest fits = refl
 refusal_again AlreadyHere rest fits = refl

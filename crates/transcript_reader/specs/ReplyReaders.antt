@@ -87,22 +87,27 @@ bad_refusal_arms (b ∷ bs) =
 unfoldable pub bad_refusal : List ℕ → Option (Refusal × List ℕ)
 bad_refusal bytes = after (codes "ad") bytes >>= bad_refusal_arms
 
+-- a refusal that seldom comes
+unfoldable pub rare_refusal : List ℕ → Option (Refusal × List ℕ)
+rare_refusal [] = None
+rare_refusal (b ∷ bs) =
+    if b == 66 then bad_refusal bs else (
+    if b == 79 then o_refusal bs else (
+    if b == 90 then told (codes "eroSeats\"") ZeroSeats bs else (
+    if b == 76 then told (codes "ogFull\"") LogFull bs else (
+    if b == 70 then told (codes "rozen\"") Frozen bs else (
+    if b == 83 then told (codes "toreFault\"") StoreFault bs else None)))))
+
 -- a refusal by its name and numbers
 unfoldable pub refusal_at : List ℕ → Option (Refusal × List ℕ)
-refusal_at [] = None
+refusal_at [] = rare_refusal []
 refusal_at (b ∷ bs) =
     if b == 78 then no_refusal bs else (
     if b == 65 then already_refusal bs else (
     if b == 87 then (after (codes "riterAnnounced ") bs >>= λ rest. last_short rest >>= λ n. Some (WriterAnnounced n.0, n.1)) else (
     if b == 84 then to_refusal bs else (
-    if b == 77 then m_refusal bs else (
     if b == 67 then told (codes "ounterFull\"") CounterFull bs else (
-    if b == 90 then told (codes "eroSeats\"") ZeroSeats bs else (
-    if b == 66 then bad_refusal bs else (
-    if b == 79 then o_refusal bs else (
-    if b == 76 then told (codes "ogFull\"") LogFull bs else (
-    if b == 70 then told (codes "rozen\"") Frozen bs else (
-    if b == 83 then told (codes "toreFault\"") StoreFault bs else None)))))))))))
+    if b == 77 then m_refusal bs else rare_refusal (b ∷ bs))))))
 
 -- behind `a`
 unfoldable pub a_reply : List ℕ → Option (Reply × List ℕ)

@@ -5,7 +5,7 @@ ghost use Rattle.script_text.specs.Replies.{reply_text};
 ghost use Rattle.transcript_reader.specs.Fits.{FitsReply};
 ghost use Rattle.transcript_reader.specs.Quoted.{ReadsQuoted};
 ghost use Rattle.transcript_reader.specs.Words.{told};
-ghost use Rattle.transcript_reader.specs.ReplyReaders.{seat_refusal, not_refusal, no_refusal, already_refusal, too_refusal, to_refusal, m_refusal, o_refusal, bad_refusal, refusal_at, a_reply, left_reply, g_reply, worded_reply};
+ghost use Rattle.transcript_reader.specs.ReplyReaders.{seat_refusal, not_refusal, no_refusal, already_refusal, too_refusal, to_refusal, m_refusal, o_refusal, bad_refusal, rare_refusal, refusal_at, a_reply, left_reply, g_reply, worded_reply};
 
 use crate::deltas::told_at;
 use crate::numbers::{gift_at, last_number, last_short, shortage_at};
@@ -164,6 +164,22 @@ fn bad_refusal(bytes: &[u8]) -> Result<(Refusal, &[u8]), Unread>
     }
 }
 
+// A refusal that seldom comes.
+#[tactic(auto, unfolding(crate::specs::ReplyReaders::rare_refusal))]
+fn rare_refusal(bytes: &[u8]) -> Result<(Refusal, &[u8]), Unread>
+    ensures { Gives (λ x. (x.0, x.1.now)) result (rare_refusal bytes.now) }
+{
+    match bytes {
+        [b'B', rest @ ..] => bad_refusal(rest),
+        [b'O', rest @ ..] => o_refusal(rest),
+        [b'Z', rest @ ..] => told(b"eroSeats\"", Refusal::ZeroSeats, rest),
+        [b'L', rest @ ..] => told(b"ogFull\"", Refusal::LogFull, rest),
+        [b'F', rest @ ..] => told(b"rozen\"", Refusal::Frozen, rest),
+        [b'S', rest @ ..] => told(b"toreFault\"", Refusal::StoreFault, rest),
+        _ => Err(Unread::Refused),
+    }
+}
+
 // A refusal by its name and numbers.
 #[tactic(auto, unfolding(crate::specs::ReplyReaders::refusal_at))]
 fn refusal_at(bytes: &[u8]) -> Result<(Refusal, &[u8]), Unread>
@@ -178,15 +194,9 @@ fn refusal_at(bytes: &[u8]) -> Result<(Refusal, &[u8]), Unread>
             Ok((Refusal::WriterAnnounced { site }, rest))
         }
         [b'T', rest @ ..] => to_refusal(rest),
-        [b'M', rest @ ..] => m_refusal(rest),
         [b'C', rest @ ..] => told(b"ounterFull\"", Refusal::CounterFull, rest),
-        [b'Z', rest @ ..] => told(b"eroSeats\"", Refusal::ZeroSeats, rest),
-        [b'B', rest @ ..] => bad_refusal(rest),
-        [b'O', rest @ ..] => o_refusal(rest),
-        [b'L', rest @ ..] => told(b"ogFull\"", Refusal::LogFull, rest),
-        [b'F', rest @ ..] => told(b"rozen\"", Refusal::Frozen, rest),
-        [b'S', rest @ ..] => told(b"toreFault\"", Refusal::StoreFault, rest),
-        _ => Err(Unread::Refused),
+        [b'M', rest @ ..] => m_refusal(rest),
+        _ => rare_refusal(bytes),
     }
 }
 
