@@ -1,5 +1,5 @@
 -- A reply is read from its text, and from no other.
-use Rattle.std.proofs.Common.{◌≡◌, ◌≢◌, ℕ, ◌<◌, ◌^◌, true, List, [], ◌∷◌, ◌++◌, get_or, drop, Option, Some, None, codes, decimal, refl, sym, ap, ◌∙◌, ◌⊎◌, inl, inr, Result, Ok, Err, arith}
+use Rattle.std.proofs.Common.{◌≡◌, ◌≢◌, ℕ, ◌<◌, ◌^◌, true, List, [], ◌∷◌, ◌++◌, drop, Option, Some, None, codes, decimal, refl, sym, ap, ◌∙◌, ◌⊎◌, inl, inr, Result, Ok, Err, arith}
 use Rattle.std.proofs.lemmas.Option.{none-some}
 use Rattle.text_parts.specs.declared.unread.Unread.{Unread}
 use Rattle.text_parts.specs.declared.unread.Unread.TheVariants.{Refused as NotRead, Memory as NoRoom}

@@ -1,9 +1,9 @@
 -- Words and numbers up to a quote: what is read is what stands there, and is read again.
-use Rattle.std.proofs.Common.{◌≡◌, ℕ, zero, suc, ◌+◌, ◌<◌, ◌^◌, Bool, true, false, cond, ◌==◌, eqb, ltb, List, [], ◌∷◌, ◌++◌, length, map, Option, Some, None, codes, decimal, refl, sym, ap, subst, ◌∙◌, append_assoc, append-nil, arith}
+use Rattle.std.proofs.Common.{◌≡◌, ℕ, zero, suc, ◌+◌, ◌<◌, ◌^◌, Bool, true, false, cond, eqb, ltb, List, [], ◌∷◌, ◌++◌, map, Option, Some, None, codes, decimal, refl, sym, ap, subst, ◌∙◌, append_assoc, append-nil, arith}
 use Rattle.std.proofs.lemmas.Bool.{ne_eqb, lt-ltb, ltb-true}
 use Rattle.std.proofs.lemmas.Fmt.{decimal_digit, decimal-digits_of}
 use Rattle.text_parts.specs.Readers.{◌>>=◌, onto, after, number_at, short_at}
-use Rattle.text_parts.proofs.NumberLaws.{number_takes, number_again, short_takes, short_again}
+use Rattle.text_parts.proofs.NumberLaws.{number_takes, number_again, short_again}
 use Rattle.transcript_reader.specs.Words.{ends_word, word_at, middle_at, last_number, last_short, last_middle, gift_at, shortage_at}
 use Rattle.transcript_reader.proofs.EscapedLemmas.{is_plain, plain_front}
 use Rattle.transcript_reader.proofs.HoldLemmas.{Holds, if_holds, when_holds, then_holds, literal_holds}

@@ -1,6 +1,5 @@
--- The reading of any reply but a snapshot, from left to right up to the closing quote: each letter
--- in front tells what follows. For private clauses: that exactly the
--- texts of such replies are read is proved in proofs/.
+-- The reading of any reply but a snapshot, from left to right up to the closing quote: each letter in front tells what
+-- follows. For private clauses: that exactly the texts of such replies are read is proved in proofs/.
 use Rattle.std.specs.Prelude.{ℕ, ◌==◌, List, [], ◌∷◌, codes, if◌then◌else◌, Option, Some, None}
 use Rattle.session_list.specs.declared.session.Phase.TheVariants.{Reader, Writer, Waiting}
 use Rattle.admission_model.specs.declared.reply.Refusal.{Refusal}
@@ -10,21 +9,21 @@ use Rattle.admission_model.specs.declared.reply.Reply.TheVariants.{Admitted, Ann
 use Rattle.text_parts.specs.Readers.{◌>>=◌, after}
 use Rattle.transcript_reader.specs.Words.{told, last_number, last_short, gift_at, shortage_at}
 
--- behind `NoS`
+-- a refusal whose name begins with `NoS`, from behind that on
 unfoldable pub seat_refusal : List ℕ → Option (Refusal × List ℕ)
 seat_refusal [] = None
 seat_refusal (b ∷ bs) =
     if b == 101 then (after (codes "at ") bs >>= λ rest. last_number rest >>= λ n. Some (NoSeat n.0, n.1)) else (
     if b == 105 then told (codes "te\"") NoSite bs else None)
 
--- behind `Not`
+-- a refusal whose name begins with `Not`, from behind that on
 unfoldable pub not_refusal : List ℕ → Option (Refusal × List ℕ)
 not_refusal [] = None
 not_refusal (b ∷ bs) =
     if b == 72 then told (codes "ere\"") NotHere bs else (
     if b == 65 then told (codes "nnounced\"") NotAnnounced bs else None)
 
--- behind `N`
+-- a refusal whose name begins with `N`, from behind that on
 abbrev pub no_refusal_arms : List ℕ → Option (Refusal × List ℕ)
 no_refusal_arms [] = None
 no_refusal_arms (b ∷ bs) =
@@ -36,7 +35,7 @@ no_refusal_arms (b ∷ bs) =
 unfoldable pub no_refusal : List ℕ → Option (Refusal × List ℕ)
 no_refusal bytes = after (codes "o") bytes >>= no_refusal_arms
 
--- behind `A`
+-- a refusal whose name begins with `A`, from behind that on
 abbrev pub already_refusal_arms : List ℕ → Option (Refusal × List ℕ)
 already_refusal_arms [] = None
 already_refusal_arms (b ∷ bs) =
@@ -46,14 +45,14 @@ already_refusal_arms (b ∷ bs) =
 unfoldable pub already_refusal : List ℕ → Option (Refusal × List ℕ)
 already_refusal bytes = after (codes "lready") bytes >>= already_refusal_arms
 
--- behind `Too`
+-- a refusal whose name begins with `Too`, from behind that on
 unfoldable pub too_refusal : List ℕ → Option (Refusal × List ℕ)
 too_refusal [] = None
 too_refusal (b ∷ bs) =
     if b == 70 then (after (codes "ewRights ") bs >>= λ rest. last_number rest >>= λ n. Some (TooFewRights n.0, n.1)) else (
     if b == 77 then told (codes "anyWriters\"") TooManyWriters bs else None)
 
--- behind `T`
+-- a refusal whose name begins with `T`, from behind that on
 abbrev pub to_refusal_arms : List ℕ → Option (Refusal × List ℕ)
 to_refusal_arms [] = None
 to_refusal_arms (b ∷ bs) =
@@ -63,21 +62,21 @@ to_refusal_arms (b ∷ bs) =
 unfoldable pub to_refusal : List ℕ → Option (Refusal × List ℕ)
 to_refusal bytes = after (codes "o") bytes >>= to_refusal_arms
 
--- behind `M`
+-- a refusal whose name begins with `M`, from behind that on
 unfoldable pub m_refusal : List ℕ → Option (Refusal × List ℕ)
 m_refusal [] = None
 m_refusal (b ∷ bs) =
     if b == 105 then (after (codes "ssingSeats ") bs >>= λ rest. shortage_at rest >>= λ n. Some (MissingSeats n.0 n.1, n.2)) else (
     if b == 101 then told (codes "mory\"") Memory bs else None)
 
--- behind `O`
+-- a refusal whose name begins with `O`, from behind that on
 unfoldable pub o_refusal : List ℕ → Option (Refusal × List ℕ)
 o_refusal [] = None
 o_refusal (b ∷ bs) =
     if b == 116 then (after (codes "herLayout ") bs >>= λ rest. last_number rest >>= λ n. Some (OtherLayout n.0, n.1)) else (
     if b == 119 then (after (codes "nRowAhead ") bs >>= λ rest. last_short rest >>= λ n. Some (OwnRowAhead n.0, n.1)) else None)
 
--- behind `B`
+-- a refusal whose name begins with `B`, from behind that on
 abbrev pub bad_refusal_arms : List ℕ → Option (Refusal × List ℕ)
 bad_refusal_arms [] = None
 bad_refusal_arms (b ∷ bs) =
@@ -109,14 +108,14 @@ refusal_at (b ∷ bs) =
     if b == 67 then told (codes "ounterFull\"") CounterFull bs else (
     if b == 77 then m_refusal bs else rare_refusal (b ∷ bs))))))
 
--- behind `a`
+-- a reply that begins with `a`, from behind that on
 unfoldable pub a_reply : List ℕ → Option (Reply × List ℕ)
 a_reply [] = None
 a_reply (b ∷ bs) =
     if b == 100 then told (codes "mitted\"") Admitted bs else (
     if b == 110 then (after (codes "nounced ") bs >>= λ rest. last_number rest >>= λ n. Some (Announced n.0, n.1)) else None)
 
--- behind `l`
+-- a reply that begins with `l`, from behind that on
 abbrev pub left_reply_arms : List ℕ → Option (Reply × List ℕ)
 left_reply_arms [] = None
 left_reply_arms (b ∷ bs) =
@@ -126,7 +125,7 @@ left_reply_arms (b ∷ bs) =
 unfoldable pub left_reply : List ℕ → Option (Reply × List ℕ)
 left_reply bytes = after (codes "eft ") bytes >>= left_reply_arms
 
--- behind `g`
+-- a reply that begins with `g`, from behind that on
 unfoldable pub g_reply : List ℕ → Option (Reply × List ℕ)
 g_reply [] = None
 g_reply (b ∷ bs) =

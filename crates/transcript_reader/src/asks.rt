@@ -43,7 +43,6 @@ fn has_record(layout: &Layout, r: u16) -> bool
     usize::from(r) < layout.records().len()
 }
 
-#[inline(never)]
 fn place_of(records: &[RecordSpec], name: &[u8]) -> Option<usize>
     ensures { result ≡ position (has_this_name name.now) records.now }
 {

@@ -28,7 +28,9 @@ fn pass_behind(bytes: &[u8]) -> Result<(u16, &[u8]), Unread>
     Ok((pass, rest))
 }
 
-// The entry of a line. Linear in it and in the records. Nothing is copied but what the entry keeps.
+// The entry of a line. Linear in it and in the records. Nothing is copied but what the entry keeps. Not inlined: its callers'
+// variables would take registers from it.
+#[inline(never)]
 pub(crate) fn entry_in(alloc: Global, layout: &Layout, line: &[u8]) -> Result<Entry, Unread>
     ensures sound { IfOk result (λ e. line.now ≡ entry_text layout.now.records e) }
     ensures fits { IfOk result FitsEntry }

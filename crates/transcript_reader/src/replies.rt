@@ -13,7 +13,7 @@ use admission_core::{Phase, Refusal, Reply};
 use std::alloc::Global;
 use text_parts::{Unread, after};
 
-// What is all of its text, and the bytes behind it.
+// A refusal, where the rest of its name and the closing quote stand in front, and the bytes behind them.
 #[inline(always)]
 fn told<'a>(
     literal: &[u8],
@@ -26,7 +26,7 @@ fn told<'a>(
     Ok((refusal, rest))
 }
 
-// Behind `NoS`.
+// A refusal whose name begins with `NoS`, from behind that on.
 #[tactic(auto, unfolding(crate::specs::ReplyReaders::seat_refusal))]
 fn seat_refusal(bytes: &[u8]) -> Result<(Refusal, &[u8]), Unread>
     ensures { Gives (λ x. (x.0, x.1.now)) result (seat_refusal bytes.now) }
@@ -42,7 +42,7 @@ fn seat_refusal(bytes: &[u8]) -> Result<(Refusal, &[u8]), Unread>
     }
 }
 
-// Behind `Not`.
+// A refusal whose name begins with `Not`, from behind that on.
 #[tactic(auto, unfolding(crate::specs::ReplyReaders::not_refusal))]
 fn not_refusal(bytes: &[u8]) -> Result<(Refusal, &[u8]), Unread>
     ensures { Gives (λ x. (x.0, x.1.now)) result (not_refusal bytes.now) }
@@ -54,7 +54,7 @@ fn not_refusal(bytes: &[u8]) -> Result<(Refusal, &[u8]), Unread>
     }
 }
 
-// Behind `N`.
+// A refusal whose name begins with `N`, from behind that on.
 #[tactic(auto, unfolding(crate::specs::ReplyReaders::no_refusal))]
 fn no_refusal(bytes: &[u8]) -> Result<(Refusal, &[u8]), Unread>
     ensures { Gives (λ x. (x.0, x.1.now)) result (no_refusal bytes.now) }
@@ -69,7 +69,7 @@ fn no_refusal(bytes: &[u8]) -> Result<(Refusal, &[u8]), Unread>
     }
 }
 
-// Behind `A`.
+// A refusal whose name begins with `A`, from behind that on.
 #[tactic(auto, unfolding(crate::specs::ReplyReaders::already_refusal))]
 fn already_refusal(bytes: &[u8]) -> Result<(Refusal, &[u8]), Unread>
     ensures { Gives (λ x. (x.0, x.1.now)) result (already_refusal bytes.now) }
@@ -82,7 +82,7 @@ fn already_refusal(bytes: &[u8]) -> Result<(Refusal, &[u8]), Unread>
     }
 }
 
-// Behind `Too`.
+// A refusal whose name begins with `Too`, from behind that on.
 #[tactic(auto, unfolding(crate::specs::ReplyReaders::too_refusal))]
 fn too_refusal(bytes: &[u8]) -> Result<(Refusal, &[u8]), Unread>
     ensures { Gives (λ x. (x.0, x.1.now)) result (too_refusal bytes.now) }
@@ -98,7 +98,7 @@ fn too_refusal(bytes: &[u8]) -> Result<(Refusal, &[u8]), Unread>
     }
 }
 
-// Behind `T`.
+// A refusal whose name begins with `T`, from behind that on.
 #[tactic(auto, unfolding(crate::specs::ReplyReaders::to_refusal))]
 fn to_refusal(bytes: &[u8]) -> Result<(Refusal, &[u8]), Unread>
     ensures { Gives (λ x. (x.0, x.1.now)) result (to_refusal bytes.now) }
@@ -111,7 +111,7 @@ fn to_refusal(bytes: &[u8]) -> Result<(Refusal, &[u8]), Unread>
     }
 }
 
-// Behind `M`.
+// A refusal whose name begins with `M`, from behind that on.
 #[tactic(auto, unfolding(crate::specs::ReplyReaders::m_refusal))]
 fn m_refusal(bytes: &[u8]) -> Result<(Refusal, &[u8]), Unread>
     ensures { Gives (λ x. (x.0, x.1.now)) result (m_refusal bytes.now) }
@@ -127,7 +127,7 @@ fn m_refusal(bytes: &[u8]) -> Result<(Refusal, &[u8]), Unread>
     }
 }
 
-// Behind `O`.
+// A refusal whose name begins with `O`, from behind that on.
 #[tactic(auto, unfolding(crate::specs::ReplyReaders::o_refusal))]
 fn o_refusal(bytes: &[u8]) -> Result<(Refusal, &[u8]), Unread>
     ensures { Gives (λ x. (x.0, x.1.now)) result (o_refusal bytes.now) }
@@ -147,7 +147,7 @@ fn o_refusal(bytes: &[u8]) -> Result<(Refusal, &[u8]), Unread>
     }
 }
 
-// Behind `B`.
+// A refusal whose name begins with `B`, from behind that on.
 #[tactic(auto, unfolding(crate::specs::ReplyReaders::bad_refusal))]
 fn bad_refusal(bytes: &[u8]) -> Result<(Refusal, &[u8]), Unread>
     ensures { Gives (λ x. (x.0, x.1.now)) result (bad_refusal bytes.now) }
@@ -200,7 +200,7 @@ fn refusal_at(bytes: &[u8]) -> Result<(Refusal, &[u8]), Unread>
     }
 }
 
-// Behind `a`.
+// A reply that begins with `a`, from behind that on.
 #[tactic(auto, unfolding(crate::specs::ReplyReaders::a_reply))]
 fn a_reply(bytes: &[u8]) -> Result<(Reply, &[u8]), Unread>
     ensures { Gives (λ x. (x.0, x.1.now)) result (a_reply bytes.now) }
@@ -219,7 +219,7 @@ fn a_reply(bytes: &[u8]) -> Result<(Reply, &[u8]), Unread>
     }
 }
 
-// Behind `l`.
+// A reply that begins with `l`, from behind that on.
 #[tactic(auto, unfolding(crate::specs::ReplyReaders::left_reply))]
 fn left_reply(bytes: &[u8]) -> Result<(Reply, &[u8]), Unread>
     ensures { Gives (λ x. (x.0, x.1.now)) result (left_reply bytes.now) }
@@ -238,7 +238,7 @@ fn left_reply(bytes: &[u8]) -> Result<(Reply, &[u8]), Unread>
     }
 }
 
-// Behind `g`.
+// A reply that begins with `g`, from behind that on.
 #[tactic(auto, unfolding(crate::specs::ReplyReaders::g_reply))]
 fn g_reply(bytes: &[u8]) -> Result<(Reply, &[u8]), Unread>
     ensures { Gives (λ x. (x.0, x.1.now)) result (g_reply bytes.now) }
