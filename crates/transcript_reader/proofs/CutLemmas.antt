@@ -1,8 +1,7 @@
 -- Where the first byte of a kind stands.
-use Rattle.std.proofs.Common.{◌≡◌, ℕ, zero, suc, ◌<◌, Bool, true, false, cond, eqb, ◌==◌, List, [], ◌∷◌, ◌++◌, length, take, drop, slice_index, ◌-◌, Option, Some, None, sym, ap, ◌∙◌, refl, arith}
-use Rattle.std.proofs.lemmas.Bool.{false_from_ne_true, eqb-true}
+use Rattle.std.proofs.Common.{◌≡◌, ℕ, zero, suc, ◌<◌, Bool, true, cond, ◌==◌, List, [], ◌∷◌, length, take, drop, slice_index, ◌-◌, Some, None, sym, ap, ◌∙◌, refl, arith}
+use Rattle.std.proofs.lemmas.Bool.{false_from_ne_true}
 use Rattle.std.proofs.lemmas.List.{take_rest}
-use Rattle.std.proofs.lemmas.Option.{none-some, some_pair_parts}
 use Rattle.text_parts.specs.Readers.{onto}
 use Rattle.transcript_reader.specs.Readers.{cut_at}
 use Rattle.transcript_reader.specs.Words.{ends_word, word_at}
@@ -25,26 +24,6 @@ no_cut byte (b ∷ bs) none =
     let ordinary = false_from_ne_true (b == byte) (none 0 (omega arith)) in
     let rest = no_cut byte bs (λ j low. none (suc j) (omega arith)) in
     rw ordinary (ap (onto b) rest)
-
-onto_parts : (b : ℕ) (read : Option (List ℕ × List ℕ)) (t rest : List ℕ) → onto b read ≡ Some (t, rest) → (u : List ℕ) × (read ≡ Some (u, rest)) × (b ∷ u ≡ t)
-onto_parts b (Some x) t rest e =
-    let p = some_pair_parts (b ∷ x.0) t x.1 rest e in
-    (x.0, ap (λ (s : List ℕ). Some (x.0, s)) p.1, p.0)
-onto_parts b None t rest e = absurd (none-some (t, rest) e)
-
--- what stands in front of it and behind it
-pub cut_takes : (byte : ℕ) (bytes t rest : List ℕ) → cut_at byte bytes ≡ Some (t, rest) → bytes ≡ t ++ byte ∷ rest
-cut_takes byte [] t rest e = absurd (none-some (t, rest) e)
-cut_takes byte (b ∷ bs) t rest e = at (eqb b byte) refl e (cut_takes byte bs)
-  where
-    at : (here : Bool) → eqb b byte ≡ here → cond here (Some ([], bs)) (onto b (cut_at byte bs)) ≡ Some (t, rest)
-        → ((u s : List ℕ) → cut_at byte bs ≡ Some (u, s) → bs ≡ u ++ byte ∷ s) → b ∷ bs ≡ t ++ byte ∷ rest
-    at true here read takes =
-        let p = some_pair_parts [] t bs rest read in
-        rw (← p.0, ← p.1, eqb-true b byte here) refl
-    at false here read takes =
-        let p = onto_parts b (cut_at byte bs) t rest read in
-        rw (← p.2) (ap (λ (x : List ℕ). b ∷ x) (takes p.0 rest p.1))
 
 -- ---- words
 

@@ -14,10 +14,6 @@ pub held_by : {A : Type 0} (P : A → Type 0) (o : Option A) (x : A) → Holds P
 held_by P None x holds is = absurd (none-some x is)
 held_by P (Some y) x holds is = subst P (same_Some y x is) holds
 
-pub both_hold : {A : Type 0} (P Q : A → Type 0) (o : Option A) → Holds P o → Holds Q o → Holds (λ x. P x × Q x) o
-both_hold P Q None p q = tt
-both_hold P Q (Some x) p q = (p, q)
-
 -- P holds of what is there on either side of a test
 pub when_holds : {A : Type 0} (P : A → Type 0) (b : Bool) (o p : Option A) → (b ≡ true → Holds P o) → (b ≡ false → Holds P p) → Holds P (cond b o p)
 when_holds P true o p one other = one refl

@@ -43,7 +43,7 @@ decimal_word (suc n) fits = subst IsWord (sym (decimal-digits_of (suc n) (omega 
 abbrev pub SaysNumber : ℕ → List ℕ → ℕ × List ℕ → Type 0
 SaysNumber limit bytes x = (x.0 < limit) × (bytes ≡ decimal x.0 ++ x.1)
 
-pub number_says : (bytes : List ℕ) → Holds (SaysNumber (2 ^ 64) bytes) (number_at bytes)
+number_says : (bytes : List ℕ) → Holds (SaysNumber (2 ^ 64) bytes) (number_at bytes)
 number_says bytes = at (number_at bytes) refl
   where
     at : (read : Option (ℕ × List ℕ)) → number_at bytes ≡ read → Holds (SaysNumber (2 ^ 64) bytes) read
@@ -127,10 +127,10 @@ pub spaced : (text other bytes front rest behind : List ℕ) → bytes ≡ text 
 spaced text other bytes front rest behind e f g =
     e ∙ (ap (λ (t : List ℕ). text ++ t) (f ∙ ap (λ (t : List ℕ). 32 ∷ t) g) ∙ sym (append_assoc text (32 ∷ other) (34 ∷ behind)))
 
-abbrev pub paired : Option (ℕ × List ℕ) → (List ℕ → Option (ℕ × List ℕ)) → Option Pair
+abbrev paired : Option (ℕ × List ℕ) → (List ℕ → Option (ℕ × List ℕ)) → Option Pair
 paired read last = read >>= λ a. after (codes " ") a.1 >>= λ rest. last rest >>= λ b. Some (a.0, b.0, b.1)
 
-pub paired_says : (text : ℕ → List ℕ) (limit limit2 : ℕ) (bytes : List ℕ) (read : Option (ℕ × List ℕ)) (last : List ℕ → Option (ℕ × List ℕ))
+paired_says : (text : ℕ → List ℕ) (limit limit2 : ℕ) (bytes : List ℕ) (read : Option (ℕ × List ℕ)) (last : List ℕ → Option (ℕ × List ℕ))
     → Holds (λ x. (x.0 < limit) × (bytes ≡ text x.0 ++ x.1)) read → ((rest : List ℕ) → Holds (SaysLast limit2 rest) (last rest)) → Holds (SaysPair text limit limit2 bytes) (paired read last)
 paired_says text limit limit2 bytes read last says each =
     let Says = SaysPair text limit limit2 bytes in
@@ -139,7 +139,7 @@ paired_says text limit limit2 bytes read last says each =
     (λ rest e. then_holds (SaysLast limit2 rest) Says (last rest) (λ b. Some (a.0, b.0, b.1)) (each rest)
     (λ b is. (it.0, (is.0, spaced (text a.0) (last_text b.0) bytes a.1 rest b.1 it.1 e is.1)))))
 
-pub paired_again : (text : List ℕ) (n m : ℕ) (rest : List ℕ) (read last : List ℕ → Option (ℕ × List ℕ))
+paired_again : (text : List ℕ) (n m : ℕ) (rest : List ℕ) (read last : List ℕ → Option (ℕ × List ℕ))
     → read (text ++ 32 ∷ (last_text m ++ 34 ∷ rest)) ≡ Some (n, 32 ∷ (last_text m ++ 34 ∷ rest)) → last (last_text m ++ 34 ∷ rest) ≡ Some (m, rest)
     → paired (read ((text ++ 32 ∷ last_text m) ++ 34 ∷ rest)) last ≡ Some (n, m, rest)
 paired_again text n m rest read last one other =
