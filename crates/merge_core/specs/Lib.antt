@@ -10,6 +10,7 @@ pub mod Changes
 pub mod Order
 pub mod Moved
 pub mod Cover
+pub mod Lent
 pub mod Thin
 pub mod Start
 pub mod Joined

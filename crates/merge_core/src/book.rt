@@ -1,6 +1,7 @@
 use crate::record::RecordState;
 use crate::{Cell, Layout};
 use genesis::genesis_records;
+pub use lending::LentRow;
 use marks::mark;
 use rights_matrix::TransferError;
 use seat_rows::SeatError;
@@ -14,6 +15,7 @@ mod genesis;
 mod growth;
 mod join;
 mod keep;
+mod lending;
 mod marks;
 mod snapshot;
 mod telling;

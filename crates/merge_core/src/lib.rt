@@ -1,7 +1,7 @@
 //! The replicated book of all records: layouts, deltas, and a book whose join is the union of what was named.
 #![tactic(auto)]
 
-pub use book::Book;
+pub use book::{Book, LentRow};
 pub use cell::Cell;
 pub use check::CheckError;
 pub use delta::{Delta, DeltaError, Row};
