@@ -4,7 +4,10 @@ use Rattle.std.specs.Prelude.{◌≡◌, ℕ, ◌+◌, ◌<◌, ◌≤◌, Bool,
 use Rattle.std.specs.Global.{Global}
 use Rattle.merge_core.specs.declared.delta.Row.{Row}
 use Rattle.merge_core.specs.Layout.{LayoutState, at_sites}
+use Rattle.admission_model.specs.declared.ask.Call.TheVariants.{Snapshot}
 use Rattle.admission_model.specs.Account.{Account, start_origin}
+use Rattle.admission_model.specs.Serving.{reply_of}
+use Rattle.admission_model.specs.View.{view_of}
 use Rattle.admission_core.specs.Core.{Core, Stands}
 use Rattle.desk_log.specs.declared.entry.Entry.{Entry}
 use Rattle.desk_log.specs.declared.transcript.Run.{Run}
@@ -88,6 +91,16 @@ IsHandedBack e (Open core left) (Some x) = (x ≡ e) × ((left.items ≡ []) × 
 IsHandedBack e (Open core left) None = left.items ≡ e ∷ []
 IsHandedBack e Fresh x = x ≡ None
 IsHandedBack e (Ended fault) x = x ≡ None
+
+-- a run has begun with this core, and no call is in doubt
+abbrev pub IsClear : Core → Stage → Type 0
+IsClear c Fresh = ⊥
+IsClear c (Open core left) = (core ≡ c) × (left.items ≡ [])
+IsClear c (Ended fault) = ⊥
+
+-- an entry asks for a snapshot, and is answered by the one that the core makes
+abbrev pub IsShownBy : Core → Entry → Type 0
+IsShownBy core e = (e.call ≡ Snapshot) × ((a : Account) → Stands a core → e.reply ≡ reply_of (view_of a) Snapshot)
 
 -- A run is followed by these. Its last entry is in doubt, is the one in front of so many, and is carried out where it is
 -- among those that were kept.

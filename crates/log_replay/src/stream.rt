@@ -4,14 +4,14 @@ ghost use Rattle.merge_core.specs.Layout.{LayoutState};
 ghost use Rattle.merge_core.specs.declared.cell.Cell.{Cell as CellThere};
 ghost use Rattle.merge_core.specs.Rows.{counter_in, counters_of};
 ghost use Rattle.admission_model.specs.Account.{Account, own};
-ghost use Rattle.admission_core.specs.Core.{Stands};
+ghost use Rattle.admission_core.specs.Core.{Core as CoreThere, Stands};
 ghost use Rattle.desk_log.specs.declared.entry.Entry.{Entry as EntryThere};
 ghost use Rattle.desk_log.specs.declared.transcript.Run.{Run as RunThere};
 ghost use Rattle.desk_log.specs.Log.{is_fault};
 ghost use Rattle.log_replay.specs.Legal.{start_account, account_at};
 ghost use Rattle.log_replay.specs.Replay.{TellsOwn};
 ghost use Rattle.log_replay.specs.declared.stream.Stage.TheVariants.{Ended as EndedThere};
-ghost use Rattle.log_replay.specs.Stream.{HasEnded, IsDoubted, IsDoubtKept, IsHandedBack, IsInRun, IsMarkedAt, IsReplaying, IsSettled, IsStage, count_of, left_of, length_by, stage_behind, stage_or};
+ghost use Rattle.log_replay.specs.Stream.{HasEnded, IsClear, IsDoubted, IsDoubtKept, IsHandedBack, IsInRun, IsMarkedAt, IsReplaying, IsSettled, IsShownBy, IsStage, count_of, left_of, length_by, stage_behind, stage_or};
 
 use crate::done::{is_done_by, is_done_in};
 use crate::entries::{follow_one, may_end};
@@ -322,6 +322,31 @@ impl SiteReplay {
         let at = self.at;
         self.at = one_more(at)?;
         add_to(&mut self.stage, entry, at)
+    }
+
+    /// The core of the run that has begun, where no call is in doubt.
+    pub fn clear_core(&self) -> Option<&SiteCore>
+        ensures { MatchOption result (Unit {0}) (λ core. IsClear core.now self.now.stage) }
+    {
+        match &self.stage {
+            Stage::Open(core, left) if left.is_empty() => Some(core),
+            _ => None,
+        }
+    }
+
+    /// The run has one entry more, which asks for a snapshot and is answered by the one that the core makes. Nothing is made
+    /// of it.
+    pub fn add_snapshot(&mut self, alloc: Global) -> Result<(), AllocError>
+        requires { (layout : LayoutState) × (i : ℕ) × (runs : List RunThere) × (e : EntryThere) × (more : List EntryThere) × (later : List RunThere)
+            × IsReplaying layout i runs (e ∷ more) later self.old }
+        ensures replaying { IfOk result (λ _. (core : CoreThere) (layout : LayoutState) (i : ℕ) (runs : List RunThere) (e : EntryThere) (more : List EntryThere) (later : List RunThere)
+            → IsClear core self.old.stage → IsShownBy core e → IsReplaying layout i runs (e ∷ more) later self.old → IsReplaying layout i runs more later self.new) }
+        ensures stage { IfOk result (λ _. self.new.stage ≡ self.old.stage) }
+        ensures counts { IfOk result (λ _. (self.new.cut ≡ self.old.cut) × (self.new.at ≡ self.old.at + 1)) }
+    {
+        self.mark_cut(alloc)?;
+        self.at = one_more(self.at)?;
+        Ok(())
     }
 
     /// The first fault, if there is one.

@@ -1,5 +1,5 @@
 -- Literals: what a comparison of the front says, and that a literal is taken exactly where it stands.
-use Rattle.std.proofs.Common.{◌≡◌, ℕ, Bool, true, false, cond, eqb, nat_eq, List, [], ◌∷◌, ◌++◌, length, take, drop, Option, Some, None, refl, inl, inr}
+use Rattle.std.proofs.Common.{◌≡◌, ℕ, ◌<◌, Bool, true, false, cond, eqb, nat_eq, List, [], ◌∷◌, ◌++◌, length, take, drop, Option, Some, None, refl, inl, inr, arith}
 use lib.Pointwise.{pointwise}
 use Rattle.std.proofs.lemmas.Bool.{and_parts, and_cases, eqb-true, eq-eqb}
 use Rattle.std.proofs.lemmas.Option.{none-some}
@@ -26,6 +26,16 @@ after_other (c ∷ cs) (b ∷ bs) other =
     cases : (same : Bool) → after cs bs ≡ None → cond same (after cs bs) None ≡ None
     cases true none = none
     cases false none = refl
+
+-- too few bytes
+pub after_short : (literal bytes : List ℕ) → length bytes < length literal → after literal bytes ≡ None
+after_short [] bytes few = absurd (omega (arith, few))
+after_short (c ∷ cs) [] few = refl
+after_short (c ∷ cs) (b ∷ bs) few = either (eqb b c) (after_short cs bs (omega (arith, few)))
+  where
+    either : (same : Bool) → after cs bs ≡ None → cond same (after cs bs) None ≡ None
+    either true none = none
+    either false none = refl
 
 -- a literal of two parts is taken part by part
 pub after_parts : (front back bytes : List ℕ) → after (front ++ back) bytes ≡ (after front bytes >>= after back)

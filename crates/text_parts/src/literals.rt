@@ -19,6 +19,35 @@ fn after_part<'a>(literal: &[u8], bytes: &'a [u8]) -> Result<&'a [u8], Unread>
     }
 }
 
+// The same, byte by byte.
+#[inline(always)]
+fn after_bytes<'a>(literal: &[u8], bytes: &'a [u8]) -> Result<&'a [u8], Unread>
+    ensures read { Gives (λ rest. rest.now) result (after literal.now bytes.now) }
+    ensures no_memory { IfErr result (λ e. e ≡ Unread.Refused) }
+{
+    if bytes.len() < literal.len() {
+        return Err(Unread::Refused);
+    }
+    for i in 0..literal.len() {
+        if bytes[i] != literal[i] {
+            return Err(Unread::Refused);
+        }
+    }
+    Ok(&bytes[literal.len()..])
+}
+
+// The same: at once where so many bytes are a word of the processor. Of 3 or 7 bytes the comparison at once would be a call.
+#[inline(always)]
+fn after_few<'a>(literal: &[u8], bytes: &'a [u8]) -> Result<&'a [u8], Unread>
+    ensures read { Gives (λ rest. rest.now) result (after literal.now bytes.now) }
+    ensures no_memory { IfErr result (λ e. e ≡ Unread.Refused) }
+{
+    if matches!(literal.len(), 1 | 2 | 4 | WORD) {
+        return after_part(literal, bytes);
+    }
+    after_bytes(literal, bytes)
+}
+
 /// The bytes behind a literal, which has to stand at the front.
 #[inline(always)]
 pub fn after<'a>(literal: &[u8], bytes: &'a [u8]) -> Result<&'a [u8], Unread>
@@ -26,10 +55,10 @@ pub fn after<'a>(literal: &[u8], bytes: &'a [u8]) -> Result<&'a [u8], Unread>
     ensures no_memory { IfErr result (λ e. e ≡ Unread.Refused) }
 {
     if literal.len() <= WORD {
-        return after_part(literal, bytes);
+        return after_few(literal, bytes);
     }
     let rest = after_part(&literal[..WORD], bytes)?;
-    after_part(&literal[WORD..], rest)
+    after_few(&literal[WORD..], rest)
 }
 
 /// The bytes behind a comma, if one stands at the front.

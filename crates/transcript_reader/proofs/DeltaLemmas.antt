@@ -26,7 +26,7 @@ abbrev Counters : Type 0
 Counters = List ℕ × List ℕ
 
 -- the text of a number between quotes
-abbrev digits : ℕ → List ℕ
+abbrev pub digits : ℕ → List ℕ
 digits n = escaped (decimal n)
 
 -- ---- what is taken is its text
@@ -63,7 +63,7 @@ numbers_behind_takes literal bytes ns rest e =
     after_takes literal bytes front.0 front.1 ∙ ap (λ (s : List ℕ). literal ++ s) (taken ∙ ap (λ (t : List ℕ). t ++ rest) (escaped_joined decimal ns))
 
 -- the text of a row between quotes, and what follows it
-abbrev row_pieces : Row → List ℕ → List ℕ
+abbrev pub row_pieces : Row → List ℕ → List ℕ
 row_pieces p rest =
     codes "{\\\"ann\\\":" ++ (digits p.ann ++ (codes ",\\\"fin\\\":" ++ (digits p.fin
     ++ (codes ",\\\"out\\\":[" ++ (escaped (joined decimal p.out) ++ (codes "],\\\"r\\\":" ++ (digits p.r
@@ -73,7 +73,7 @@ row_split : (a b c d e f g h i j k l m rest : List ℕ) → escaped (a ++ (b ++ 
     ≡ escaped a ++ (escaped b ++ (escaped c ++ (escaped d ++ (escaped e ++ (escaped f ++ (escaped g ++ (escaped h ++ (escaped i ++ (escaped j ++ (escaped k ++ (escaped l ++ (escaped m ++ rest))))))))))))
 row_split a b c d e f g h i j k l m rest = simp (escaped_append, append_assoc)
 
-row_pieces_are : (p : Row) (rest : List ℕ) → escaped (row_text p) ++ rest ≡ row_pieces p rest
+pub row_pieces_are : (p : Row) (rest : List ℕ) → escaped (row_text p) ++ rest ≡ row_pieces p rest
 unfolding row_text
 row_pieces_are p rest =
     row_split (codes "{\"ann\":") (decimal p.ann) (codes ",\"fin\":") (decimal p.fin) (codes ",\"out\":[") (joined decimal p.out) (codes "],\"r\":") (decimal p.r)
@@ -99,10 +99,10 @@ abbrev with_ann : Read → Option (Row × List ℕ)
 with_ann ann = number_behind (codes ",\\\"fin\\\":") ann.1 >>= with_fin ann
 
 -- a number behind a literal, and what is behind the number
-piece : (literal : List ℕ) (n : ℕ) (bytes rest tail : List ℕ) → bytes ≡ literal ++ (digits n ++ rest) → rest ≡ tail → bytes ≡ literal ++ (digits n ++ tail)
+pub piece : (literal : List ℕ) (n : ℕ) (bytes rest tail : List ℕ) → bytes ≡ literal ++ (digits n ++ rest) → rest ≡ tail → bytes ≡ literal ++ (digits n ++ tail)
 piece literal n bytes rest tail e f = e ∙ ap (λ (t : List ℕ). literal ++ (digits n ++ t)) f
 
-list_piece : (literal ns bytes rest tail : List ℕ) → bytes ≡ literal ++ (escaped (joined decimal ns) ++ rest) → rest ≡ tail → bytes ≡ literal ++ (escaped (joined decimal ns) ++ tail)
+pub list_piece : (literal ns bytes rest tail : List ℕ) → bytes ≡ literal ++ (escaped (joined decimal ns) ++ rest) → rest ≡ tail → bytes ≡ literal ++ (escaped (joined decimal ns) ++ tail)
 list_piece literal ns bytes rest tail e f = e ∙ ap (λ (t : List ℕ). literal ++ (escaped (joined decimal ns) ++ t)) f
 
 row_takes : TakesTexts (λ p. escaped (row_text p)) row_at
@@ -147,14 +147,14 @@ rows_take (b ∷ bs) ps rest e = cases (b == 93) e
         joined_takes (λ p. escaped (row_text p)) row_at row_takes 4095 (b ∷ bs) ps rest h ∙ ap (λ (t : List ℕ). t ++ rest) (escaped_joined row_text ps)
 
 -- the text of a delta between quotes, and what follows the closing one
-abbrev delta_pieces : DeltaState → List ℕ → List ℕ
+abbrev pub delta_pieces : DeltaState → List ℕ → List ℕ
 delta_pieces d rest =
     codes "{\\\"from\\\":" ++ (digits d.from ++ (codes ",\\\"rows\\\":[" ++ (escaped (joined row_text d.rows) ++ (codes "],\\\"v\\\":1}\"" ++ rest))))
 
 delta_split : (a b c d e rest : List ℕ) → escaped (a ++ (b ++ (c ++ (d ++ e)))) ++ rest ≡ escaped a ++ (escaped b ++ (escaped c ++ (escaped d ++ (escaped e ++ rest))))
 delta_split a b c d e rest = simp (escaped_append, append_assoc)
 
-delta_pieces_are : (d : DeltaState) (rest : List ℕ) → quoted (delta_text d) rest ≡ delta_pieces d rest
+pub delta_pieces_are : (d : DeltaState) (rest : List ℕ) → quoted (delta_text d) rest ≡ delta_pieces d rest
 unfolding delta_text
 delta_pieces_are d rest =
     delta_split (codes "{\"from\":") (decimal d.from) (codes ",\"rows\":[") (joined row_text d.rows) (codes "],\"v\":1}") (34 ∷ rest)

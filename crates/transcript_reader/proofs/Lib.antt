@@ -1,6 +1,7 @@
 pub mod QuotedLemmas
 pub mod EscapedLemmas
 pub mod DeltaLemmas
+pub mod ShownLemmas
 pub mod CutLemmas
 pub mod HoldLemmas
 pub mod WordLemmas

@@ -7,3 +7,4 @@ pub mod ReplyReaders
 pub mod Readers
 pub mod Reading
 pub mod Lines
+pub mod Shown

@@ -5,6 +5,7 @@ pub use lines::{Line, line_in};
 pub use openings::Opening;
 pub use reading::{ReadError, read_transcripts};
 pub use runs::SiteRun;
+pub use shown::shows_snapshot;
 
 mod asks;
 mod deltas;
@@ -18,5 +19,6 @@ mod reading;
 mod replies;
 mod runs;
 mod sessions;
+mod shown;
 mod told;
 mod words;
