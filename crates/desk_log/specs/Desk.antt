@@ -54,6 +54,11 @@ pub record IsCopied (wanted : Bool) (s : Served) : Type 0 where
 abbrev pub receipt_of : Reply → Option Reply
 receipt_of reply = if is_logged reply then Some reply else None
 
+-- a keeper's refusal, as an opening tells it
+abbrev pub load_fault : KeeperError → OpenError
+load_fault NoSpace = Memory
+load_fault Failed = StoreFault
+
 -- a wrong durable part, as an opening tells it
 abbrev pub restore_fault : RestoreError → OpenError
 restore_fault NoSuchSite = BadSite

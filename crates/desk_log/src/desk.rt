@@ -7,7 +7,7 @@ use crate::error::OpenError;
 use crate::log::Log;
 use crate::step::{Served, copied_call, step};
 use admission_core::{Call, Durable, Refusal, Reply, SiteCore};
-use durable_keeper::{Keeper, KeeperError};
+use durable_keeper::Keeper;
 use merge_core::Layout;
 use std::alloc::Global;
 use std::marker::Model;
@@ -235,11 +235,7 @@ fn begun<K: Keeper>(
     requires site { site < layout.sites }
     ensures { IsBegun K.Keeper keeper.old keeper.new layout site limit result }
 {
-    let found = match keeper.load(alloc) {
-        Ok(found) => found,
-        Err(KeeperError::Memory) => return Err(OpenError::Memory),
-        Err(KeeperError::StoreFault) => return Err(OpenError::StoreFault),
-    };
+    let found = keeper.load(alloc)?;
     let first = found.try_copy(alloc)?;
     let core = SiteCore::restore(alloc, layout, site, found)?;
     let log = Log::new(alloc, first, limit)?;

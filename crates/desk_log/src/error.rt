@@ -1,9 +1,10 @@
 ghost use Rattle.std.specs.Prelude.{◌≡◌};
 ghost use Rattle.admission_core.specs.declared.restoring.RestoreError.TheVariants.{BadSite as NoSuchSite, WrongCounters as NoCounters, WrongSessions as NoSessions, Memory as NoMemory};
 ghost use Rattle.desk_log.specs.declared.error.OpenError.TheVariants.{BadSite, WrongCounters, WrongSessions, Memory};
-ghost use Rattle.desk_log.specs.Desk.{restore_fault};
+ghost use Rattle.desk_log.specs.Desk.{load_fault, restore_fault};
 
 use admission_core::RestoreError;
+use durable_keeper::KeeperError;
 use std::alloc::AllocError;
 use thiserror::Error;
 
@@ -37,6 +38,17 @@ impl From<AllocError> for OpenError {
 
     fn from(_e: AllocError) -> OpenError {
         OpenError::Memory
+    }
+}
+
+impl From<KeeperError> for OpenError {
+    ghost from_gives = { λ k e. e ≡ load_fault k };
+
+    fn from(e: KeeperError) -> OpenError {
+        match e {
+            KeeperError::Memory => OpenError::Memory,
+            KeeperError::StoreFault => OpenError::StoreFault,
+        }
     }
 }
 

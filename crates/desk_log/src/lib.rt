@@ -5,6 +5,7 @@
 pub use desk::Desk;
 pub use entry::{Entries, Entry};
 pub use error::OpenError;
+pub use step::commit_if_changed;
 pub use transcript::{AppendError, Run, Runs, Transcript};
 
 mod desk;

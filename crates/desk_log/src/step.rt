@@ -59,8 +59,8 @@ fn copied_if(alloc: Global, wanted: bool, reply: &Reply) -> Result<Option<Reply>
     Ok(Some(copy))
 }
 
-// Has a change kept; where nothing changes, no store is called.
-fn keep<K: Keeper>(keeper: &mut K, change: &Change) -> Result<(), KeeperError>
+/// Commits a change; where nothing changes, no store is called.
+pub fn commit_if_changed<K: Keeper>(keeper: &mut K, change: &Change) -> Result<(), KeeperError>
     requires change { IsChange (K.layout keeper.old) (K.site keeper.old) change.now }
     requires no_fault { K.faults_of keeper.old ≡ 0 }
     ensures kept { KeepsChange K.Keeper keeper.old keeper.new change.now result }
@@ -124,7 +124,7 @@ pub(crate) fn step<K: Keeper>(
     if is_memory(&logged) {
         return None;
     }
-    if let Err(error) = keep(keeper, prepared.change()) {
+    if let Err(error) = commit_if_changed(keeper, prepared.change()) {
         return not_kept(error, receipt);
     }
     let reply = core.apply(prepared);

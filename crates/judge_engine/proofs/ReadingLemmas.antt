@@ -13,7 +13,7 @@ use Rattle.desk_log.specs.declared.transcript.Transcript.{Transcript}
 use Rattle.log_judge.specs.declared.keeping.Keeping.{Keeping}
 use Rattle.log_judge.specs.declared.stream.Logs.{Logs}
 use Rattle.log_judge.specs.Cut.{no_transcript, runs_at}
-use Rattle.log_judge.specs.Stream.{AreAllLogs, AreLogs, IsLog, no_entries}
+use Rattle.log_judge.specs.Stream.{AreAllLogs, AreLogs, AreOfSome, IsLog, no_entries}
 use Rattle.transcript_text.specs.Texts.{entry_text}
 use Rattle.transcript_reader.specs.declared.openings.Opening.{Opening}
 use Rattle.transcript_reader.specs.declared.runs.SiteRun.{SiteRun}
@@ -424,3 +424,12 @@ adds_ready layout cut keeping earlier front site logs e fits knows =
     let f = adds_there layout cut keeping earlier front site logs (entry_text layout.records e) e [] [] [] fits refl knows (none_left layout) in
     let ts = transcripts_below ((earlier ++ f.runs) ++ []) layout.sites in
     (layout, ts, lengths_of cut ts, left_at (Some site) (e ∷ []), (λ i. runs_of i []), [], knows.there site refl, left_here site (e ∷ []), f.known [])
+
+-- the logs are of some transcripts, and the site is one of theirs
+pub knows_some : (layout : LayoutState) (cut : Option (List ℕ)) (keeping : Keeping) (earlier : List SiteRun) (front : List (List ℕ)) (site : ℕ) (logs : Logs) → Knows layout cut keeping earlier front (Some site) logs
+    → AreOfSome logs × (site < length logs.sites.items)
+knows_some layout cut keeping earlier front site logs knows =
+    let f : Follows layout cut earlier front [] (Some site) [] [] logs = knows.any [] [] [] (none_left layout) tt in
+    let ts = transcripts_below ((earlier ++ f.runs) ++ []) layout.sites in
+    let all = f.known [] in
+    ((layout, ts, lengths_of cut ts, left_at (Some site) [], (λ i. runs_of i []), all), omega (arith, knows.there site refl, all.sites))

@@ -1,13 +1,15 @@
 //! The lines of closed logs are judged while they come, text by text: of them only the front of one that is not whole yet is
 //! kept.
-ghost use Rattle.std.specs.Prelude.{◌≡◌, ◌+◌, ◌++◌, ◌∷◌, [], ℕ, List, Option, IfOk, MatchOption, Some, None};
+ghost use Rattle.std.specs.Prelude.{◌≡◌, ◌+◌, ◌<◌, ◌++◌, ◌∷◌, [], ℕ, List, Option, IfOk, IsTrue, MatchOption, Some, None, false, length, true};
 ghost use Rattle.merge_core.specs.Layout.{LayoutState};
 ghost use Rattle.text_input.specs.Lines.{EndsLine, HasNoLf, lines_of};
 ghost use Rattle.log_judge.specs.declared.keeping.Keeping.{Keeping as KeepingThere};
 ghost use Rattle.transcript_text.specs.Texts.{entry_text};
 ghost use Rattle.transcript_reader.specs.Fits.{FitsEntry};
 ghost use Rattle.transcript_reader.specs.declared.runs.SiteRun.{SiteRun as SiteRunThere};
+ghost use Rattle.log_judge.specs.Stream.{AreOfSome, IsClearAt};
 ghost use Rattle.transcript_reader.specs.Reading.{BeginsRun};
+ghost use Rattle.transcript_reader.specs.Shown.{ShowsSnapshot};
 ghost use Rattle.judge_engine.specs.Reading.{AddsBytes, BeginsText, EndsBytes, HasReadBytes, HasReadLines, Knows, ReadsOn, ReadsTexts};
 
 use crate::cut::Cut;
@@ -19,7 +21,7 @@ use std::alloc::{AllocError, Global};
 use std::mem;
 use text_input::{cut_line, cut_whole_lines};
 use text_parts::Unread;
-use transcript_reader::{Line, Opening, line_in};
+use transcript_reader::{Line, Opening, line_in, shows_snapshot};
 
 /// What the lines of the texts of an input came to so far.
 #[derive(Drop)]
@@ -97,6 +99,38 @@ fn add_entry(alloc: Global, logs: &mut Logs, site: u16, entry: Entry) -> Result<
     Ok(())
 }
 
+// Whether a line is seen to be an entry of a site's last run that tells the snapshot of its core.
+fn is_snapshot_line(logs: &Logs, site: u16, line: &[u8]) -> bool
+    requires site { site < length logs.now.sites.items }
+    requires some { AreOfSome logs.now }
+    ensures { IsTrue result → (core : _) × IsClearAt core site logs.now × ShowsSnapshot core line.now }
+{
+    match logs.clear_core(site) {
+        Some(core) => shows_snapshot(core, line),
+        None => false,
+    }
+}
+
+// Whether a line is seen to be such an entry, which the last run has more then.
+fn add_snapshot(
+    alloc: Global,
+    logs: &mut Logs,
+    site: u16,
+    line: &[u8],
+) -> Result<bool, AllocError>
+    requires { (layout : LayoutState) × (cut : Option (List ℕ)) × (keeping : KeepingThere) × (earlier : List SiteRunThere) × (front : List (List ℕ))
+        × Knows layout cut keeping earlier front (Some site) logs.old }
+    ensures added { IfOk result (λ added. added ≡ true → (layout : LayoutState) (cut : Option (List ℕ)) (keeping : KeepingThere) (earlier : List SiteRunThere) (front : List (List ℕ))
+        → Knows layout cut keeping earlier front (Some site) logs.old → Knows layout cut keeping earlier (front ++ line.now ∷ []) (Some site) logs.new) }
+    ensures other { IfOk result (λ added. added ≡ false → logs.new ≡ logs.old) }
+{
+    if !is_snapshot_line(logs, site, line) {
+        return Ok(false);
+    }
+    logs.add_snapshot(alloc, site)?;
+    Ok(true)
+}
+
 impl Reading {
     /// Before the first byte.
     pub fn new(
@@ -118,6 +152,25 @@ impl Reading {
             refused: None,
             pending: Vec::new(alloc),
         })
+    }
+
+    // Judges the next line if it is seen to be an entry that tells the snapshot of its site's core. Whether it is.
+    fn read_snapshot(&mut self, line: &[u8]) -> Result<bool, AllocError>
+        requires none { self.old.refused ≡ None }
+        requires there { HasReadLines self.old }
+        ensures read { IfOk result (λ read. read ≡ true → ReadsOn self.old (line.now ∷ []) self.new) }
+        ensures other { IfOk result (λ read. read ≡ false → self.new ≡ self.old) }
+        ensures kept { IfOk result (λ _. self.new.pending ≡ self.old.pending) }
+    {
+        let Some(site) = self.site else {
+            return Ok(false);
+        };
+        let number = next_line(self.lines)?;
+        if !add_snapshot(self.alloc, &mut self.logs, site, line)? {
+            return Ok(false);
+        }
+        self.lines = number;
+        Ok(true)
     }
 
     // Judges the next line, or refuses it.
@@ -151,6 +204,19 @@ impl Reading {
         }
     }
 
+    // The same, and an entry that tells the snapshot of its site's core is compared where it stands.
+    fn read_next(&mut self, line: &[u8]) -> Result<(), AllocError>
+        requires none { self.old.refused ≡ None }
+        requires there { HasReadLines self.old }
+        ensures read { IfOk result (λ _. ReadsOn self.old (line.now ∷ []) self.new) }
+        ensures kept { IfOk result (λ _. self.new.pending ≡ self.old.pending) }
+    {
+        if self.read_snapshot(line)? {
+            return Ok(());
+        }
+        self.read_line(line)
+    }
+
     // Judges these lines, up to the first that is refused.
     fn read_lines(&mut self, bytes: &[u8]) -> Result<(), AllocError>
         requires { HasReadLines self.old }
@@ -163,7 +229,7 @@ impl Reading {
                 return Ok(());
             }
             let (line, tail) = cut_line(rest);
-            self.read_line(line)?;
+            self.read_next(line)?;
             rest = tail;
         }
         Ok(())

@@ -5,7 +5,7 @@ use crate::call_log::CallLog;
 use crate::step::step;
 use admission_core::{Call, SiteCore};
 use desk_log::OpenError;
-use durable_keeper::{Keeper, KeeperError};
+use durable_keeper::Keeper;
 use live_keeper::LiveKeeper;
 use merge_core::Layout;
 use std::alloc::Global;
@@ -164,11 +164,7 @@ pub(crate) fn begun<K: Keeper>(
     requires site { site < layout.sites }
     ensures { IsBegunCore K.Keeper keeper.old keeper.new layout site result }
 {
-    let found = match keeper.load(alloc) {
-        Ok(found) => found,
-        Err(KeeperError::Memory) => return Err(OpenError::Memory),
-        Err(KeeperError::StoreFault) => return Err(OpenError::StoreFault),
-    };
+    let found = keeper.load(alloc)?;
     let core = SiteCore::restore(alloc, layout, site, found)?;
     Ok(core)
 }

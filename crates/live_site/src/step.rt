@@ -8,7 +8,7 @@ ghost use Rattle.admission_model.specs.Serving.{after, answer, reason, reply_of}
 ghost use Rattle.admission_model.specs.Durable.{IsEmpty, change_between};
 ghost use Rattle.admission_core.specs.Core.{IsCore, Stands, core_view, is_memory};
 ghost use Rattle.durable_keeper.specs.Keeping.{IsChange};
-ghost use Rattle.desk_log.specs.Desk.{IsMadeFor, KeepsChange};
+ghost use Rattle.desk_log.specs.Desk.{IsMadeFor};
 ghost use Rattle.live_site.specs.Overfull.{overfull_in};
 ghost use Rattle.live_site.specs.Live.{IsLiveStep, freezes, is_outdated, line_of};
 ghost use Rattle.live_site.specs.Steps.{IsNotKept, KeepsCall, KeepsMark, is_refused, unlogged};
@@ -17,6 +17,7 @@ use crate::call_log::{CallLog, LogFault};
 use crate::live_site::Outcome;
 use crate::overfull::overfull_in;
 use admission_core::{Call, Change, Refusal, Reply, SiteCore, is_memory};
+use desk_log::commit_if_changed;
 use durable_keeper::{Keeper, KeeperError};
 use live_keeper::LiveKeeper;
 use script_text::push_reply;
@@ -51,22 +52,6 @@ fn overfull_at(core: &SiteCore, call: &Call, reply: &Reply) -> Option<u16>
     overfull_in(core, call)
 }
 
-// Has a change kept; where nothing changes, no store is called.
-fn keep<K: Keeper>(keeper: &mut K, change: &Change) -> Result<(), KeeperError>
-    requires change { IsChange (K.layout keeper.old) (K.site keeper.old) change.now }
-    requires no_fault { K.faults_of keeper.old ≡ 0 }
-    ensures kept { KeepsChange K.Keeper keeper.old keeper.new change.now result }
-    ensures idle { change.now.cells ≡ [] → change.now.session ≡ None → keeper.new ≡ keeper.old }
-    ensures honest { K.is_honest keeper.new → K.is_honest keeper.old }
-    ensures layout { K.layout keeper.new ≡ K.layout keeper.old }
-    ensures site { K.site keeper.new ≡ K.site keeper.old }
-{
-    if change.is_empty() {
-        return Ok(());
-    }
-    keeper.commit(change)
-}
-
 // Has the mark kept that the store is outdated.
 fn mark<K: LiveKeeper>(keeper: &mut K) -> Result<(), KeeperError>
     ensures marked { KeepsMark K.Keeper K.is_outdated keeper.old keeper.new result }
@@ -95,7 +80,7 @@ fn keep_call<K: LiveKeeper>(
     if is_outdated(reply) {
         return mark(keeper);
     }
-    keep(keeper, change)
+    commit_if_changed(keeper, change)
 }
 
 // How a log's fault is told.

@@ -15,8 +15,9 @@ use Rattle.log_replay.specs.declared.stream.LogFault.{LogFault}
 use Rattle.log_replay.specs.declared.stream.LogFault.TheVariants as fault
 use Rattle.log_replay.specs.declared.stream.Stage.{Stage}
 use Rattle.log_replay.specs.declared.stream.Stage.TheVariants.{Fresh, Open, Ended}
-use Rattle.log_replay.specs.Stream.{HasEnded, IsFaultOf, IsInRun, IsStage, count_of, left_of, length_by}
-use Rattle.log_replay.proofs.StreamLemmas.{legal_last}
+use Rattle.admission_core.specs.Core.{Core, Stands}
+use Rattle.log_replay.specs.Stream.{HasEnded, IsClear, IsFaultOf, IsInRun, IsStage, count_of, left_of, length_by}
+use Rattle.log_replay.proofs.StreamLemmas.{clear_stands, legal_last}
 use Rattle.log_judge.specs.declared.stream.Taken.{Taken}
 use Rattle.log_judge.specs.declared.stream.SiteLog.{SiteLog}
 use Rattle.log_judge.specs.declared.stream.Logs.{Logs}
@@ -365,6 +366,12 @@ logs_set layout ts cut more more2 later later2 logs logs2 i new below keeping it
 -- the log that is to change
 pub log_of : (layout : LayoutState) (ts : List Transcript) (cut : List ℕ) (more : ℕ → List Entry) (later : ℕ → List Run) (logs : Logs) (i : ℕ) (log : SiteLog) → AreLogs layout ts cut more later logs → i < length logs.sites.items → log ≡ get_or logs.sites.items i log → IsLog layout ts cut i logs.keeping (more i) (later i) log
 log_of layout ts cut more later logs i log all below is = subst (IsLog layout ts cut i logs.keeping (more i) (later i)) (sym is) (all.each i below log)
+
+-- a core at which the next entry is replayed stands for some account
+pub logs_stand : (layout : LayoutState) (ts : List Transcript) (cut : List ℕ) (more : ℕ → List Entry) (later : ℕ → List Run) (logs : Logs) (i : ℕ) (log : SiteLog) (core : Core) → AreLogs layout ts cut more later logs → i < length logs.sites.items
+    → log ≡ get_or logs.sites.items i log → IsClear core log.replay.stage → (a : Account) × Stands a core
+logs_stand layout ts cut more later logs i log core all below is clear =
+    clear_stands layout i (runs_at ts i) (more i) (later i) log.replay core (log_of layout ts cut more later logs i log all below is).replaying clear
 
 -- ---- what the loops over the logs know
 

@@ -2,15 +2,18 @@
 use Rattle.std.proofs.Common.{◌≡◌, ℕ, zero, suc, ◌+◌, ◌-◌, ◌<◌, ◌≤◌, ◌⊎◌, inl, inr, Bool, true, false, cond, List, [], ◌∷◌, ◌++◌, length, map, drop, get_or, Option, None, Some, refl, sym, ap, subst, ◌∙◌, arith}
 use Rattle.std.specs.Prelude.{min, ◌||◌, ◌&&◌, MatchOption, IsSome, Vec}
 use Rattle.std.specs.Global.{Global}
-use Rattle.std.proofs.lemmas.Bool.{cases_lt, cases_eq, cond-true, cond-false}
+use Rattle.std.proofs.lemmas.Bool.{cases_lt, cases_eq, cond-true, cond-false, false≢true}
 use Rattle.std.proofs.lemmas.List.{get_or_append_left, get_or-append-add, length-map, length_push}
 use Rattle.merge_core.specs.declared.cell.Cell.{Cell}
 use Rattle.merge_core.specs.declared.delta.Row.{Row}
 use Rattle.merge_core.specs.Layout.{LayoutState}
 use Rattle.merge_core.specs.Rows.{counter_in, counters_of}
+use Rattle.admission_model.specs.declared.ask.Call.{Call}
+use Rattle.admission_model.specs.declared.ask.Call.TheVariants.{Snapshot}
 use Rattle.admission_model.specs.declared.reply.Reply.{Reply}
 use Rattle.admission_model.specs.declared.reply.Reply.TheVariants as reply
 use Rattle.admission_model.specs.Account.{Account, own}
+use Rattle.admission_core.specs.Core.{Core}
 use Rattle.desk_log.specs.declared.entry.Entry.{Entry}
 use Rattle.desk_log.specs.declared.transcript.Run.{Run}
 use Rattle.desk_log.specs.declared.transcript.Transcript.{Transcript}
@@ -21,7 +24,7 @@ use Rattle.log_replay.specs.Replay.{IsPath, IsWay, IsEnd}
 use Rattle.log_replay.specs.declared.stream.Stage.{Stage}
 use Rattle.log_replay.specs.declared.stream.Stage.TheVariants.{Fresh, Open, Ended}
 use Rattle.log_replay.specs.declared.stream.SiteReplay.{SiteReplay}
-use Rattle.log_replay.specs.Stream.{HasEnded, IsHandedBack, IsInRun, IsReplaying, IsSettled, IsStage, count_of, left_of, length_by}
+use Rattle.log_replay.specs.Stream.{HasEnded, IsClear, IsHandedBack, IsInRun, IsReplaying, IsSettled, IsStage, count_of, left_of, length_by}
 use Rattle.log_replay.proofs.WayLemmas.{way_drop, way_length}
 use Rattle.log_judge.specs.declared.stream.Taken.{Taken}
 use Rattle.log_judge.specs.declared.stream.SiteLog.{SiteLog}
@@ -466,6 +469,27 @@ module _ (layout : LayoutState) (ts : List Transcript) (cut : List ℕ) (i : ℕ
               let bound : settled_in mid ≡ old.replay.at = omega (arith, one, at_next) in
               subst (λ (n : ℕ). AreKept A lists (min n c) new) (sym bound)
               (subst (AreKept A lists (min old.replay.at c)) (sym (unchanged wanted (subst (TakesBack keeping mid new old.replay.at wanted) is_back takes))) (before going guess))
+
+
+  -- An entry that is answered by the core's own snapshot brought no rows.
+  pub log_shown : (keeping : Keeping) (e : Entry) (more : List Entry) (later : List Run) (old new : SiteLog) (core : Core) → IsLog layout ts cut i keeping (e ∷ more) later old → IsClear core old.replay.stage → e.call ≡ Snapshot
+      → IsReplaying layout i (runs_at ts i) more later new.replay → new.taken ≡ old.taken → new.dropped ≡ old.dropped → IsHandedBack e new.replay.stage (Some e) → new.replay.stage ≡ old.replay.stage
+      → new.replay.cut ≡ old.replay.cut → new.replay.at ≡ old.replay.at + 1 → IsLog layout ts cut i keeping more later new
+  log_shown keeping e more later old new core log clear asks replaying taken dropped handed stage cut_same at_next =
+      log_on keeping e more later old new new false (Some e) log (λ off. none_done (cut_account layout ts cut) (site_brought layout ts i) (rows_brought false e) none) (λ wrong. absurd (false≢true wrong)) replaying taken dropped handed
+      (λ going. nothing_left old.replay.stage clear) (λ over. subst HasEnded (sym stage) over) cut_same at_next refl
+    where
+      either : (accepted : Bool) → cond accepted (merge_rows Snapshot) [] ≡ []
+      either true = refl
+      either false = refl
+
+      none : rows_brought false e ≡ []
+      none = ap (λ (call : Call). cond (is_accepted false e.reply) (merge_rows call) []) asks ∙ either (is_accepted false e.reply)
+
+      nothing_left : (s : Stage) → IsClear core s → left_of s ≡ []
+      nothing_left Fresh is = absurd is
+      nothing_left (Open c left) is = is.1
+      nothing_left (Ended fault) is = absurd is
 
   -- ---- a run begins
 

@@ -11,7 +11,8 @@ use Rattle.desk_log.specs.declared.transcript.Run.{Run}
 use Rattle.desk_log.specs.declared.transcript.Transcript.{Transcript}
 use Rattle.multi_site_world.specs.Laws.{StandsIn}
 use Rattle.log_replay.specs.Replay.{TellsOwn}
-use Rattle.log_replay.specs.Stream.{HasEnded, IsReplaying, count_of, left_of, length_by}
+use Rattle.admission_core.specs.Core.{Core}
+use Rattle.log_replay.specs.Stream.{HasEnded, IsClear, IsReplaying, count_of, left_of, length_by}
 use Rattle.log_judge.specs.declared.stream.Taken.{Taken}
 use Rattle.log_judge.specs.declared.stream.SiteLog.{SiteLog}
 use Rattle.log_judge.specs.declared.stream.Logs.{Logs}
@@ -145,6 +146,10 @@ AreOfSome logs = (layout : LayoutState) × (ts : List Transcript) × (cut : List
 -- whatever transcripts and cut these are logs of, this holds of the accounts at the cut
 abbrev pub AtTheirCut : Logs → ((ℕ → Account) → Type 0) → Type 0
 AtTheirCut logs P = (layout : LayoutState) (ts : List Transcript) (cut : List ℕ) (more : ℕ → List Entry) (later : ℕ → List Run) → AreLogs layout ts cut more later logs → P (cut_account layout ts cut)
+
+-- the last run of a site has begun with this core, and no call is in doubt
+abbrev pub IsClearAt : Core → ℕ → Logs → Type 0
+IsClearAt core site logs = (none : SiteLog) → IsClear core (slice_index_or logs.sites.items site none).replay.stage
 
 -- nothing is to come
 abbrev pub no_entries : ℕ → List Entry

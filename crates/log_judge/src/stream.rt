@@ -8,20 +8,21 @@ ghost use Rattle.admission_model.specs.Account.{Account as AccountThere, own};
 ghost use Rattle.desk_log.specs.declared.entry.Entry.{Entry as EntryThere};
 ghost use Rattle.desk_log.specs.declared.transcript.Run.{Run as RunThere};
 ghost use Rattle.desk_log.specs.declared.transcript.Transcript.{Transcript as TranscriptThere};
-ghost use Rattle.log_replay.specs.Stream.{count_of, length_by};
+ghost use Rattle.admission_core.specs.Core.{Core as CoreThere, Stands};
+ghost use Rattle.log_replay.specs.Stream.{IsClear, IsShownBy, count_of, length_by};
 ghost use Rattle.log_judge.specs.Cut.{cut_account, full_cut, is_accepted, merge_rows, rows_brought, runs_at};
 ghost use Rattle.log_judge.specs.Table.{cut_table};
 ghost use Rattle.log_judge.specs.Verdict.{AreOfSites, IsCut, IsVerdict};
 ghost use Rattle.log_judge.specs.Excess.{IsFoundAt};
 ghost use Rattle.log_judge.specs.declared.keeping.Keeping.{Keeping as KeepingThere};
 ghost use Rattle.log_judge.specs.declared.keeping.Keeping.TheVariants.{All as KeepsAll};
-ghost use Rattle.log_judge.specs.Stream.{AreAllLogs, AreDone, AreLogs, AreNotAhead, AreOfSome, AreTables, AreTaken, AtTheirCut, HasNoFault, IsGuess, IsLog, IsOpen, IsUntold, Keeps, KeepsWithin, Pushes, Takes, TakesBack, TakesKept, TellAll, no_entries};
+ghost use Rattle.log_judge.specs.Stream.{AreAllLogs, AreDone, AreLogs, AreNotAhead, AreOfSome, AreTables, AreTaken, AtTheirCut, HasNoFault, IsClearAt, IsGuess, IsLog, IsOpen, IsUntold, Keeps, KeepsWithin, Pushes, Takes, TakesBack, TakesKept, TellAll, no_entries};
 
 use crate::excess::{Place, first_ahead, is_accepted};
 use crate::keeping::Keeping;
 use crate::table::{push_counts, table_header};
 use crate::verdict::Verdict;
-use admission_core::{Call, Durable};
+use admission_core::{Call, Durable, SiteCore};
 use desk_log::Entry;
 use log_replay::{LogFault, OwnRows, SiteReplay};
 use merge_core::{Delta, Layout, Row};
@@ -257,6 +258,16 @@ impl SiteLog {
         let back = self.replay.add_entry(alloc, entry)?;
         self.take_back(keeping, at, wanted, back)
     }
+
+    // The last run has one entry more, which is answered by the snapshot that its core makes: it brought no rows.
+    fn add_snapshot(&mut self, alloc: Global) -> Result<(), AllocError>
+        requires { (layout : LayoutState) × (ts : List TranscriptThere) × (cut : List ℕ) × (i : ℕ) × (keeping : KeepingThere) × (e : EntryThere) × (more : List EntryThere) × (later : List RunThere)
+            × IsLog layout ts cut i keeping (e ∷ more) later self.old }
+        ensures { IfOk result (λ _. (core : CoreThere) (layout : LayoutState) (ts : List TranscriptThere) (cut : List ℕ) (i : ℕ) (keeping : KeepingThere) (e : EntryThere) (more : List EntryThere) (later : List RunThere)
+            → IsClear core self.old.replay.stage → IsShownBy core e → IsLog layout ts cut i keeping (e ∷ more) later self.old → IsLog layout ts cut i keeping more later self.new) }
+    {
+        self.replay.add_snapshot(alloc)
+    }
 }
 
 // The length of a cut at a site; 0 where it has none.
@@ -366,6 +377,30 @@ impl Logs {
     {
         let wanted = is_wanted(&entry, self);
         self.sites[usize::from(site)].add_entry(alloc, &self.keeping, entry, wanted)
+    }
+
+    /// The core of the last run of a site, where no call is in doubt.
+    pub fn clear_core(&self, site: u16) -> Option<&SiteCore>
+        requires site { site < length self.now.sites.items }
+        requires some { AreOfSome self.now }
+        ensures clear { MatchOption result (Unit {0}) (λ core. IsClearAt core.now site self.now) }
+        ensures stands { MatchOption result (Unit {0}) (λ core. (a : AccountThere) × Stands a core.now) }
+    {
+        self.sites[usize::from(site)].replay.clear_core()
+    }
+
+    /// The last run of a site has one entry more, which asks for a snapshot and is answered by the one that its core makes.
+    /// Nothing is made of it.
+    pub fn add_snapshot(&mut self, alloc: Global, site: u16) -> Result<(), AllocError>
+        requires { (layout : LayoutState) × (ts : List TranscriptThere) × (cut : List ℕ) × (more : ℕ → List EntryThere) × (later : ℕ → List RunThere) × (e : EntryThere) × (rest : List EntryThere)
+            × (site < layout.sites) × (more site ≡ e ∷ rest) × AreLogs layout ts cut more later self.old }
+        ensures keeping { IfOk result (λ _. self.new.keeping ≡ self.old.keeping) }
+        ensures logs { IfOk result (λ _. (core : CoreThere) (e : EntryThere) → IsClearAt core site self.old → IsShownBy core e
+            → (layout : LayoutState) (ts : List TranscriptThere) (cut : List ℕ) (more more2 : ℕ → List EntryThere) (later : ℕ → List RunThere) (rest : List EntryThere)
+            → site < layout.sites → more site ≡ e ∷ rest → more2 site ≡ rest → ((j : ℕ) → j ≢ site → more2 j ≡ more j)
+            → AreLogs layout ts cut more later self.old → AreLogs layout ts cut more2 later self.new) }
+    {
+        self.sites[usize::from(site)].add_snapshot(alloc)
     }
 
     /// The cut at the end of each log, once all entries came.

@@ -1,13 +1,19 @@
 -- A site's entries and runs as they come, whatever comes behind them.
 use Rattle.std.proofs.Common.{◌≡◌, ℕ, suc, ◌+◌, ◌-◌, ◌<◌, ◌≤◌, ◌⊎◌, inl, inr, Bool, true, false, cond, ltb, List, [], ◌∷◌, ◌++◌, length, take, Option, None, Some, refl, sym, ap, subst, ◌∙◌, append-nil, arith}
-use Rattle.std.proofs.lemmas.Bool.{cond-true, cond-false, lt-ltb, le-ltb, cases_eq}
+use Rattle.std.proofs.lemmas.Bool.{cond-true, cond-false, lt-ltb, le-ltb, cases_eq, false≢true}
 use Rattle.merge_core.specs.declared.delta.Row.{Row}
 use Rattle.merge_core.specs.declared.layout.RecordSpec.{RecordSpec}
 use Rattle.merge_core.specs.Layout.{LayoutState, at_sites}
+use Rattle.admission_model.specs.declared.ask.Call.{Call}
+use Rattle.admission_model.specs.declared.ask.Call.TheVariants.{Snapshot}
+use Rattle.admission_model.specs.declared.reply.Reply.{Reply}
 use Rattle.admission_model.specs.Account.{Account, Origin, start_origin}
-use Rattle.admission_model.specs.View.{view_of}
+use Rattle.admission_model.specs.declared.reply.Reply.TheVariants.{Snapshot as SnapshotReply}
+use Rattle.admission_model.specs.Merging.{snapshot_of}
+use Rattle.admission_model.specs.View.{View, view_of}
 use Rattle.admission_model.specs.Serving.{after, reply_of}
 use Rattle.admission_core.specs.Core.{Core, Stands, SameContent}
+use Rattle.admission_core.proofs.CoreLemmas.{shows_account}
 use Rattle.admission_core.proofs.ReadyLemmas.{stands_along}
 use Rattle.std.specs.Prelude.{◌↔◌, IsTrue}
 use Rattle.admission_core.specs.Kept.{durable_of}
@@ -20,7 +26,7 @@ use Rattle.log_replay.specs.declared.stream.LogFault.TheVariants.{BadJoint, BadR
 use Rattle.log_replay.specs.declared.stream.Stage.{Stage}
 use Rattle.log_replay.specs.declared.stream.Stage.TheVariants.{Fresh, Open, Ended}
 use Rattle.log_replay.specs.declared.stream.SiteReplay.{SiteReplay}
-use Rattle.log_replay.specs.Stream.{count_of, left_of, length_by, HasEnded, IsDoubted, IsDoubtKept, IsFaultOf, IsInRun, IsMarkedAt, IsReplaying, IsSettled, IsStage}
+use Rattle.log_replay.specs.Stream.{CarriesOut, count_of, left_of, length_by, HasEnded, IsClear, IsDoubted, IsDoubtKept, IsFaultOf, IsHandedBack, IsInRun, IsMarkedAt, IsReplaying, IsSettled, IsShownBy, IsStage, IsTried}
 use Rattle.log_replay.proofs.EntryLemmas.{fault_is_other, carried}
 use Rattle.log_replay.proofs.WayLemmas.{way_more, way_length, way_account, way_origin, way_legal, way_bad, way_answered, way_tried}
 use Rattle.log_replay.proofs.RunLemmas.{settled_next, last_settled, after_run_origin}
@@ -184,6 +190,111 @@ doubted_on layout i runs e more later core new left at ok stage none it off tell
     go Fresh ans kept2 = absurd kept2
     go (Open c left2) ans kept2 = let it2 = ans r.reached stood in entry_doubted layout i runs e more later core c left2.items at r kept2 it2.0 it2.1
     go (Ended fault) ans kept2 = subst (IsFaultOf layout i runs) (sym kept2) (entry_refused layout i runs e more later core at r other (ans r.reached stood))
+
+-- ---- an entry that was tried
+
+is_empty : (xs : List Entry) → (xs ≡ []) ⊎ (xs ≡ [] → ⊥)
+is_empty [] = inl refl
+is_empty (x ∷ xs) = inr (λ none. let size : length (x ∷ xs) ≡ 0 = ap (λ (ys : List Entry). length ys) none in omega (arith, size))
+
+-- its reply is the model's
+pub tried_on : (layout : LayoutState) (i : ℕ) (runs : List Run) (e : Entry) (more : List Entry) (later : List Run) (at : ℕ) (old new : Stage) → IsTried old e true new → IsStage layout i runs (e ∷ more) later at old
+    → IsStage layout i runs more later (at + 1) new
+tried_on layout i runs e more later at Fresh new tried is = absurd (false≢true (sym tried.0))
+tried_on layout i runs e more later at (Ended fault) new tried is = absurd (false≢true (sym tried.0))
+tried_on layout i runs e more later at (Open core left) Fresh tried is = absurd tried
+tried_on layout i runs e more later at (Open core left) (Ended fault) tried is = absurd tried
+tried_on layout i runs e more later at (Open core left) (Open new left2) tried is = go (is_empty left.items)
+  where
+    go : (left.items ≡ []) ⊎ (left.items ≡ [] → ⊥) → IsInRun layout i runs more later new left2.items (at + 1)
+    go (inr some) = absurd (false≢true (sym (tried.2 some).0))
+    go (inl none) =
+        let out = tried.1 none in
+        subst (λ (xs : List Entry). IsInRun layout i runs more later new xs (at + 1)) (sym tried.0)
+        (followed_on layout i runs e more later core new left.items at none is (λ b stands. (out.tells b stands).0 refl) out.stands)
+
+-- nothing was in doubt then
+pub tried_free : (e : Entry) (old new : Stage) → IsTried old e true new → left_of old ≡ []
+tried_free e Fresh new tried = refl
+tried_free e (Ended fault) new tried = refl
+tried_free e (Open core left) Fresh tried = absurd tried
+tried_free e (Open core left) (Ended fault) tried = absurd tried
+tried_free e (Open core left) (Open new left2) tried = go (is_empty left.items)
+  where
+    go : (left.items ≡ []) ⊎ (left.items ≡ [] → ⊥) → left.items ≡ []
+    go (inl none) = none
+    go (inr some) = absurd (false≢true (sym (tried.2 some).0))
+
+pub tried_back : (e : Entry) (old new : Stage) → IsTried old e true new → IsHandedBack e new (Some e)
+tried_back e Fresh new tried = absurd (false≢true (sym tried.0))
+tried_back e (Ended fault) new tried = absurd (false≢true (sym tried.0))
+tried_back e (Open core left) Fresh tried = absurd tried
+tried_back e (Open core left) (Ended fault) tried = absurd tried
+tried_back e (Open core left) (Open new left2) tried =
+    let none : left.items ≡ [] = tried_free e (Open core left) (Open new left2) tried in
+    (refl, (tried.0 ∙ none, (tried.1 none).plain refl))
+
+-- whatever came of it, the same is in doubt, and an end stays one
+pub tried_left : (e : Entry) (ok : Bool) (old new : Stage) → IsTried old e ok new → left_of new ≡ left_of old
+tried_left e ok Fresh new tried = ap (λ (s : Stage). left_of s) tried.1
+tried_left e ok (Ended fault) new tried = ap (λ (s : Stage). left_of s) tried.1
+tried_left e ok (Open core left) Fresh tried = absurd tried
+tried_left e ok (Open core left) (Ended fault) tried = absurd tried
+tried_left e ok (Open core left) (Open new left2) tried = tried.0
+
+pub tried_ended : (e : Entry) (ok : Bool) (old new : Stage) → IsTried old e ok new → HasEnded old → HasEnded new
+tried_ended e ok Fresh new tried over = absurd over
+tried_ended e ok (Open core left) new tried over = absurd over
+tried_ended e ok (Ended fault) new tried over = subst HasEnded (sym tried.1) tt
+
+-- its reply is not, or was not looked at
+pub refused_on : (layout : LayoutState) (i : ℕ) (runs : List Run) (e : Entry) (more : List Entry) (later : List Run) (before core : Core) (left : List Entry) (at : ℕ) (stage : Stage) → left ≡ [] → CarriesOut before core e false
+    → IsInRun layout i runs (e ∷ more) later before left at → ((a : Account) → (is_fault e.reply ≡ true → Stands a core) → IsDoubted a e stage) → IsDoubtKept e at stage → IsStage layout i runs more later (at + 1) stage
+refused_on layout i runs e more later before core left at stage none out is answer kept =
+    doubted_on layout i runs e more later before core left at false stage none is refl out.tells out.stands answer kept
+
+-- ---- an entry that is the core's own snapshot
+
+-- the core stands for some account
+pub clear_stands : (layout : LayoutState) (i : ℕ) (runs : List Run) (more : List Entry) (later : List Run) (it : SiteReplay) (core : Core) → IsReplaying layout i runs more later it → IsClear core it.stage
+    → (a : Account) × Stands a core
+clear_stands layout i runs more later it core replaying clear = at it.stage replaying.stage clear
+  where
+    at : (stage : Stage) → IsStage layout i runs more later it.at stage → IsClear core stage → (a : Account) × Stands a core
+    at Fresh is clear = absurd clear
+    at (Open c left) is clear = (is.reached, subst (Stands is.reached) clear.0 is.stands)
+    at (Ended fault) is clear = absurd clear
+
+pub clear_left : (core : Core) (stage : Stage) → IsClear core stage → left_of stage ≡ []
+clear_left core Fresh clear = absurd clear
+clear_left core (Open c left) clear = clear.1
+clear_left core (Ended fault) clear = absurd clear
+
+-- the replay goes on at the same core
+pub shown_on : (layout : LayoutState) (i : ℕ) (runs : List Run) (e : Entry) (more : List Entry) (later : List Run) (at : ℕ) (core : Core) (stage : Stage) → IsStage layout i runs (e ∷ more) later at stage → IsClear core stage → IsShownBy core e
+    → IsStage layout i runs more later (at + 1) stage × IsHandedBack e stage (Some e)
+shown_on layout i runs e more later at core Fresh is clear shown = absurd clear
+shown_on layout i runs e more later at core (Ended fault) is clear shown = absurd clear
+shown_on layout i runs e more later at core (Open c left) is clear shown =
+    (followed_on layout i runs e more later c c left.items at clear.1 is replied stood, (refl, (clear.1, no_fault)))
+  where
+    told : (b : Account) → Stands b c → e.reply ≡ reply_of (view_of b) Snapshot
+    told b stands =
+        let mine : Stands b core = subst (Stands b) clear.0 stands in
+        shown.1 ∙ ap (λ (v : View). SnapshotReply (snapshot_of v)) (shows_account b core mine)
+
+    replied : (b : Account) → Stands b c → e.reply ≡ reply_of (view_of b) e.call
+    replied b stands = told b stands ∙ ap (λ (call : Call). reply_of (view_of b) call) (sym shown.0)
+
+    either : (b : Account) → Stands b c → (fault : Bool) → Stands (cond fault b (after b Snapshot)) c
+    either b stands true = stands
+    either b stands false = stands
+
+    stood : (b : Account) → Stands b c → Stands (cond (is_fault e.reply) b (after b e.call)) c
+    stood b stands = subst (λ (call : Call). Stands (cond (is_fault e.reply) b (after b call)) c) (sym shown.0) (either b stands (is_fault e.reply))
+
+    no_fault : is_fault e.reply ≡ false
+    no_fault = ap (λ (r : Reply). is_fault r) (told is.reached is.stands)
 
 -- ---- a run that begins behind another one
 

@@ -1,14 +1,16 @@
 -- Replaying a site's entries as they come, whatever comes behind them: of all runs of the site, these entries of the last
 -- run that has begun, and these runs, are still to come (this project's own).
-use Rattle.std.specs.Prelude.{◌≡◌, ℕ, ◌+◌, ◌<◌, ◌≤◌, Bool, List, [], ◌∷◌, ◌++◌, length, true, false, if◌then◌else◌, Option, None, Some, Vec}
+use Rattle.std.specs.Prelude.{◌≡◌, ◌≢◌, ◌↔◌, IsTrue, ℕ, ◌+◌, ◌<◌, ◌≤◌, Bool, List, [], ◌∷◌, ◌++◌, length, true, false, if◌then◌else◌, Option, None, Some, Vec}
 use Rattle.std.specs.Global.{Global}
 use Rattle.merge_core.specs.declared.delta.Row.{Row}
 use Rattle.merge_core.specs.Layout.{LayoutState, at_sites}
 use Rattle.admission_model.specs.declared.ask.Call.TheVariants.{Snapshot}
+use Rattle.admission_model.specs.declared.reply.Reply.TheVariants.{Snapshot as SnapshotReply}
 use Rattle.admission_model.specs.Account.{Account, start_origin}
-use Rattle.admission_model.specs.Serving.{reply_of}
+use Rattle.admission_model.specs.Merging.{snapshot_of}
+use Rattle.admission_model.specs.Serving.{after, reply_of}
 use Rattle.admission_model.specs.View.{view_of}
-use Rattle.admission_core.specs.Core.{Core, Stands}
+use Rattle.admission_core.specs.Core.{Core, Stands, core_view}
 use Rattle.desk_log.specs.declared.entry.Entry.{Entry}
 use Rattle.desk_log.specs.declared.transcript.Run.{Run}
 use Rattle.desk_log.specs.Log.{is_fault}
@@ -92,6 +94,21 @@ IsHandedBack e (Open core left) None = left.items ≡ e ∷ []
 IsHandedBack e Fresh x = x ≡ None
 IsHandedBack e (Ended fault) x = x ≡ None
 
+-- a core has carried an entry out, and this tells whether its reply is the model's
+pub record CarriesOut (old new : Core) (e : Entry) (ok : Bool) : Type 0 where
+  pub tells : (a : Account) → Stands a old → IsTrue ok ↔ (e.reply ≡ reply_of (view_of a) e.call)
+  pub plain : ok ≡ true → is_fault e.reply ≡ false
+  pub stands : (a : Account) → Stands a old → Stands (if is_fault e.reply then a else after a e.call) new
+
+-- it has at a stage, unless a call is in doubt there or no run is open
+abbrev pub IsTried : Stage → Entry → Bool → Stage → Type 0
+IsTried Fresh e ok new = (ok ≡ false) × (new ≡ Fresh)
+IsTried (Ended fault) e ok new = (ok ≡ false) × (new ≡ Ended fault)
+IsTried (Open core left) e ok Fresh = ⊥
+IsTried (Open core left) e ok (Ended fault) = ⊥
+IsTried (Open core left) e ok (Open new after) =
+    (after.items ≡ left.items) × ((left.items ≡ [] → CarriesOut core new e ok) × (left.items ≢ [] → (ok ≡ false) × (new ≡ core)))
+
 -- a run has begun with this core, and no call is in doubt
 abbrev pub IsClear : Core → Stage → Type 0
 IsClear c Fresh = ⊥
@@ -100,7 +117,7 @@ IsClear c (Ended fault) = ⊥
 
 -- an entry asks for a snapshot, and is answered by the one that the core makes
 abbrev pub IsShownBy : Core → Entry → Type 0
-IsShownBy core e = (e.call ≡ Snapshot) × ((a : Account) → Stands a core → e.reply ≡ reply_of (view_of a) Snapshot)
+IsShownBy core e = (e.call ≡ Snapshot) × (e.reply ≡ SnapshotReply (snapshot_of (core_view core)))
 
 -- A run is followed by these. Its last entry is in doubt, is the one in front of so many, and is carried out where it is
 -- among those that were kept.

@@ -1,5 +1,5 @@
 //! The transcript of one site, replayed entry by entry as it comes.
-ghost use Rattle.std.specs.Prelude.{◌≡◌, ◌+◌, ◌<◌, ◌≤◌, ◌∷◌, [], None, true, ℕ, List, IfOk, IsSome, IsTrue, MatchOption, if◌then◌else◌, length};
+ghost use Rattle.std.specs.Prelude.{◌≡◌, ◌≢◌, ◌+◌, ◌<◌, ◌≤◌, ◌∷◌, [], None, Some, false, true, ℕ, List, IfOk, IsSome, IsTrue, MatchOption, if◌then◌else◌, length};
 ghost use Rattle.merge_core.specs.Layout.{LayoutState};
 ghost use Rattle.merge_core.specs.declared.cell.Cell.{Cell as CellThere};
 ghost use Rattle.merge_core.specs.Rows.{counter_in, counters_of};
@@ -10,8 +10,9 @@ ghost use Rattle.desk_log.specs.declared.transcript.Run.{Run as RunThere};
 ghost use Rattle.desk_log.specs.Log.{is_fault};
 ghost use Rattle.log_replay.specs.Legal.{start_account, account_at};
 ghost use Rattle.log_replay.specs.Replay.{TellsOwn};
+ghost use Rattle.log_replay.specs.declared.stream.Stage.{Stage as StageThere};
 ghost use Rattle.log_replay.specs.declared.stream.Stage.TheVariants.{Ended as EndedThere};
-ghost use Rattle.log_replay.specs.Stream.{HasEnded, IsClear, IsDoubted, IsDoubtKept, IsHandedBack, IsInRun, IsMarkedAt, IsReplaying, IsSettled, IsShownBy, IsStage, count_of, left_of, length_by, stage_behind, stage_or};
+ghost use Rattle.log_replay.specs.Stream.{CarriesOut, HasEnded, IsClear, IsDoubted, IsDoubtKept, IsHandedBack, IsInRun, IsMarkedAt, IsReplaying, IsSettled, IsShownBy, IsStage, IsTried, count_of, left_of, length_by, stage_behind, stage_or};
 
 use crate::done::{is_done_by, is_done_in};
 use crate::entries::{follow_one, may_end};
@@ -166,76 +167,76 @@ fn doubted(
     Ok(Some(LogFault::BadReply(at)))
 }
 
-// Follows one entry more, where nothing is in doubt: the fault where it can't stand, and the entry, if its reply is the
-// model's.
-fn followed_clear(
-    core: &mut SiteCore,
-    left: &mut Vec<Entry>,
-    entry: Entry,
-    at: u64,
-) -> Result<(Option<LogFault>, Option<Entry>), AllocError>
-    requires { left.old.items ≡ [] }
-    ensures stage { IfOk result (λ x. (layout : LayoutState) (i : ℕ) (runs : List RunThere) (more : List EntryThere) (later : List RunThere)
-        → IsInRun layout i runs (entry ∷ more) later core.old left.old.items at → IsStage layout i runs more later (at + 1) (stage_behind core.new left.new x.0)) }
-    ensures back { IfOk result (λ x. IsHandedBack entry (stage_behind core.new left.new x.0) x.1) }
-    ensures free { IfOk result (λ x. (¬ HasEnded (stage_behind core.new left.new x.0)) → left.old.items ≡ []) }
-{
-    if follow_one(core, &entry)? {
-        return Ok((None, Some(entry)));
-    }
-    Ok((doubted(core, left, entry, at)?, None))
-}
-
-// The same, whatever is in doubt.
-fn followed(
-    core: &mut SiteCore,
-    left: &mut Vec<Entry>,
-    entry: Entry,
-    at: u64,
-) -> Result<(Option<LogFault>, Option<Entry>), AllocError>
-    ensures stage { IfOk result (λ x. (layout : LayoutState) (i : ℕ) (runs : List RunThere) (more : List EntryThere) (later : List RunThere)
-        → IsInRun layout i runs (entry ∷ more) later core.old left.old.items at → IsStage layout i runs more later (at + 1) (stage_behind core.new left.new x.0)) }
-    ensures back { IfOk result (λ x. IsHandedBack entry (stage_behind core.new left.new x.0) x.1) }
-    ensures free { IfOk result (λ x. (¬ HasEnded (stage_behind core.new left.new x.0)) → left.old.items ≡ []) }
+// Follows one entry more, unless a call is in doubt: whether its reply is the model's.
+fn followed(core: &mut SiteCore, left: &[Entry], entry: &Entry) -> Result<bool, AllocError>
+    ensures clear { IfOk result (λ ok. left.now ≡ [] → CarriesOut core.old core.new entry.now ok) }
+    ensures doubt { IfOk result (λ ok. left.now ≢ [] → (ok ≡ false) × (core.new ≡ core.old)) }
 {
     if !left.is_empty() {
-        return Ok((Some(LogFault::BadReply(at.saturating_sub(1))), None));
+        return Ok(false);
     }
-    followed_clear(core, left, entry, at)
+    follow_one(core, entry)
 }
 
 // The same at any stage.
-fn followed_at(
-    stage: &mut Stage,
-    entry: Entry,
-    at: u64,
-) -> Result<(Option<LogFault>, Option<Entry>), AllocError>
-    ensures stage { IfOk result (λ x. (layout : LayoutState) (i : ℕ) (runs : List RunThere) (more : List EntryThere) (later : List RunThere)
-        → IsStage layout i runs (entry ∷ more) later at stage.old → IsStage layout i runs more later (at + 1) (stage_or stage.new x.0)) }
-    ensures back { IfOk result (λ x. IsHandedBack entry (stage_or stage.new x.0) x.1) }
-    ensures free { IfOk result (λ x. (¬ HasEnded (stage_or stage.new x.0)) → left_of stage.old ≡ []) }
-    ensures ended { IfOk result (λ x. HasEnded stage.old → HasEnded (stage_or stage.new x.0)) }
+fn followed_at(stage: &mut Stage, entry: &Entry) -> Result<bool, AllocError>
+    ensures { IfOk result (λ ok. IsTried stage.old entry.now ok stage.new) }
 {
     match stage {
-        Stage::Open(core, left) => followed(core, left, entry, at),
-        Stage::Fresh => Ok((None, None)),
-        Stage::Ended(_) => Ok((None, None)),
+        Stage::Open(core, left) => followed(core, left.as_slice(), entry),
+        Stage::Fresh => Ok(false),
+        Stage::Ended(_) => Ok(false),
     }
 }
 
-// Adds an entry to a stage, and hands it back if its reply is the model's.
-fn add_to(stage: &mut Stage, entry: Entry, at: u64) -> Result<Option<Entry>, AllocError>
-    ensures stage { IfOk result (λ _. (layout : LayoutState) (i : ℕ) (runs : List RunThere) (more : List EntryThere) (later : List RunThere)
-        → IsStage layout i runs (entry ∷ more) later at stage.old → IsStage layout i runs more later (at + 1) stage.new) }
-    ensures back { IfOk result (λ back. IsHandedBack entry stage.new back) }
+// An entry that was tried in vain is in doubt, or can't stand: the fault then.
+fn refused(
+    core: &mut SiteCore,
+    left: &mut Vec<Entry>,
+    entry: Entry,
+    at: u64,
+) -> Result<Option<LogFault>, AllocError>
+    ensures stage { IfOk result (λ fault. (before : CoreThere) → (left.old.items ≡ [] → CarriesOut before core.old entry false) → (left.old.items ≢ [] → core.old ≡ before)
+        → (layout : LayoutState) (i : ℕ) (runs : List RunThere) (more : List EntryThere) (later : List RunThere)
+        → IsInRun layout i runs (entry ∷ more) later before left.old.items at → IsStage layout i runs more later (at + 1) (stage_behind core.new left.new fault)) }
+    ensures back { IfOk result (λ fault. IsHandedBack entry (stage_behind core.new left.new fault) None) }
+    ensures free { IfOk result (λ fault. (¬ HasEnded (stage_behind core.new left.new fault)) → left.old.items ≡ []) }
+{
+    if !left.is_empty() {
+        return Ok(Some(LogFault::BadReply(at.saturating_sub(1))));
+    }
+    doubted(core, left, entry, at)
+}
+
+// The same at any stage.
+fn refused_at(stage: &mut Stage, entry: Entry, at: u64) -> Result<Option<LogFault>, AllocError>
+    ensures stage { IfOk result (λ fault. (before : StageThere) → IsTried before entry false stage.old
+        → (layout : LayoutState) (i : ℕ) (runs : List RunThere) (more : List EntryThere) (later : List RunThere)
+        → IsStage layout i runs (entry ∷ more) later at before → IsStage layout i runs more later (at + 1) (stage_or stage.new fault)) }
+    ensures back { IfOk result (λ fault. IsHandedBack entry (stage_or stage.new fault) None) }
+    ensures free { IfOk result (λ fault. (¬ HasEnded (stage_or stage.new fault)) → left_of stage.old ≡ []) }
+    ensures ended { IfOk result (λ fault. HasEnded stage.old → HasEnded (stage_or stage.new fault)) }
+{
+    match stage {
+        Stage::Open(core, left) => refused(core, left, entry, at),
+        Stage::Fresh => Ok(None),
+        Stage::Ended(_) => Ok(None),
+    }
+}
+
+// Keeps such an entry as the one in doubt, or ends the run there.
+fn refuse_at(stage: &mut Stage, entry: Entry, at: u64) -> Result<(), AllocError>
+    ensures stage { IfOk result (λ _. (before : StageThere) → IsTried before entry false stage.old
+        → (layout : LayoutState) (i : ℕ) (runs : List RunThere) (more : List EntryThere) (later : List RunThere)
+        → IsStage layout i runs (entry ∷ more) later at before → IsStage layout i runs more later (at + 1) stage.new) }
+    ensures back { IfOk result (λ _. IsHandedBack entry stage.new None) }
     ensures free { IfOk result (λ _. (¬ HasEnded stage.new) → left_of stage.old ≡ []) }
     ensures ended { IfOk result (λ _. HasEnded stage.old → HasEnded stage.new) }
 {
-    let (fault, back) = followed_at(stage, entry, at)?;
-    if let Some(fault) = fault {
+    if let Some(fault) = refused_at(stage, entry, at)? {
         *stage = Stage::Ended(fault);
     }
-    Ok(back)
+    Ok(())
 }
 
 impl SiteReplay {
@@ -321,7 +322,11 @@ impl SiteReplay {
         self.mark_cut(alloc)?;
         let at = self.at;
         self.at = one_more(at)?;
-        add_to(&mut self.stage, entry, at)
+        if followed_at(&mut self.stage, &entry)? {
+            return Ok(Some(entry));
+        }
+        refuse_at(&mut self.stage, entry, at)?;
+        Ok(None)
     }
 
     /// The core of the run that has begun, where no call is in doubt.
@@ -341,6 +346,8 @@ impl SiteReplay {
             × IsReplaying layout i runs (e ∷ more) later self.old }
         ensures replaying { IfOk result (λ _. (core : CoreThere) (layout : LayoutState) (i : ℕ) (runs : List RunThere) (e : EntryThere) (more : List EntryThere) (later : List RunThere)
             → IsClear core self.old.stage → IsShownBy core e → IsReplaying layout i runs (e ∷ more) later self.old → IsReplaying layout i runs more later self.new) }
+        ensures back { IfOk result (λ _. (core : CoreThere) (layout : LayoutState) (i : ℕ) (runs : List RunThere) (e : EntryThere) (more : List EntryThere) (later : List RunThere)
+            → IsClear core self.old.stage → IsShownBy core e → IsReplaying layout i runs (e ∷ more) later self.old → IsHandedBack e self.new.stage (Some e)) }
         ensures stage { IfOk result (λ _. self.new.stage ≡ self.old.stage) }
         ensures counts { IfOk result (λ _. (self.new.cut ≡ self.old.cut) × (self.new.at ≡ self.old.at + 1)) }
     {

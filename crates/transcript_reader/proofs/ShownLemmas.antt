@@ -4,13 +4,14 @@ use Rattle.std.proofs.lemmas.Bool.{false≢true}
 use Rattle.merge_core.specs.declared.delta.Row.{Row}
 use Rattle.merge_core.specs.declared.layout.RecordSpec.{RecordSpec}
 use Rattle.merge_core.specs.Delta.{DeltaState, IsDelta}
-use Rattle.merge_core.specs.Moved.{row_if}
-use Rattle.merge_core.specs.Layout.{IsLayout}
+use Rattle.merge_core.specs.Book.{counter_of}
+use Rattle.merge_core.specs.Moved.{all_moved, row_if}
+use Rattle.merge_core.specs.Layout.{IsLayout, Shape}
 use Rattle.merge_core.proofs.SnapshotLemmas.{IsDelta-snapshot}
 use Rattle.admission_model.specs.declared.ask.Call.TheVariants.{Snapshot}
 use Rattle.admission_model.specs.declared.reply.Reply.TheVariants.{Snapshot as SnapshotReply}
-use Rattle.admission_model.specs.Account.{Account}
-use Rattle.admission_core.specs.Core.{Core, IsCore, Stands}
+use Rattle.admission_model.specs.Merging.{snapshot_of}
+use Rattle.admission_core.specs.Core.{Core, IsCore, core_view}
 use Rattle.admission_core.proofs.CoreLemmas.{is_core}
 use Rattle.text_parts.specs.Lists.{joined, later}
 use Rattle.text_parts.specs.Readers.{◌>>=◌, after}
@@ -20,7 +21,7 @@ use Rattle.transcript_text.specs.Quoted.{escaped}
 use Rattle.transcript_text.specs.Texts.{entry_text}
 use Rattle.transcript_reader.specs.Quoted.{quoted}
 use Rattle.transcript_reader.specs.Readers.{pass_behind}
-use Rattle.transcript_reader.specs.Shown.{BeginsWithRows, ShowsSnapshot, is_first_behind, own_snapshot, pass_of_send, rows_text, snapshot_entry}
+use Rattle.transcript_reader.specs.Shown.{BeginsWithRows, IsOwnSnapshot, book_snapshot, is_first_behind, pass_of_send, rows_text, snapshot_entry}
 use Rattle.transcript_reader.proofs.DeltaLemmas.{digits, piece, list_piece, row_pieces, row_pieces_are, delta_pieces, delta_pieces_are}
 use Rattle.transcript_reader.proofs.EntryLemmas.{entry_sound}
 use Rattle.transcript_reader.proofs.EscapedLemmas.{escaped_append}
@@ -125,16 +126,20 @@ snapshot_of_parts d bytes b1 b2 b3 rest e1 e2 e3 e4 =
     ◌∙◌ {b = delta_pieces d rest} {c = text} whole (sym {a = text} {b = delta_pieces d rest} (delta_pieces_are d rest))
 
 pub shows : (c : Core) (line : List ℕ) (pass : ℕ) (reply rest : List ℕ) → IsLayout c.layout → pass < 2 ^ 16 → pass_of_send line ≡ Some (pass, reply)
-    → reply ≡ quoted (delta_text (own_snapshot c)) rest → rest ≡ codes "}" → (a : Account) → Stands a c → ShowsSnapshot c line
+    → reply ≡ quoted (delta_text (book_snapshot c)) rest → rest ≡ codes "}" → IsOwnSnapshot c line
 unfolding pass_of_send
 shows c line pass reply rest layout few read is_reply end a stands = record {
   pass = pass;
-  fits = record { pass = few; call = tt; reply = IsDelta-snapshot c.book c.site stands.book (subst (λ (n : ℕ). c.site < n) (sym is.sites) is.site_there) };
-  text = λ records. entry_sound records line head.0 Snapshot behind.0 pass reply (SnapshotReply (own_snapshot c)) rest head.1 (after_takes (codes "send\"") head.0 behind.0 behind.1) behind.2 is_reply end;
+  fits = record { pass = few; call = tt; reply = subst IsDelta same (IsDelta-snapshot c.book c.site stands.book (subst (λ (n : ℕ). c.site < n) (sym is.sites) is.site_there)) };
+  text = λ records. entry_sound records line head.0 Snapshot behind.0 pass reply (SnapshotReply (snapshot_of (core_view c))) rest head.1 (after_takes (codes "send\"") head.0 behind.0 behind.1) behind.2
+      (is_reply ∙ ap (λ (d : DeltaState). quoted (delta_text d) rest) same) end;
 }
   where
     is : IsCore c
     is = is_core c layout a stands
+
+    same : book_snapshot c ≡ snapshot_of (core_view c)
+    same = ap (λ (shape : Shape). record { from = c.site; rows = all_moved shape (counter_of c.book) }) (sym stands.shape)
 
     head : (front : List ℕ) × (after (codes "{\"call\":\"") line ≡ Some front) × ((after (codes "send\"") front >>= pass_behind) ≡ Some (pass, reply))
     head = bind_some (after (codes "{\"call\":\"") line) (λ (front : List ℕ). after (codes "send\"") front >>= pass_behind) (pass, reply) read

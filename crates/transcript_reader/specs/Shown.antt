@@ -8,7 +8,9 @@ use Rattle.merge_core.specs.Delta.{DeltaState}
 use Rattle.merge_core.specs.Moved.{all_moved}
 use Rattle.admission_model.specs.declared.ask.Call.TheVariants.{Snapshot}
 use Rattle.admission_model.specs.declared.reply.Reply.TheVariants.{Snapshot as SnapshotReply}
-use Rattle.admission_core.specs.Core.{Core}
+use Rattle.admission_model.specs.Account.{Account}
+use Rattle.admission_model.specs.Merging.{snapshot_of}
+use Rattle.admission_core.specs.Core.{Core, Stands, core_view}
 use Rattle.desk_log.specs.declared.entry.Entry.{Entry}
 use Rattle.text_parts.specs.Lists.{joined, later}
 use Rattle.text_parts.specs.Readers.{◌>>=◌, after}
@@ -18,19 +20,23 @@ use Rattle.transcript_text.specs.Texts.{entry_text}
 use Rattle.transcript_reader.specs.Fits.{FitsEntry}
 use Rattle.transcript_reader.specs.Readers.{pass_behind}
 
--- the snapshot of a core
-abbrev pub own_snapshot : Core → DeltaState
-own_snapshot c = record { from = c.site; rows = all_moved (book_shape c.book) (counter_of c.book) }
-
--- the entry of a pass that asks for it
+-- the entry of a pass that asks for the snapshot of a core
 abbrev pub snapshot_entry : ℕ → Core → Entry
-snapshot_entry pass c = record { pass = pass; call = Snapshot; reply = SnapshotReply (own_snapshot c) }
+snapshot_entry pass c = record { pass = pass; call = Snapshot; reply = SnapshotReply (snapshot_of (core_view c)) }
 
 -- the line is that of such an entry, whatever the records' names
 pub record ShowsSnapshot (c : Core) (line : List ℕ) : Type 0 where
   pub pass : ℕ
   pub fits : FitsEntry (snapshot_entry pass c)
   pub text : (records : List RecordSpec) → line ≡ entry_text records (snapshot_entry pass c)
+
+-- whatever account the core stands for
+abbrev pub IsOwnSnapshot : Core → List ℕ → Type 0
+IsOwnSnapshot c line = (a : Account) → Stands a c → ShowsSnapshot c line
+
+-- the same snapshot, by the book alone
+abbrev pub book_snapshot : Core → DeltaState
+book_snapshot c = record { from = c.site; rows = all_moved (book_shape c.book) (counter_of c.book) }
 
 -- the text of rows, of which the first stands without a comma if no row is in front of it
 abbrev pub rows_text : Bool → List Row → List ℕ

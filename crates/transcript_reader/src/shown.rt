@@ -3,14 +3,12 @@ ghost use Rattle.std.specs.Prelude.{◌≡◌, ◌++◌, ◌<◌, codes, decimal
 ghost use Rattle.merge_core.specs.Book.{book_shape, counter_of};
 ghost use Rattle.merge_core.specs.Lent.{lent_row};
 ghost use Rattle.merge_core.specs.Moved.{told_row, has_moved, row_if, moved_rows, all_moved};
-ghost use Rattle.admission_model.specs.Account.{Account};
-ghost use Rattle.admission_core.specs.Core.{Stands};
 ghost use Rattle.text_parts.specs.Lists.{joined, later};
 ghost use Rattle.text_parts.specs.Readers.{Gives};
 ghost use Rattle.delta_codec.specs.DeltaText.{row_text, delta_text};
 ghost use Rattle.transcript_text.specs.Quoted.{escaped};
 ghost use Rattle.transcript_reader.specs.Quoted.{quoted};
-ghost use Rattle.transcript_reader.specs.Shown.{BeginsWithRows, ShowsSnapshot, own_snapshot, pass_of_send};
+ghost use Rattle.transcript_reader.specs.Shown.{BeginsWithRows, IsOwnSnapshot, book_snapshot, pass_of_send};
 
 use crate::entries::pass_behind;
 use admission_core::SiteCore;
@@ -153,7 +151,7 @@ fn behind_rows<'a>(book: &Book, bytes: &'a [u8]) -> Option<&'a [u8]>
 
 // The bytes behind a core's own snapshot and its closing quote, if these stand in front.
 fn behind_snapshot<'a>(core: &SiteCore, bytes: &'a [u8]) -> Option<&'a [u8]>
-    ensures { MatchOption result (Unit {0}) (λ rest. bytes.now ≡ quoted (delta_text (own_snapshot core.now)) rest.now) }
+    ensures { MatchOption result (Unit {0}) (λ rest. bytes.now ≡ quoted (delta_text (book_snapshot core.now)) rest.now) }
 {
     let rest = behind_field(b"{\\\"from\\\":", u64::from(core.site()), bytes)?;
     let rest = behind(b",\\\"rows\\\":[", rest)?;
@@ -175,7 +173,7 @@ fn pass_of_send(line: &[u8]) -> Result<(u16, &[u8]), Unread>
 /// Whether a line is seen to be an entry that asks for a snapshot and is answered by the core's own. Takes no memory. Linear in
 /// the line and the book.
 pub fn shows_snapshot(core: &SiteCore, line: &[u8]) -> bool
-    ensures { IsTrue result → (a : Account) → Stands a core.now → ShowsSnapshot core.now line.now }
+    ensures { IsTrue result → IsOwnSnapshot core.now line.now }
 {
     let _ = core.layout().sites(); // tells the invariant: it is a layout
     let Ok((_, rest)) = pass_of_send(line) else {

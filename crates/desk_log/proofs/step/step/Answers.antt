@@ -34,8 +34,8 @@ returns-then-is_memory-clause-step g c =
     (not_memory old c.prepare-prepared.new.self c.args.call.now p c.requires.core e.content e.ready e.change memory)
     (λ d kept. kept) c.requires.no_fault
 
-pub keep-requires-clause-change : goal.keep-requires-clause-change
-keep-requires-clause-change g c =
+pub commit_if_changed-requires-clause-change : goal.commit_if_changed-requires-clause-change
+commit_if_changed-requires-clause-change g c =
     let old = c.args.core.now in
     let p = c.prepare-prepared.result in
     let e = c.prepare-prepared.ensures in
@@ -49,9 +49,9 @@ returns-in-Err-clause-step g c =
     let p = c.prepare-prepared.result in
     let e = c.prepare-prepared.ensures in
     let there : is_memory p.reply ≡ false = sym (ap is_memory (c.in-Ok.ensures.copy ∙ c.reply.ensures)) ∙ (sym c.is_memory.ensures ∙ c.if-is_memory.false) in
-    let kept : KeepsChange g.K.Keeper c.args.keeper.now c.keep.new.keeper p.change (Err c.in-Err.error) =
-    subst (λ (x : ChangeState). KeepsChange g.K.Keeper c.args.keeper.now c.keep.new.keeper x (Err c.in-Err.error)) c.change.ensures c.in-Err.ensures.kept in
-    not_kept old c.prepare-prepared.new.self c.args.call.now p c.requires.core e.content e.ready e.change g.K.Keeper c.args.keeper.now c.keep.new.keeper c.args.receipt there
+    let kept : KeepsChange g.K.Keeper c.args.keeper.now c.commit_if_changed.new.keeper p.change (Err c.in-Err.error) =
+    subst (λ (x : ChangeState). KeepsChange g.K.Keeper c.args.keeper.now c.commit_if_changed.new.keeper x (Err c.in-Err.error)) c.change.ensures c.in-Err.ensures.kept in
+    not_kept old c.prepare-prepared.new.self c.args.call.now p c.requires.core e.content e.ready e.change g.K.Keeper c.args.keeper.now c.commit_if_changed.new.keeper c.args.receipt there
     c.in-Err.error kept c.not_kept.result c.not_kept.ensures.memory c.not_kept.ensures.fault c.not_kept.ensures.told
 
 pub returns-clause-step : goal.returns-clause-step
@@ -60,9 +60,9 @@ returns-clause-step g c =
     let p = c.prepare-prepared.result in
     let e = c.prepare-prepared.ensures in
     let there : is_memory p.reply ≡ false = sym (ap is_memory (c.in-Ok.ensures.copy ∙ c.reply.ensures)) ∙ (sym c.is_memory.ensures ∙ c.if-is_memory.false) in
-    let kept : HasKept g.K.Keeper c.args.keeper.now c.keep.new.keeper p.change =
-    subst (λ (x : ChangeState). HasKept g.K.Keeper c.args.keeper.now c.keep.new.keeper x) c.change.ensures c.in_default-keep.ensures.kept in
-    λ a stands. inl (carried_out old c.prepare-prepared.new.self c.args.call.now p c.requires.core e.content e.ready e.change g.K.Keeper c.args.keeper.now c.keep.new.keeper
+    let kept : HasKept g.K.Keeper c.args.keeper.now c.commit_if_changed.new.keeper p.change =
+    subst (λ (x : ChangeState). HasKept g.K.Keeper c.args.keeper.now c.commit_if_changed.new.keeper x) c.change.ensures c.in_default-commit_if_changed.ensures.kept in
+    λ a stands. inl (carried_out old c.prepare-prepared.new.self c.args.call.now p c.requires.core e.content e.ready e.change g.K.Keeper c.args.keeper.now c.commit_if_changed.new.keeper
     c.apply-reply.new.self c.apply-reply.result there kept c.apply-reply.ensures.reply c.apply-reply.ensures.account c.apply-reply.ensures.unchanged a stands)
 
 pub returns-in-Err-clause-idle : goal.returns-in-Err-clause-idle
@@ -71,8 +71,8 @@ returns-in-Err-clause-idle g c =
     let p = c.prepare-prepared.result in
     let e = c.prepare-prepared.ensures in
     let there : is_memory p.reply ≡ false = sym (ap is_memory (c.in-Ok.ensures.copy ∙ c.reply.ensures)) ∙ (sym c.is_memory.ensures ∙ c.if-is_memory.false) in
-    left_alone old c.prepare-prepared.new.self c.args.call.now p c.requires.core e.content e.ready e.change c.args.keeper.now c.keep.new.keeper there
-    (subst (λ (x : ChangeState). x.cells ≡ [] → x.session ≡ None → c.keep.new.keeper ≡ c.args.keeper.now) c.change.ensures c.keep.ensures.idle)
+    left_alone old c.prepare-prepared.new.self c.args.call.now p c.requires.core e.content e.ready e.change c.args.keeper.now c.commit_if_changed.new.keeper there
+    (subst (λ (x : ChangeState). x.cells ≡ [] → x.session ≡ None → c.commit_if_changed.new.keeper ≡ c.args.keeper.now) c.change.ensures c.commit_if_changed.ensures.idle)
 
 pub returns-clause-idle : goal.returns-clause-idle
 returns-clause-idle g c =
@@ -80,5 +80,5 @@ returns-clause-idle g c =
     let p = c.prepare-prepared.result in
     let e = c.prepare-prepared.ensures in
     let there : is_memory p.reply ≡ false = sym (ap is_memory (c.in-Ok.ensures.copy ∙ c.reply.ensures)) ∙ (sym c.is_memory.ensures ∙ c.if-is_memory.false) in
-    left_alone old c.prepare-prepared.new.self c.args.call.now p c.requires.core e.content e.ready e.change c.args.keeper.now c.keep.new.keeper there
-    (subst (λ (x : ChangeState). x.cells ≡ [] → x.session ≡ None → c.keep.new.keeper ≡ c.args.keeper.now) c.change.ensures c.keep.ensures.idle)
+    left_alone old c.prepare-prepared.new.self c.args.call.now p c.requires.core e.content e.ready e.change c.args.keeper.now c.commit_if_changed.new.keeper there
+    (subst (λ (x : ChangeState). x.cells ≡ [] → x.session ≡ None → c.commit_if_changed.new.keeper ≡ c.args.keeper.now) c.change.ensures c.commit_if_changed.ensures.idle)
