@@ -24,7 +24,8 @@ use Rattle.log_replay.specs.Replay.{IsPath, IsWay, IsEnd}
 use Rattle.log_replay.specs.declared.stream.Stage.{Stage}
 use Rattle.log_replay.specs.declared.stream.Stage.TheVariants.{Fresh, Open, Ended}
 use Rattle.log_replay.specs.declared.stream.SiteReplay.{SiteReplay}
-use Rattle.log_replay.specs.Stream.{HasEnded, IsClear, IsHandedBack, IsInRun, IsReplaying, IsSettled, IsStage, count_of, left_of, length_by}
+use Rattle.log_replay.specs.Stream.{HasEnded, IsClear, IsHandedBack, IsInRun, IsReplaying, IsSettled, IsShownBy, IsStage, count_of, left_of, length_by}
+use Rattle.log_replay.proofs.StreamLemmas.{clear_left, shown_on}
 use Rattle.log_replay.proofs.WayLemmas.{way_drop, way_length}
 use Rattle.log_judge.specs.declared.stream.Taken.{Taken}
 use Rattle.log_judge.specs.declared.stream.SiteLog.{SiteLog}
@@ -472,24 +473,22 @@ module _ (layout : LayoutState) (ts : List Transcript) (cut : List ℕ) (i : ℕ
 
 
   -- An entry that is answered by the core's own snapshot brought no rows.
-  pub log_shown : (keeping : Keeping) (e : Entry) (more : List Entry) (later : List Run) (old new : SiteLog) (core : Core) → IsLog layout ts cut i keeping (e ∷ more) later old → IsClear core old.replay.stage → e.call ≡ Snapshot
-      → IsReplaying layout i (runs_at ts i) more later new.replay → new.taken ≡ old.taken → new.dropped ≡ old.dropped → IsHandedBack e new.replay.stage (Some e) → new.replay.stage ≡ old.replay.stage
+  pub log_shown : (keeping : Keeping) (e : Entry) (more : List Entry) (later : List Run) (old new : SiteLog) (core : Core) → IsLog layout ts cut i keeping (e ∷ more) later old → IsClear core old.replay.stage → IsShownBy core e
+      → IsReplaying layout i (runs_at ts i) more later new.replay → new.taken ≡ old.taken → new.dropped ≡ old.dropped → new.replay.stage ≡ old.replay.stage
       → new.replay.cut ≡ old.replay.cut → new.replay.at ≡ old.replay.at + 1 → IsLog layout ts cut i keeping more later new
-  log_shown keeping e more later old new core log clear asks replaying taken dropped handed stage cut_same at_next =
+  log_shown keeping e more later old new core log clear shown replaying taken dropped stage cut_same at_next =
       log_on keeping e more later old new new false (Some e) log (λ off. none_done (cut_account layout ts cut) (site_brought layout ts i) (rows_brought false e) none) (λ wrong. absurd (false≢true wrong)) replaying taken dropped handed
-      (λ going. nothing_left old.replay.stage clear) (λ over. subst HasEnded (sym stage) over) cut_same at_next refl
+      (λ going. clear_left core old.replay.stage clear) (λ over. subst HasEnded (sym stage) over) cut_same at_next refl
     where
       either : (accepted : Bool) → cond accepted (merge_rows Snapshot) [] ≡ []
       either true = refl
       either false = refl
 
       none : rows_brought false e ≡ []
-      none = ap (λ (call : Call). cond (is_accepted false e.reply) (merge_rows call) []) asks ∙ either (is_accepted false e.reply)
+      none = ap (λ (call : Call). cond (is_accepted false e.reply) (merge_rows call) []) shown.0 ∙ either (is_accepted false e.reply)
 
-      nothing_left : (s : Stage) → IsClear core s → left_of s ≡ []
-      nothing_left Fresh is = absurd is
-      nothing_left (Open c left) is = is.1
-      nothing_left (Ended fault) is = absurd is
+      handed : IsHandedBack e new.replay.stage (Some e)
+      handed = subst (λ (s : Stage). IsHandedBack e s (Some e)) (sym stage) (shown_on layout i (runs_at ts i) e more later old.replay.at core old.replay.stage log.replaying.stage clear shown).1
 
   -- ---- a run begins
 

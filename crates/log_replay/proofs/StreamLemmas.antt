@@ -15,7 +15,8 @@ use Rattle.admission_model.specs.Serving.{after, reply_of}
 use Rattle.admission_core.specs.Core.{Core, Stands, SameContent}
 use Rattle.admission_core.proofs.CoreLemmas.{shows_account}
 use Rattle.admission_core.proofs.ReadyLemmas.{stands_along}
-use Rattle.std.specs.Prelude.{◌↔◌, IsTrue}
+use Rattle.std.specs.Prelude.{◌↔◌, IsTrue, Vec}
+use Rattle.std.specs.Global.{Global}
 use Rattle.admission_core.specs.Kept.{durable_of}
 use Rattle.desk_log.specs.declared.entry.Entry.{Entry}
 use Rattle.desk_log.specs.declared.transcript.Run.{Run}
@@ -207,9 +208,9 @@ tried_on layout i runs e more later at (Open core left) (Ended fault) tried is =
 tried_on layout i runs e more later at (Open core left) (Open new left2) tried is = go (is_empty left.items)
   where
     go : (left.items ≡ []) ⊎ (left.items ≡ [] → ⊥) → IsInRun layout i runs more later new left2.items (at + 1)
-    go (inr some) = absurd (false≢true (sym (tried.2 some).0))
+    go (inr some) = absurd (false≢true (sym (tried.1.1 some).0))
     go (inl none) =
-        let out = tried.1 none in
+        let out = tried.1.0 none in
         subst (λ (xs : List Entry). IsInRun layout i runs more later new xs (at + 1)) (sym tried.0)
         (followed_on layout i runs e more later core new left.items at none is (λ b stands. (out.tells b stands).0 refl) out.stands)
 
@@ -223,7 +224,7 @@ tried_free e (Open core left) (Open new left2) tried = go (is_empty left.items)
   where
     go : (left.items ≡ []) ⊎ (left.items ≡ [] → ⊥) → left.items ≡ []
     go (inl none) = none
-    go (inr some) = absurd (false≢true (sym (tried.2 some).0))
+    go (inr some) = absurd (false≢true (sym (tried.1.1 some).0))
 
 pub tried_back : (e : Entry) (old new : Stage) → IsTried old e true new → IsHandedBack e new (Some e)
 tried_back e Fresh new tried = absurd (false≢true (sym tried.0))
@@ -232,7 +233,7 @@ tried_back e (Open core left) Fresh tried = absurd tried
 tried_back e (Open core left) (Ended fault) tried = absurd tried
 tried_back e (Open core left) (Open new left2) tried =
     let none : left.items ≡ [] = tried_free e (Open core left) (Open new left2) tried in
-    (refl, (tried.0 ∙ none, (tried.1 none).plain refl))
+    (refl, (tried.0 ∙ none, (tried.1.0 none).plain refl))
 
 -- whatever came of it, the same is in doubt, and an end stays one
 pub tried_left : (e : Entry) (ok : Bool) (old new : Stage) → IsTried old e ok new → left_of new ≡ left_of old
@@ -252,6 +253,15 @@ pub refused_on : (layout : LayoutState) (i : ℕ) (runs : List Run) (e : Entry) 
     → IsInRun layout i runs (e ∷ more) later before left at → ((a : Account) → (is_fault e.reply ≡ true → Stands a core) → IsDoubted a e stage) → IsDoubtKept e at stage → IsStage layout i runs more later (at + 1) stage
 refused_on layout i runs e more later before core left at stage none out is answer kept =
     doubted_on layout i runs e more later before core left at false stage none is refl out.tells out.stands answer kept
+
+pub refused_open : (layout : LayoutState) (i : ℕ) (runs : List Run) (e : Entry) (more : List Entry) (later : List Run) (at : ℕ) (core : Core) (left : Vec Entry Global) (result : Stage)
+    → ((b : Core) → (left.items ≡ [] → CarriesOut b core e false) → ((left.items ≡ [] → ⊥) → core ≡ b) → IsInRun layout i runs (e ∷ more) later b left.items at → IsStage layout i runs more later (at + 1) result)
+    → (before : Stage) → IsTried before e false (Open core left) → IsStage layout i runs (e ∷ more) later at before → IsStage layout i runs more later (at + 1) result
+refused_open layout i runs e more later at core left result step Fresh tried is = absurd (let wrong : Open core left ≡ Fresh = tried.1 in cc)
+refused_open layout i runs e more later at core left result step (Ended fault) tried is = absurd (let wrong : Open core left ≡ Ended fault = tried.1 in cc)
+refused_open layout i runs e more later at core left result step (Open b was) tried is =
+    step b (λ none. tried.1.0 (sym tried.0 ∙ none)) (λ some. (tried.1.1 (λ none. some (tried.0 ∙ none))).1)
+    (subst (λ (xs : List Entry). IsInRun layout i runs (e ∷ more) later b xs at) (sym tried.0) is)
 
 -- ---- an entry that is the core's own snapshot
 

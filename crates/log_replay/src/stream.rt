@@ -1,5 +1,5 @@
 //! The transcript of one site, replayed entry by entry as it comes.
-ghost use Rattle.std.specs.Prelude.{◌≡◌, ◌≢◌, ◌+◌, ◌<◌, ◌≤◌, ◌∷◌, [], None, Some, false, true, ℕ, List, IfOk, IsSome, IsTrue, MatchOption, if◌then◌else◌, length};
+ghost use Rattle.std.specs.Prelude.{◌≡◌, ◌≢◌, ◌+◌, ◌<◌, ◌≤◌, ◌∷◌, [], None, false, true, ℕ, List, IfOk, IsSome, IsTrue, MatchOption, if◌then◌else◌, length};
 ghost use Rattle.merge_core.specs.Layout.{LayoutState};
 ghost use Rattle.merge_core.specs.declared.cell.Cell.{Cell as CellThere};
 ghost use Rattle.merge_core.specs.Rows.{counter_in, counters_of};
@@ -346,8 +346,6 @@ impl SiteReplay {
             × IsReplaying layout i runs (e ∷ more) later self.old }
         ensures replaying { IfOk result (λ _. (core : CoreThere) (layout : LayoutState) (i : ℕ) (runs : List RunThere) (e : EntryThere) (more : List EntryThere) (later : List RunThere)
             → IsClear core self.old.stage → IsShownBy core e → IsReplaying layout i runs (e ∷ more) later self.old → IsReplaying layout i runs more later self.new) }
-        ensures back { IfOk result (λ _. (core : CoreThere) (layout : LayoutState) (i : ℕ) (runs : List RunThere) (e : EntryThere) (more : List EntryThere) (later : List RunThere)
-            → IsClear core self.old.stage → IsShownBy core e → IsReplaying layout i runs (e ∷ more) later self.old → IsHandedBack e self.new.stage (Some e)) }
         ensures stage { IfOk result (λ _. self.new.stage ≡ self.old.stage) }
         ensures counts { IfOk result (λ _. (self.new.cut ≡ self.old.cut) × (self.new.at ≡ self.old.at + 1)) }
     {

@@ -43,7 +43,7 @@ short_takes_digits bytes n rest e =
     let small = cond_some (ltb read.0.0 (2 ^ 16)) read.0 (n, rest) read.2 in
     number_takes_digits bytes n rest (read.1 ∙ ap (λ (x : Read). Some x) small.1)
 
-number_behind_takes : (literal bytes : List ℕ) (n : ℕ) (rest : List ℕ) → number_behind literal bytes ≡ Some (n, rest) → bytes ≡ literal ++ (digits n ++ rest)
+pub number_behind_takes : (literal bytes : List ℕ) (n : ℕ) (rest : List ℕ) → number_behind literal bytes ≡ Some (n, rest) → bytes ≡ literal ++ (digits n ++ rest)
 unfolding number_behind
 number_behind_takes literal bytes n rest e =
     let front = bind_some (after literal bytes) number_at (n, rest) e in

@@ -1,6 +1,9 @@
 -- The texts of a snapshot's parts, one behind another, are that of the entry which shows it.
-use Rattle.std.proofs.Common.{◌≡◌, ℕ, ◌<◌, ◌^◌, Bool, true, false, List, [], ◌∷◌, ◌++◌, Option, Some, codes, decimal, refl, sym, ap, subst, ◌∙◌, append_assoc, append-nil}
-use Rattle.std.proofs.lemmas.Bool.{false≢true}
+use Rattle.std.proofs.Common.{◌≡◌, ℕ, ◌+◌, ◌<◌, ◌^◌, Bool, true, false, cond, ltb, List, [], ◌∷◌, ◌++◌, length, drop, get_or, Option, Some, None, codes, decimal, refl, sym, ap, subst, ◌∙◌, append_assoc, append-nil}
+use Rattle.std.specs.Prelude.{MatchOption}
+use Rattle.std.proofs.lemmas.Bool.{false≢true, ltb-true}
+use Rattle.std.proofs.lemmas.List.{drop_more}
+use Rattle.std.proofs.lemmas.Option.{cond_some, some_pair_parts}
 use Rattle.merge_core.specs.declared.delta.Row.{Row}
 use Rattle.merge_core.specs.declared.layout.RecordSpec.{RecordSpec}
 use Rattle.merge_core.specs.Delta.{DeltaState, IsDelta}
@@ -14,7 +17,7 @@ use Rattle.admission_model.specs.Merging.{snapshot_of}
 use Rattle.admission_core.specs.Core.{Core, IsCore, core_view}
 use Rattle.admission_core.proofs.CoreLemmas.{is_core}
 use Rattle.text_parts.specs.Lists.{joined, later}
-use Rattle.text_parts.specs.Readers.{◌>>=◌, after}
+use Rattle.text_parts.specs.Readers.{◌>>=◌, after, number_at, short_at}
 use Rattle.text_parts.proofs.LiteralLaws.{bind_some, after_takes}
 use Rattle.delta_codec.specs.DeltaText.{row_text, delta_text}
 use Rattle.transcript_text.specs.Quoted.{escaped}
@@ -52,6 +55,32 @@ row_of_parts p bytes b1 b2 b3 b4 b5 b6 rest e1 e2 e3 e4 e5 e6 e7 =
     let whole : bytes ≡ row_pieces p rest = piece (codes "{\\\"ann\\\":") p.ann bytes b1 t1 e1 f1 in
     let text : List ℕ = escaped (row_text p) ++ rest in
     ◌∙◌ {b = row_pieces p rest} {c = text} whole (sym {a = text} {b = row_pieces p rest} (row_pieces_are p rest))
+
+-- what follows from a clause on a value, if there is one
+pub then_some : {X : Type 0} (o : Option X) (P Q : X → Type 0) → ((x : X) → P x → Q x) → MatchOption o (Unit {0}) P → MatchOption o (Unit {0}) Q
+then_some None P Q f holds = tt
+then_some (Some x) P Q f holds = f x holds
+
+-- a number more behind a comma
+later_more : (n : ℕ) (ns bytes rest t : List ℕ) → bytes ≡ codes "," ++ (digits n ++ rest) → rest ≡ escaped (later decimal ns) ++ t → bytes ≡ escaped (later decimal (n ∷ ns)) ++ t
+later_more n ns bytes rest t e f =
+    piece (codes ",") n bytes rest (escaped (later decimal ns) ++ t) e f
+    ∙ ap (λ (x : List ℕ). codes "," ++ x) (sym (append_assoc (digits n) (escaped (later decimal ns)) t) ∙ ap (λ (x : List ℕ). x ++ t) (sym (escaped_append (decimal n) (later decimal ns))))
+
+pub later_step : (numbers bytes rest t : List ℕ) (i : ℕ) → i < length numbers → bytes ≡ codes "," ++ (digits (get_or numbers i 0) ++ rest) → rest ≡ escaped (later decimal (drop (i + 1) numbers)) ++ t
+    → bytes ≡ escaped (later decimal (drop i numbers)) ++ t
+later_step numbers bytes rest t i more e f =
+    later_more (get_or numbers i 0) (drop (i + 1) numbers) bytes rest t e f ∙ ap (λ (ns : List ℕ). escaped (later decimal ns) ++ t) (sym (drop_more numbers i 0 more))
+
+-- the first number, and those behind it
+pub first_listed : (literal numbers bytes rest t : List ℕ) → 0 < length numbers → bytes ≡ literal ++ (digits (get_or numbers 0 0) ++ rest) → rest ≡ escaped (later decimal (drop 1 numbers)) ++ t
+    → bytes ≡ literal ++ (escaped (joined decimal numbers) ++ t)
+first_listed literal numbers bytes rest t some e f =
+    let n = get_or numbers 0 0 in
+    let ns = drop 1 numbers in
+    piece literal n bytes rest (escaped (later decimal ns) ++ t) e f
+    ∙ ap (λ (x : List ℕ). literal ++ x) (sym (append_assoc (digits n) (escaped (later decimal ns)) t) ∙ ap (λ (x : List ℕ). x ++ t) (sym (escaped_append (decimal n) (later decimal ns))))
+    ∙ ap (λ (xs : List ℕ). literal ++ (escaped (joined decimal xs) ++ t)) (sym (drop_more numbers 0 0 some))
 
 -- ---- rows with commas between them
 
@@ -113,6 +142,19 @@ one_row true p q false bytes gap rest is same at_first behind e = record {
 
 -- ---- a snapshot, and the entry
 
+-- a pass that is read has 16 bits
+pass_few : (bytes : List ℕ) (pass : ℕ) (rest : List ℕ) → pass_behind bytes ≡ Some (pass, rest) → pass < 2 ^ 16
+unfolding pass_behind short_at
+pass_few bytes pass rest e =
+    let front = bind_some (after (codes ",\"pass\":") bytes) (λ (b : List ℕ). short_at b >>= λ (p : ℕ × List ℕ). after (codes ",\"reply\":\"") p.1 >>= λ (t : List ℕ). Some (p.0, t)) (pass, rest) e in
+    let read = bind_some (short_at front.0) (λ (p : ℕ × List ℕ). after (codes ",\"reply\":\"") p.1 >>= λ (t : List ℕ). Some (p.0, t)) (pass, rest) front.2 in
+    let last = bind_some (after (codes ",\"reply\":\"") read.0.1) (λ (t : List ℕ). Some (read.0.0, t)) (pass, rest) read.2 in
+    let number = bind_some (number_at front.0) (λ (m : ℕ × List ℕ). cond (ltb m.0 (2 ^ 16)) (Some m) None) read.0 read.1 in
+    let small = cond_some (ltb number.0.0 (2 ^ 16)) number.0 read.0 number.2 in
+    let same : read.0.0 ≡ pass = (some_pair_parts read.0.0 pass last.0 rest last.2).0 in
+    let is : number.0.0 ≡ pass = ap (λ (p : ℕ × List ℕ). p.0) small.1 ∙ same in
+    subst (λ (n : ℕ). n < 2 ^ 16) is (ltb-true number.0.0 (2 ^ 16) small.0)
+
 pub snapshot_of_parts : (d : DeltaState) (bytes b1 b2 b3 rest : List ℕ) → bytes ≡ codes "{\\\"from\\\":" ++ (digits d.from ++ b1) → b1 ≡ codes ",\\\"rows\\\":[" ++ b2
     → b2 ≡ escaped (joined row_text d.rows) ++ b3 → b3 ≡ codes "],\\\"v\\\":1}\"" ++ rest → bytes ≡ quoted (delta_text d) rest
 snapshot_of_parts d bytes b1 b2 b3 rest e1 e2 e3 e4 =
@@ -125,12 +167,12 @@ snapshot_of_parts d bytes b1 b2 b3 rest e1 e2 e3 e4 =
     let text : List ℕ = quoted (delta_text d) rest in
     ◌∙◌ {b = delta_pieces d rest} {c = text} whole (sym {a = text} {b = delta_pieces d rest} (delta_pieces_are d rest))
 
-pub shows : (c : Core) (line : List ℕ) (pass : ℕ) (reply rest : List ℕ) → IsLayout c.layout → pass < 2 ^ 16 → pass_of_send line ≡ Some (pass, reply)
+pub shows : (c : Core) (line : List ℕ) (pass : ℕ) (reply rest : List ℕ) → IsLayout c.layout → pass_of_send line ≡ Some (pass, reply)
     → reply ≡ quoted (delta_text (book_snapshot c)) rest → rest ≡ codes "}" → IsOwnSnapshot c line
 unfolding pass_of_send
-shows c line pass reply rest layout few read is_reply end a stands = record {
+shows c line pass reply rest layout read is_reply end a stands = record {
   pass = pass;
-  fits = record { pass = few; call = tt; reply = subst IsDelta same (IsDelta-snapshot c.book c.site stands.book (subst (λ (n : ℕ). c.site < n) (sym is.sites) is.site_there)) };
+  fits = record { pass = pass_few behind.0 pass reply behind.2; call = tt; reply = subst IsDelta same (IsDelta-snapshot c.book c.site stands.book (subst (λ (n : ℕ). c.site < n) (sym is.sites) is.site_there)) };
   text = λ records. entry_sound records line head.0 Snapshot behind.0 pass reply (SnapshotReply (snapshot_of (core_view c))) rest head.1 (after_takes (codes "send\"") head.0 behind.0 behind.1) behind.2
       (is_reply ∙ ap (λ (d : DeltaState). quoted (delta_text d) rest) same) end;
 }

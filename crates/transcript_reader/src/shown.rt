@@ -3,7 +3,7 @@ ghost use Rattle.std.specs.Prelude.{◌≡◌, ◌++◌, ◌<◌, codes, decimal
 ghost use Rattle.merge_core.specs.Book.{book_shape, counter_of};
 ghost use Rattle.merge_core.specs.Lent.{lent_row};
 ghost use Rattle.merge_core.specs.Moved.{told_row, has_moved, row_if, moved_rows, all_moved};
-ghost use Rattle.text_parts.specs.Lists.{joined, later};
+ghost use Rattle.text_parts.specs.Lists.{joined};
 ghost use Rattle.text_parts.specs.Readers.{Gives};
 ghost use Rattle.delta_codec.specs.DeltaText.{row_text, delta_text};
 ghost use Rattle.transcript_text.specs.Quoted.{escaped};
@@ -41,30 +41,19 @@ fn behind_field<'a>(literal: &[u8], n: u64, bytes: &'a [u8]) -> Option<&'a [u8]>
     Some(rest)
 }
 
-// The bytes behind numbers, each with a comma in front of it, if these stand in front.
-#[inline(always)]
-fn behind_later<'a>(numbers: &[u64], bytes: &'a [u8]) -> Option<&'a [u8]>
-    ensures { MatchOption result (Unit {0}) (λ rest. bytes.now ≡ escaped (later decimal numbers.now) ++ rest.now) }
-{
-    let mut left = numbers;
-    let mut rest = bytes;
-    'numbers: while let [n, more @ ..] = left {
-        rest = behind_field(b",", *n, rest)?;
-        left = more;
-    }
-    Some(rest)
-}
-
 // The bytes behind a literal and numbers with commas between them, if these stand in front.
 #[inline(always)]
 fn behind_list<'a>(literal: &[u8], numbers: &[u64], bytes: &'a [u8]) -> Option<&'a [u8]>
     ensures { MatchOption result (Unit {0}) (λ rest. bytes.now ≡ literal.now ++ (escaped (joined decimal numbers.now) ++ rest.now)) }
 {
-    let [first, more @ ..] = numbers else {
+    if numbers.is_empty() {
         return None;
-    };
-    let rest = behind_field(literal, *first, bytes)?;
-    behind_later(more, rest)
+    }
+    let mut rest = behind_field(literal, numbers[0], bytes)?;
+    for i in 1..numbers.len() {
+        rest = behind_field(b",", numbers[i], rest)?;
+    }
+    Some(rest)
 }
 
 // The bytes behind the text of a row, if it stands in front.
@@ -176,7 +165,7 @@ pub fn shows_snapshot(core: &SiteCore, line: &[u8]) -> bool
     ensures { IsTrue result → IsOwnSnapshot core.now line.now }
 {
     let _ = core.layout().sites(); // tells the invariant: it is a layout
-    let Ok((_, rest)) = pass_of_send(line) else {
+    let Ok((_pass, rest)) = pass_of_send(line) else {
         return false;
     };
     match behind_snapshot(core, rest) {

@@ -1,6 +1,6 @@
-use Rattle.std.proofs.Common.{◌≡◌, ◌+◌, ℕ, Some, ◌∙◌, ap, sym, subst}
+use Rattle.std.proofs.Common.{◌≡◌, ◌+◌, ℕ, ◌∙◌, ap, sym, subst}
 use Rattle.log_replay.specs.declared.stream.Stage.{Stage}
-use Rattle.log_replay.specs.Stream.{HasEnded, IsHandedBack, IsStage}
+use Rattle.log_replay.specs.Stream.{HasEnded, IsStage}
 use Rattle.log_replay.proofs.StreamLemmas.{clear_left, replayed_on, shown_on}
 use Rattle.log_replay.proofs.stream.SiteReplay.add_snapshot.Goals as goal
 
@@ -13,9 +13,3 @@ returns-clause-replaying c = λ core layout i runs e more later clear shown it.
     replayed_on layout i runs e more later old _ it same.0 (c.in_ok-self.ensures ∙ ap (λ (n : ℕ). n + 1) same.1.0) same.1.1.0
     (subst (IsStage layout i runs more later (old.at + 1)) (sym stage) (shown_on layout i runs e more later old.at core old.stage it.stage clear shown).0)
     (λ going. c.in_ok-mark_cut.ensures.mark layout i runs e more later it (λ over. going (subst HasEnded (sym stage) over)) (clear_left core old.stage clear))
-
-pub returns-clause-back : goal.returns-clause-back
-returns-clause-back c = λ core layout i runs e more later clear shown it.
-    let old = c.args.self.now in
-    let stage : c.mark_cut.new.self.stage ≡ old.stage = c.in_ok-mark_cut.ensures.same.1.1.1 in
-    subst (λ (s : Stage). IsHandedBack e s (Some e)) (sym stage) (shown_on layout i runs e more later old.at core old.stage it.stage clear shown).1
