@@ -100,7 +100,7 @@ pub record CarriesOut (old new : Core) (e : Entry) (ok : Bool) : Type 0 where
   pub plain : ok ≡ true → is_fault e.reply ≡ false
   pub stands : (a : Account) → Stands a old → Stands (if is_fault e.reply then a else after a e.call) new
 
--- it has at a stage, unless a call is in doubt there or no run is open
+-- a stage has tried an entry: its core has carried it out, unless a call is in doubt there or no run is open
 abbrev pub IsTried : Stage → Entry → Bool → Stage → Type 0
 IsTried Fresh e ok new = (ok ≡ false) × (new ≡ Fresh)
 IsTried (Ended fault) e ok new = (ok ≡ false) × (new ≡ Ended fault)

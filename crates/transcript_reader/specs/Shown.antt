@@ -24,13 +24,13 @@ use Rattle.transcript_reader.specs.Readers.{pass_behind}
 abbrev pub snapshot_entry : ℕ → Core → Entry
 snapshot_entry pass c = record { pass = pass; call = Snapshot; reply = SnapshotReply (snapshot_of (core_view c)) }
 
--- the line is that of such an entry, whatever the records' names
+-- a line is an entry that asks for a core's snapshot and is answered by it, whatever the records' names
 pub record ShowsSnapshot (c : Core) (line : List ℕ) : Type 0 where
   pub pass : ℕ
   pub fits : FitsEntry (snapshot_entry pass c)
   pub text : (records : List RecordSpec) → line ≡ entry_text records (snapshot_entry pass c)
 
--- whatever account the core stands for
+-- it is, if the core stands for some account
 abbrev pub IsOwnSnapshot : Core → List ℕ → Type 0
 IsOwnSnapshot c line = (a : Account) → Stands a c → ShowsSnapshot c line
 
