@@ -13,4 +13,4 @@ returns g c =
     let old = state g.S.Store c.args.tx.now.conn.now in
     let new = state g.S.Store c.run.new.tx.conn.now in
     let ran = rw (c.number.ensures, c.number-2.ensures, c.number-4.ensures, c.number-5.ensures, c.from.ensures, c.number-3.ensures) at c.run.ensures in
-    text_puts g.S.Store 1 (IsNewTo s) (Brings (HasNoSuchPlace s) (with_session s)) add_session_text (session_row s) c.args.tx.now c.run.result c.run.new.tx ran (add_goes old new s) (added_uses old new s) (add_stops old new s)
+    text_puts c.run.result 1 (IsNewTo s) (Brings (HasNoSuchPlace s) (with_session s)) add_session_text (session_row s) ran (add_goes old new s) (added_uses old new s) (add_stops old new s)

@@ -8,6 +8,4 @@ use Rattle.store_rows.proofs.RunLemmas.{text_runs}
 use Rattle.store_rows.proofs.writes.create_meta.Goals as goal
 
 pub returns : goal.returns
-returns g c =
-    text_runs g.S.Store (Makes no_schema schema_1) create_meta [] c.args.tx.now c.run.result c.run.new.tx c.run.ensures
-    (λ count ran has. makes_meta (state g.S.Store c.args.tx.now.conn.now) (state g.S.Store c.run.new.tx.conn.now) count has ran)
+returns g c = text_runs c.run.result (Makes no_schema schema_1) create_meta [] c.run.ensures (λ count ran has. makes_meta (state g.S.Store c.args.tx.now.conn.now) (state g.S.Store c.run.new.tx.conn.now) count has ran)

@@ -15,4 +15,4 @@ returns g c =
     let old = state g.S.Store c.args.tx.now.conn.now in
     let new = state g.S.Store c.run.new.tx.conn.now in
     let ran = rw (c.number.ensures, c.number-2.ensures, c.from.ensures) at c.run.ensures in
-    text_puts g.S.Store 0 Any (Brings Any (with_drop r h)) drop_session_text (Int (pos r) ∷ Int (pos h) ∷ []) c.args.tx.now c.run.result c.run.new.tx ran (drop_goes old new r h) (dropped_uses old new r h) (drop_stops old new r h)
+    text_puts c.run.result 0 Any (Brings Any (with_drop r h)) drop_session_text (Int (pos r) ∷ Int (pos h) ∷ []) ran (drop_goes old new r h) (dropped_uses old new r h) (drop_stops old new r h)

@@ -9,21 +9,19 @@ use Rattle.store_rows.proofs.StepLemmas.{cells_more}
 use Rattle.store_rows.proofs.writes.put_cells.Goals as goal
 
 pub loop-cell-init : goal.loop-cell-init
-loop-cell-init g c = let now = (state g.S.Store c.args.tx.now.conn.now).now in puts_none g.S.Store 0 Any (λ _. Brings Any (with_cells [])) c.args.tx.now tt (λ p two fits h. (h, spares_same now))
+loop-cell-init g c = puts_none (λ p two fits h. (h, spares_same (state g.S.Store c.args.tx.now.conn.now).now))
 
 pub loop-cell-preserved : goal.loop-cell-preserved
 loop-cell-preserved g c =
     let all = c.args.cells.now in
     let i = c.loop-cell.cell-index in
     let d : StoredCell = record { r = 0; slot = 0; n = 0 } in
-    let x = get_or all i d in
     let old = state g.S.Store c.args.tx.now.conn.now in
     let mid = state g.S.Store c.loop-cell.tx.conn.now in
     let new = state g.S.Store c.put_cell.new.tx.conn.now in
     let within : i < length all = omega arith in
     rw (take_more all i d within)
-    (puts_then g.S.Store i 1 Any Any Any (with_cells (take i all)) (λ _. Brings Any (with_cells (take i all))) (λ _. Brings Any (with_cells (x ∷ []))) (λ _. Brings Any (with_cells (take i all ++ x ∷ []))) tt c.args.tx.now c.loop-cell.tx (Ok tt) c.put_cell.new.tx (λ p two. two) (λ p fits. fits) (λ brings. brings)
-    c.loop-cell.invariant c.in_ok-put_cell.ensures (λ _. cells_more old.now mid.now new.now (take i all) x))
+    (puts_then (Ok tt) i 1 (with_cells (take i all)) (λ p two. two) (λ p fits. fits) (λ brings. brings) c.loop-cell.invariant c.in_ok-put_cell.ensures (λ _. cells_more old.now mid.now new.now (take i all) (get_or all i d)))
 
 pub returns-in_err-put_cell : goal.returns-in_err-put_cell
 returns-in_err-put_cell g c =
@@ -35,6 +33,5 @@ returns-in_err-put_cell g c =
     let mid = state g.S.Store c.loop-cell.tx.conn.now in
     let new = state g.S.Store c.put_cell.new.tx.conn.now in
     let within : i < length all = omega arith in
-    puts_failed g.S.Store (i + 1) (length all) Any Any (λ _. Brings Any (with_cells (take i all ++ x ∷ []))) (λ _. Brings Any (with_cells all)) c.args.tx.now c.in_err-put_cell.field-0.0 c.from_residual.result c.put_cell.new.tx (omega (arith, within)) (λ p fits. fits) c.from_residual.ensures.1
-    (puts_then g.S.Store i 1 Any Any Any (with_cells (take i all)) (λ _. Brings Any (with_cells (take i all))) (λ _. Brings Any (with_cells (x ∷ []))) (λ _. Brings Any (with_cells (take i all ++ x ∷ []))) tt c.args.tx.now c.loop-cell.tx (Err c.in_err-put_cell.field-0.0) c.put_cell.new.tx (λ p two. two) (λ p fits. fits) (λ brings. brings)
-    c.loop-cell.invariant c.in_err-put_cell.ensures (λ _. cells_more old.now mid.now new.now (take i all) x))
+    puts_failed {E = λ _. Brings Any (with_cells (take i all ++ x ∷ []))} c.from_residual.result (i + 1) (length all) (omega (arith, within)) (λ p fits. fits) c.from_residual.ensures.1
+    (puts_then (Err c.in_err-put_cell.field-0.0) i 1 (with_cells (take i all)) (λ p two. two) (λ p fits. fits) (λ brings. brings) c.loop-cell.invariant c.in_err-put_cell.ensures (λ _. cells_more old.now mid.now new.now (take i all) x))

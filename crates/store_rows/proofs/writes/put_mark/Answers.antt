@@ -11,5 +11,4 @@ pub returns : goal.returns
 returns g c =
     let m = mark c.args.name.now c.args.value.now in
     let ran = rw (c.as_bytes.ensures.value, c.as_bytes-2.ensures.value) at c.run.ensures in
-    text_runs g.S.Store (Brings Any (with_mark m)) put_mark_text (mark_row m.name m.value) c.args.tx.now c.run.result c.run.new.tx ran
-    (mark_goes (state g.S.Store c.args.tx.now.conn.now) (state g.S.Store c.run.new.tx.conn.now) m)
+    text_runs c.run.result (Brings Any (with_mark m)) put_mark_text (mark_row m.name m.value) ran (mark_goes (state g.S.Store c.args.tx.now.conn.now) (state g.S.Store c.run.new.tx.conn.now) m)

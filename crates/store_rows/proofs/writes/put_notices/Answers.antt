@@ -9,21 +9,19 @@ use Rattle.store_rows.proofs.StepLemmas.{notices_more}
 use Rattle.store_rows.proofs.writes.put_notices.Goals as goal
 
 pub loop-notice-init : goal.loop-notice-init
-loop-notice-init g c = let now = (state g.S.Store c.args.tx.now.conn.now).now in puts_none g.S.Store 0 Any (λ _. Brings Any (with_notices [])) c.args.tx.now tt (λ p two fits h. (h, spares_same now))
+loop-notice-init g c = puts_none (λ p two fits h. (h, spares_same (state g.S.Store c.args.tx.now.conn.now).now))
 
 pub loop-notice-preserved : goal.loop-notice-preserved
 loop-notice-preserved g c =
     let all = c.args.notices.now in
     let i = c.loop-notice.notice-index in
     let d : StoredNotice = record { r = 0; site = 0; announced = 0; finished = 0 } in
-    let x = get_or all i d in
     let old = state g.S.Store c.args.tx.now.conn.now in
     let mid = state g.S.Store c.loop-notice.tx.conn.now in
     let new = state g.S.Store c.put_notice.new.tx.conn.now in
     let within : i < length all = omega arith in
     rw (take_more all i d within)
-    (puts_then g.S.Store i 1 Any Any Any (with_notices (take i all)) (λ _. Brings Any (with_notices (take i all))) (λ _. Brings Any (with_notices (x ∷ []))) (λ _. Brings Any (with_notices (take i all ++ x ∷ []))) tt c.args.tx.now c.loop-notice.tx (Ok tt) c.put_notice.new.tx (λ p two. two) (λ p fits. fits) (λ brings. brings)
-    c.loop-notice.invariant c.in_ok-put_notice.ensures (λ _. notices_more old.now mid.now new.now (take i all) x))
+    (puts_then (Ok tt) i 1 (with_notices (take i all)) (λ p two. two) (λ p fits. fits) (λ brings. brings) c.loop-notice.invariant c.in_ok-put_notice.ensures (λ _. notices_more old.now mid.now new.now (take i all) (get_or all i d)))
 
 pub returns-in_err-put_notice : goal.returns-in_err-put_notice
 returns-in_err-put_notice g c =
@@ -35,6 +33,5 @@ returns-in_err-put_notice g c =
     let mid = state g.S.Store c.loop-notice.tx.conn.now in
     let new = state g.S.Store c.put_notice.new.tx.conn.now in
     let within : i < length all = omega arith in
-    puts_failed g.S.Store (i + 1) (length all) Any Any (λ _. Brings Any (with_notices (take i all ++ x ∷ []))) (λ _. Brings Any (with_notices all)) c.args.tx.now c.in_err-put_notice.field-0.0 c.from_residual.result c.put_notice.new.tx (omega (arith, within)) (λ p fits. fits) c.from_residual.ensures.1
-    (puts_then g.S.Store i 1 Any Any Any (with_notices (take i all)) (λ _. Brings Any (with_notices (take i all))) (λ _. Brings Any (with_notices (x ∷ []))) (λ _. Brings Any (with_notices (take i all ++ x ∷ []))) tt c.args.tx.now c.loop-notice.tx (Err c.in_err-put_notice.field-0.0) c.put_notice.new.tx (λ p two. two) (λ p fits. fits) (λ brings. brings)
-    c.loop-notice.invariant c.in_err-put_notice.ensures (λ _. notices_more old.now mid.now new.now (take i all) x))
+    puts_failed {E = λ _. Brings Any (with_notices (take i all ++ x ∷ []))} c.from_residual.result (i + 1) (length all) (omega (arith, within)) (λ p fits. fits) c.from_residual.ensures.1
+    (puts_then (Err c.in_err-put_notice.field-0.0) i 1 (with_notices (take i all)) (λ p two. two) (λ p fits. fits) (λ brings. brings) c.loop-notice.invariant c.in_err-put_notice.ensures (λ _. notices_more old.now mid.now new.now (take i all) x))

@@ -12,5 +12,5 @@ pub returns : goal.returns
 returns g c =
     let old = state g.S.Store c.args.tx.now.conn.now in
     let new = state g.S.Store c.run.new.tx.conn.now in
-    text_puts g.S.Store 1 Any (Brings Any (with_cells (c.args.cell ∷ []))) put_cell_text (cell_row c.args.cell) c.args.tx.now c.run.result c.run.new.tx (rw c.cell_values.ensures at c.run.ensures) (cell_goes old new c.args.cell)
+    text_puts c.run.result 1 Any (Brings Any (with_cells (c.args.cell ∷ []))) put_cell_text (cell_row c.args.cell) (rw c.cell_values.ensures at c.run.ensures) (cell_goes old new c.args.cell)
     (cell_uses old new c.args.cell) (cell_stops old new c.args.cell)

@@ -12,5 +12,5 @@ pub returns : goal.returns
 returns g c =
     let old = state g.S.Store c.args.tx.now.conn.now in
     let new = state g.S.Store c.run.new.tx.conn.now in
-    text_puts g.S.Store 1 Any (Brings Any (with_notices (c.args.notice ∷ []))) put_notice_text (notice_row c.args.notice) c.args.tx.now c.run.result c.run.new.tx (rw c.notice_values.ensures at c.run.ensures) (notice_goes old new c.args.notice)
+    text_puts c.run.result 1 Any (Brings Any (with_notices (c.args.notice ∷ []))) put_notice_text (notice_row c.args.notice) (rw c.notice_values.ensures at c.run.ensures) (notice_goes old new c.args.notice)
     (notice_uses old new c.args.notice) (notice_stops old new c.args.notice)

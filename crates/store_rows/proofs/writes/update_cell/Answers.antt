@@ -12,5 +12,5 @@ pub returns : goal.returns
 returns g c =
     let old = state g.S.Store c.args.tx.now.conn.now in
     let new = state g.S.Store c.execute.new.self.conn.now in
-    count_puts g.S.Store 0 Any (λ count. Brings Any (if_changed count (with_cells (c.args.cell ∷ [])))) update_cell_text (cell_row c.args.cell) c.args.tx.now c.execute.result c.execute.new.self c.execute.ensures.same_reference
+    count_puts c.execute.result 0 Any (λ count. Brings Any (if_changed count (with_cells (c.args.cell ∷ [])))) update_cell_text (cell_row c.args.cell) c.execute.ensures.same_reference
     (rw c.cell_values.ensures at c.execute.ensures.runs) c.execute.ensures.survives (cell_changes old new c.args.cell) (cell_update_uses old new c.args.cell) (cell_update_stops old new c.args.cell)
