@@ -118,6 +118,10 @@ module _ {S : Type 0} {g : Ghosts S} where
         survives = survives_more (state g a.conn.now) (state g b.conn.now) (state g c.conn.now) one.survives two.survives;
       }
 
+  -- the second call fails
+  pub runs_stopped : {A B : Type 0} {E : A → Database → Database → Type 0} {F : B → Database → Database → Type 0} {x : A} {e : Error} {a b c : Transaction S} → Runs g E a (Ok x) b → Runs g F b (Err e) c → Runs g (λ (_ : B) _ _. Unit {0}) a (Err e) c
+  runs_stopped {e = e} one two = runs_then (Err e) one two (λ _ _ _. tt)
+
   pub puts_then : {A B : Type 0} {First Fits Next : Parts → Type 0} {E : A → Database → Database → Type 0} {F G : B → Database → Database → Type 0} {x : A} {a b c : Transaction S} (r : Result B Error) (n m : ℕ) (f : Parts → Parts)
       → ((p : Parts) → p.tables ≡ Second → (f p).tables ≡ Second) → ((p : Parts) → Fits p → Next (f p)) → (E x (state g a.conn.now).now (state g b.conn.now).now → Brings Any f (state g a.conn.now).now (state g b.conn.now).now)
       → Puts g n First E a (Ok x) b → Puts g m Next F b r c
@@ -147,6 +151,16 @@ module _ {S : Type 0} {g : Ghosts S} where
   pub runs_failed : {A B : Type 0} {E : A → Database → Database → Type 0} {F : B → Database → Database → Type 0} {a b : Transaction S} {e : Error} (r : Result B Error) → IsErrAnd r (λ u. u ≡ e) → Runs g E a (Err e) b → Runs g F a r b
   runs_failed (Ok y) is one = absurd is
   runs_failed (Err u) is one = record { same_reference = one.same_reference; goes = λ clean inside. tt; kept = one.kept; survives = one.survives }
+
+  -- what was changed means something else
+  pub runs_as : {A : Type 0} {E F : A → Database → Database → Type 0} {a b : Transaction S} (r : Result A Error) → ((x : A) → E x (state g a.conn.now).now (state g b.conn.now).now → F x (state g a.conn.now).now (state g b.conn.now).now) → Runs g E a r b → Runs g F a r b
+  runs_as (Ok x) means one = record {
+    same_reference = one.same_reference;
+    goes = λ clean inside. let h = one.goes clean inside in record { inside = h.inside; committed = h.committed; effect = means x h.effect };
+    kept = one.kept;
+    survives = one.survives;
+  }
+  runs_as (Err e) means one = record { same_reference = one.same_reference; goes = λ clean inside. tt; kept = one.kept; survives = one.survives }
 
   pub puts_failed : {A B : Type 0} {Fits Less : Parts → Type 0} {E : A → Database → Database → Type 0} {F : B → Database → Database → Type 0} {a b : Transaction S} {e : Error} (r : Result B Error) (n m : ℕ) → n ≤ m → ((p : Parts) → Less p → Fits p)
       → IsErrAnd r (λ u. u ≡ e) → Puts g n Fits E a (Err e) b → Puts g m Less F a r b

@@ -1,3 +1,4 @@
+pub mod KeepChangeLemmas
 pub mod KeepLemmas
 pub mod LookLemmas
 pub mod MakeLemmas

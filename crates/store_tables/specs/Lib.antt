@@ -1,3 +1,4 @@
+pub mod Keeping
 pub mod Kept
 pub mod Marking
 pub mod Reads

@@ -6,13 +6,13 @@ ghost use Rattle.store_schema.specs.Tables.{no_schema, IsSchemaOf};
 ghost use Rattle.store_schema.specs.Found.{found_in};
 ghost use Rattle.store_schema.specs.declared.Found.TheVariants.{Blank, Store, Other};
 ghost use Rattle.store_rows.specs.Changes.{changed, renewed};
-ghost use Rattle.store_rows.specs.Holding.{Keeps, KeepsBeside, KeepsEither, KeepsNothing, KeepsNothingOr, IsStoreOf};
+ghost use Rattle.store_rows.specs.Holding.{Keeps, KeepsEither, KeepsNothing, KeepsNothingOr, IsStoreOf};
 ghost use Rattle.store_rows.specs.Steps.{IsStorable};
 ghost use Rattle.store_tables.specs.Transacts.{Takes, made};
 ghost use Rattle.store_tables.specs.Reads.{IsInRange, KeepsAny};
 ghost use Rattle.store_rows.specs.Refusals.{HasRefused};
-ghost use Rattle.store_tables.specs.declared.error.TableError.TheVariants.{BadStore, Memory};
 ghost use Rattle.store_tables.specs.declared.reads.Unread.TheVariants.{Bad, Failed};
+ghost use Rattle.store_tables.specs.Keeping.{ChangesStore, MakesStore};
 
 use crate::commits::{check_open, write};
 use crate::error::TableError;
@@ -34,13 +34,7 @@ pub(crate) fn write_kept<S: Alter>(
     requires cells { All (λ c. c.n < 2 ^ 63) cells.now }
     requires notices { All (λ n. (n.announced < 2 ^ 63) × (n.finished < 2 ^ 63)) notices.now }
     requires edit { IsStorable edit }
-    ensures idle { conn.new.in_transaction ≡ false }
-    ensures honest { HasCleanDisk (state S.Store conn.new) → HasCleanDisk (state S.Store conn.old) }
-    ensures done { (it : _) → Takes edit it → Keeps S.Store conn.old it → OnOk result (Keeps S.Store conn.new (changed cells.now notices.now edit it)) }
-    ensures either { (it : _) → Takes edit it → Keeps S.Store conn.old it → KeepsEither S.Store conn.new it (changed cells.now notices.now edit it) }
-    ensures memory { (it : _) → Keeps S.Store conn.old it → result ≡ Err Memory → Keeps S.Store conn.new it }
-    ensures kind { result ≢ Err BadStore }
-    ensures beside { (it : _) → (others : _) → Takes edit it → Keeps S.Store conn.old it → KeepsBeside S.Store conn.old others → KeepsBeside S.Store conn.new others }
+    ensures { ChangesStore S.Store (Takes edit) (changed cells.now notices.now edit) conn.old result conn.new }
 {
     // what these two ensure of a connection, the transaction is proved with
     let _is_idle = conn.is_autocommit();
@@ -55,12 +49,7 @@ pub(crate) fn make_kept<S: Alter>(
     layout: &str,
 ) -> Result<(), TableError>
     requires { conn.old.in_transaction ≡ false }
-    ensures idle { conn.new.in_transaction ≡ false }
-    ensures honest { HasCleanDisk (state S.Store conn.new) → HasCleanDisk (state S.Store conn.old) }
-    ensures done { KeepsNothing S.Store conn.old → OnOk result (Keeps S.Store conn.new (made site.now layout.now)) }
-    ensures either { KeepsNothing S.Store conn.old → KeepsNothingOr S.Store conn.new (made site.now layout.now) }
-    ensures memory { KeepsNothing S.Store conn.old → result ≡ Err Memory → KeepsNothing S.Store conn.new }
-    ensures kind { result ≢ Err BadStore }
+    ensures { MakesStore S.Store (made site.now layout.now) conn.old result conn.new }
 {
     // what these two ensure of a connection, the transaction is proved with
     let _is_idle = conn.is_autocommit();
@@ -75,13 +64,7 @@ pub(crate) fn renew_kept<S: Alter>(
     layout: &str,
 ) -> Result<(), TableError>
     requires { conn.old.in_transaction ≡ false }
-    ensures idle { conn.new.in_transaction ≡ false }
-    ensures honest { HasCleanDisk (state S.Store conn.new) → HasCleanDisk (state S.Store conn.old) }
-    ensures done { (it : _) → it.version ≡ version → Keeps S.Store conn.old it → OnOk result (Keeps S.Store conn.new (renewed layout.now it)) }
-    ensures either { (it : _) → it.version ≡ version → Keeps S.Store conn.old it → KeepsEither S.Store conn.new it (renewed layout.now it) }
-    ensures memory { (it : _) → Keeps S.Store conn.old it → result ≡ Err Memory → Keeps S.Store conn.new it }
-    ensures kind { result ≢ Err BadStore }
-    ensures beside { (it : _) → (others : _) → it.version ≡ version → Keeps S.Store conn.old it → KeepsBeside S.Store conn.old others → KeepsBeside S.Store conn.new others }
+    ensures { ChangesStore S.Store (λ it. it.version ≡ version) (renewed layout.now) conn.old result conn.new }
 {
     // what these two ensure of a connection, the transaction is proved with
     let _is_idle = conn.is_autocommit();
