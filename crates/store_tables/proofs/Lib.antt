@@ -1,3 +1,4 @@
+pub mod FoundLemmas
 pub mod KeepChangeLemmas
 pub mod KeepLemmas
 pub mod LookLemmas

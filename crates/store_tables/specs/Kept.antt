@@ -1,5 +1,5 @@
 -- What a store over a connection keeps.
-use Rattle.std.specs.Prelude.{◌≡◌, Bool, Option, None, Some}
+use Rattle.std.specs.Prelude.{◌≡◌, ◌≢◌, Bool, false, Option, None, Some, Result, Err, IsTrue}
 use Rattle.sqlite_trees.specs.declared.store.Store.{Ghosts}
 use Rattle.sqlite.specs.Effect.{Database}
 use Rattle.sqlite.specs.State.{HasCleanDisk, Survives}
@@ -11,6 +11,8 @@ use Rattle.store_rows.specs.Holding.{Keeps, KeepsBeside, KeepsEither, KeepsNothi
 use Rattle.store_tables.specs.Marking.{HasOutdatedMark, TellsOutdated}
 use Rattle.store_tables.specs.Reads.{KeepsAny}
 use Rattle.store_rows.specs.Refusals.{HasRefused}
+use Rattle.store_tables.specs.declared.error.TableError.{TableError}
+use Rattle.store_tables.specs.declared.error.TableError.TheVariants.{StoreFault}
 use Rattle.store_tables.specs.declared.tables.Tables.{Tables}
 
 module _ {S : Type 0} {g : Ghosts S} where
@@ -65,6 +67,14 @@ module _ {S : Type 0} {g : Ghosts S} where
   -- the device has given back what was written so far
   abbrev pub IsHonest : Tables S g → Type 0
   IsHonest t = HasCleanDisk (state g t.conn)
+
+  -- How a call ends: a fault is answered where the store has failed by now, and only there; a store that had failed before
+  -- stays as it is; and a device that has given back what was written so far had done so before the call.
+  pub record StopsAtFault {A : Type 0} (old : Tables S g) (result : Result A TableError) (new : Tables S g) : Type 0 where
+    pub honest : IsHonest new → IsHonest old
+    pub fault : result ≡ Err StoreFault → IsTrue (has_failed new)
+    pub sound : result ≢ Err StoreFault → has_failed new ≡ false
+    pub stopped : IsTrue (has_failed old) → (result ≡ Err StoreFault) × (new ≡ old)
 
   -- a content is what is kept, and a look has found it
   abbrev pub Settles : Tables S g → Option Stored → Stored → Type 0

@@ -1,15 +1,23 @@
 -- What the rows that a look shows tell, and the numbers that a store takes.
-use Rattle.std.specs.Prelude.{◌≡◌, ◌⊎◌, ◌<◌, ◌≤◌, ◌^◌, Bool, true, ◌&&◌, List, [], ◌∷◌, All}
+use Rattle.std.specs.Prelude.{◌≡◌, ◌≢◌, ◌⊎◌, ◌<◌, ◌≤◌, ◌^◌, Bool, true, ◌&&◌, List, [], ◌∷◌, All, Option, None, Some, Result, Ok, Err, IfOk, OnOk, IsTrue}
 use Rattle.sqlite_value.specs.declared.value.Value.TheVariants.{Text}
 use Rattle.sqlite_value.specs.Order.{Row, column}
 use Rattle.sqlite_trees.specs.declared.store.Store.{Ghosts}
 use Rattle.sqlite_rules.specs.Lists.{Has}
 use Rattle.sqlite.specs.Held.{Held}
+use Rattle.sqlite.specs.State.{State, HasCleanDisk, Survives}
+use Rattle.store_schema.specs.Tables.{IsSchemaOf}
+use Rattle.store_schema.specs.declared.Version.{Version}
+use Rattle.store_schema.specs.declared.Found.{Found}
+use Rattle.store_schema.specs.declared.Found.TheVariants.{Blank, Store}
+use Rattle.store_rows.specs.Refusals.{HasRefused}
 use Rattle.store_rows.specs.declared.content.StoredCell.{StoredCell}
 use Rattle.store_rows.specs.declared.content.StoredSession.{StoredSession}
 use Rattle.store_rows.specs.declared.content.StoredNotice.{StoredNotice}
 use Rattle.store_rows.specs.Rows.{Stored, mark_row}
-use Rattle.store_rows.specs.Holding.{Mark, Holds, HoldsNothing, Leaves}
+use Rattle.store_rows.specs.Holding.{Mark, Holds, HoldsNothing, IsStoreOf, Leaves}
+use Rattle.store_tables.specs.declared.reads.Unread.{Unread}
+use Rattle.store_tables.specs.declared.reads.Unread.TheVariants.{Bad, Failed}
 
 -- each element stands before the next
 abbrev pub is_chain : {X : Type 0} → (X → X → Bool) → List X → Bool
@@ -43,3 +51,15 @@ pub record IsInRange (it : Stored) : Type 0 where
 -- whatever a crash at this moment leaves is a database without tables, or a store whose content is such
 abbrev pub KeepsAny : {S : Type 0} (g : Ghosts S) → Held S → (Stored → Type 0) → Type 0
 KeepsAny g c Fits = Leaves g c (λ db. HoldsNothing db ⊎ ((it : Stored) × (Fits it × Holds it db)))
+
+-- A look, inside one transaction, at what a database holds in whose schema this was found: it goes on only where the
+-- connection is open, and commits nothing.
+pub record ReadsFound (found : Found) (old : State) (result : Result (Option Stored) Unread) (new : State) : Type 0 where
+  pub opened : HasCleanDisk new → OnOk result (IsTrue old.is_open)
+  pub judged : HasCleanDisk new → result ≡ Err Bad → IsTrue old.is_open
+  pub read : HasCleanDisk new → (it : Stored) → found ≡ Store it.version → IsStoreOf old.now it → IfOk result (λ content. content ≡ Some it)
+  pub own : HasCleanDisk new → (it : Stored) → found ≡ Store it.version → IsStoreOf old.now it → IsInRange it → result ≢ Err Bad
+  pub blank : found ≡ Blank → IfOk result (λ content. content ≡ None) × (result ≢ Err Bad)
+  pub cause : result ≡ Ok None → found ≡ Blank
+  pub refused : HasCleanDisk new → ((v : Version) → found ≡ Store v → IsSchemaOf v old.now.schema) → result ≡ Err Failed → HasRefused old new
+  pub survives : Survives old new (λ _. ⊥)

@@ -1,15 +1,15 @@
 //! What a connection keeps, over each transaction.
-ghost use Rattle.std.specs.Prelude.{◌≡◌, ◌≢◌, ◌⊎◌, ◌<◌, ◌^◌, ⊤, false, All, None, Some, Ok, Err, IsTrue, IfOk, OnOk};
+ghost use Rattle.std.specs.Prelude.{◌≡◌, ◌≢◌, ◌⊎◌, ◌<◌, ◌^◌, ⊤, false, All, None, Some, Ok, Err, IfOk, OnOk};
 ghost use Rattle.sqlite.specs.State.{HasCleanDisk, Survives};
 ghost use Rattle.sqlite.specs.Held.{state};
 ghost use Rattle.store_schema.specs.Tables.{no_schema, IsSchemaOf};
 ghost use Rattle.store_schema.specs.Found.{found_in};
 ghost use Rattle.store_schema.specs.declared.Found.TheVariants.{Blank, Store, Other};
 ghost use Rattle.store_rows.specs.Changes.{changed, renewed};
-ghost use Rattle.store_rows.specs.Holding.{Keeps, KeepsEither, KeepsNothing, KeepsNothingOr, IsStoreOf};
+ghost use Rattle.store_rows.specs.Holding.{Keeps, KeepsEither, KeepsNothing, KeepsNothingOr};
 ghost use Rattle.store_rows.specs.Steps.{IsStorable};
 ghost use Rattle.store_tables.specs.Transacts.{Takes, made};
-ghost use Rattle.store_tables.specs.Reads.{IsInRange, KeepsAny};
+ghost use Rattle.store_tables.specs.Reads.{IsInRange, KeepsAny, ReadsFound};
 ghost use Rattle.store_rows.specs.Refusals.{HasRefused};
 ghost use Rattle.store_tables.specs.declared.reads.Unread.TheVariants.{Bad, Failed};
 ghost use Rattle.store_tables.specs.Keeping.{ChangesStore, MakesStore};
@@ -79,16 +79,7 @@ fn read_found<S: Alter>(
     found: Found,
 ) -> Result<Option<Content>, Unread>
     ensures same_reference { tx.new.conn.ghost_name ≡ tx.old.conn.ghost_name }
-    ensures opened { HasCleanDisk (state S.Store tx.new.conn.now) → OnOk result (IsTrue (state S.Store tx.old.conn.now).is_open) }
-    ensures judged { HasCleanDisk (state S.Store tx.new.conn.now) → result ≡ Err Bad → IsTrue (state S.Store tx.old.conn.now).is_open }
-    ensures read { HasCleanDisk (state S.Store tx.new.conn.now) → (it : _) → found ≡ Store it.version → IsStoreOf (state S.Store tx.old.conn.now).now it
-        → IfOk result (λ content. content ≡ Some it) }
-    ensures own { HasCleanDisk (state S.Store tx.new.conn.now) → (it : _) → found ≡ Store it.version → IsStoreOf (state S.Store tx.old.conn.now).now it → IsInRange it → result ≢ Err Bad }
-    ensures blank { found ≡ Blank → IfOk result (λ content. content ≡ None) × (result ≢ Err Bad) }
-    ensures cause { result ≡ Ok None → found ≡ Blank }
-    ensures refused { HasCleanDisk (state S.Store tx.new.conn.now) → ((v : Version) → found ≡ Store v → IsSchemaOf v (state S.Store tx.old.conn.now).now.schema)
-        → result ≡ Err Failed → HasRefused (state S.Store tx.old.conn.now) (state S.Store tx.new.conn.now) }
-    ensures survives { Survives (state S.Store tx.old.conn.now) (state S.Store tx.new.conn.now) (λ _. ⊥) }
+    ensures reads { ReadsFound found (state S.Store tx.old.conn.now) result (state S.Store tx.new.conn.now) }
 {
     check_open(tx)?;
     match found {
@@ -109,16 +100,7 @@ fn read_whole<S: Alter>(
 ) -> Result<Option<Content>, Unread>
     requires { conn.old.in_transaction ≡ false }
     ensures idle { conn.new.in_transaction ≡ false }
-    ensures opened { HasCleanDisk (state S.Store conn.new) → OnOk result (IsTrue (state S.Store conn.old).is_open) }
-    ensures judged { HasCleanDisk (state S.Store conn.new) → result ≡ Err Bad → IsTrue (state S.Store conn.old).is_open }
-    ensures read { HasCleanDisk (state S.Store conn.new) → (it : _) → found ≡ Store it.version → IsStoreOf (state S.Store conn.old).now it
-        → IfOk result (λ content. content ≡ Some it) }
-    ensures own { HasCleanDisk (state S.Store conn.new) → (it : _) → found ≡ Store it.version → IsStoreOf (state S.Store conn.old).now it → IsInRange it → result ≢ Err Bad }
-    ensures blank { found ≡ Blank → IfOk result (λ content. content ≡ None) × (result ≢ Err Bad) }
-    ensures cause { result ≡ Ok None → found ≡ Blank }
-    ensures refused { HasCleanDisk (state S.Store conn.new) → ((v : Version) → found ≡ Store v → IsSchemaOf v (state S.Store conn.old).now.schema)
-        → result ≡ Err Failed → HasRefused (state S.Store conn.old) (state S.Store conn.new) }
-    ensures survives { Survives (state S.Store conn.old) (state S.Store conn.new) (λ _. ⊥) }
+    ensures reads { ReadsFound found (state S.Store conn.old) result (state S.Store conn.new) }
 {
     let mut tx = conn.transaction();
     let content = read_found(alloc, &mut tx, found)?;

@@ -5,13 +5,11 @@ ghost use Rattle.sqlite_value.specs.declared.value.Value.TheVariants.{Text};
 ghost use Rattle.sqlite_value.specs.Order.{Row as SqlRow, column};
 ghost use Rattle.sqlite.specs.State.{HasCleanDisk, Survives};
 ghost use Rattle.sqlite.specs.Held.{state};
-ghost use Rattle.store_schema.specs.Tables.{IsSchemaOf};
-ghost use Rattle.store_schema.specs.declared.Version.{Version};
 ghost use Rattle.store_schema.specs.declared.Version.TheVariants.{Second};
 ghost use Rattle.store_rows.specs.Holding.{Keeps, KeepsBeside, KeepsEither, Leaves};
 ghost use Rattle.store_tables.specs.declared.error.TableError.TheVariants.{BadStore, Memory};
 ghost use Rattle.store_tables.specs.declared.reads.Unread.TheVariants.{Bad, Failed};
-ghost use Rattle.store_tables.specs.Marking.{HasOutdatedMark, MarksOutdated, TellsOutdated};
+ghost use Rattle.store_tables.specs.Marking.{HasOutdatedMark, MarksOutdated, ReadsOutdated, TellsOutdated};
 ghost use Rattle.store_rows.specs.Refusals.{HasRefused};
 ghost use Rattle.store_tables.specs.Transacts.{RunsOpen, Transacts};
 
@@ -76,13 +74,7 @@ fn has_name(rows: &[Row], name: &[u8]) -> bool
 /// Whether a store has a row of the mark's name.
 fn read_outdated<S: Alter>(tx: &mut Transaction<'_, S>) -> Result<bool, Unread>
     ensures same_reference { tx.new.conn.ghost_name ≡ tx.old.conn.ghost_name }
-    ensures opened { HasCleanDisk (state S.Store tx.new.conn.now) → OnOk result (IsTrue (state S.Store tx.old.conn.now).is_open) }
-    ensures told { HasCleanDisk (state S.Store tx.new.conn.now) → (v : Version) → IsSchemaOf v (state S.Store tx.old.conn.now).now.schema
-        → IfOk result (λ found. TellsOutdated found (state S.Store tx.old.conn.now).now.trees) }
-    ensures kind { result ≢ Err Bad }
-    ensures refused { HasCleanDisk (state S.Store tx.new.conn.now) → (v : Version) → IsSchemaOf v (state S.Store tx.old.conn.now).now.schema
-        → result ≡ Err Failed → HasRefused (state S.Store tx.old.conn.now) (state S.Store tx.new.conn.now) }
-    ensures survives { Survives (state S.Store tx.old.conn.now) (state S.Store tx.new.conn.now) (λ _. ⊥) }
+    ensures reads { ReadsOutdated (state S.Store tx.old.conn.now) result (state S.Store tx.new.conn.now) }
 {
     check_open(tx)?;
     let rows = read_marks(tx)?;
@@ -93,13 +85,7 @@ fn read_outdated<S: Alter>(tx: &mut Transaction<'_, S>) -> Result<bool, Unread>
 fn ask_outdated<S: Alter>(conn: &mut Connection<S>) -> Result<bool, Unread>
     requires { conn.old.in_transaction ≡ false }
     ensures idle { conn.new.in_transaction ≡ false }
-    ensures opened { HasCleanDisk (state S.Store conn.new) → OnOk result (IsTrue (state S.Store conn.old).is_open) }
-    ensures told { HasCleanDisk (state S.Store conn.new) → (v : Version) → IsSchemaOf v (state S.Store conn.old).now.schema
-        → IfOk result (λ found. TellsOutdated found (state S.Store conn.old).now.trees) }
-    ensures kind { result ≢ Err Bad }
-    ensures refused { HasCleanDisk (state S.Store conn.new) → (v : Version) → IsSchemaOf v (state S.Store conn.old).now.schema
-        → result ≡ Err Failed → HasRefused (state S.Store conn.old) (state S.Store conn.new) }
-    ensures survives { Survives (state S.Store conn.old) (state S.Store conn.new) (λ _. ⊥) }
+    ensures reads { ReadsOutdated (state S.Store conn.old) result (state S.Store conn.new) }
 {
     let mut tx = conn.transaction();
     let found = read_outdated(&mut tx)?;

@@ -37,7 +37,7 @@ impl<S: Alter> Tables<S> {
     ghost use Rattle.store_tables.specs.Transacts.{Takes, filled, made, with_site};
     ghost use Rattle.store_tables.specs.Reads.{IsInRange};
     ghost use Rattle.store_tables.specs.Rounds.{AreStorable, TakesAll, changed_all};
-    ghost use Rattle.store_tables.specs.Kept.{has_failed, connection_of, schema_of, IsBlank, IsHonest, KeepsStore, KeepsOneOf, KeepsBlank, KeepsBlankOr, KeepsOthers, KeepsSome, KeepsOutdated, KeepsTold, CommitsNothing, IsRefusal, Settles, SettlesBlank};
+    ghost use Rattle.store_tables.specs.Kept.{has_failed, connection_of, schema_of, IsBlank, IsHonest, KeepsStore, KeepsOneOf, KeepsBlank, KeepsBlankOr, KeepsOthers, KeepsSome, KeepsOutdated, KeepsTold, CommitsNothing, IsRefusal, Settles, SettlesBlank, StopsAtFault};
     ghost use Rattle.store_tables.specs.declared.error.TableError.TheVariants.{BadStore, Memory, StoreFault};
 
     /// The tables of a database, of which the caller shows that no transaction is open. Calls no store.
@@ -80,11 +80,8 @@ impl<S: Alter> Tables<S> {
         ensures ok { KeepsBlank self.old → OnOk result (KeepsStore self.new (made site.now layout.now)) }
         ensures memory { KeepsBlank self.old → result ≡ Err Memory → KeepsBlank self.new }
         ensures either { KeepsBlank self.old → result ≡ Err StoreFault → KeepsBlankOr self.new (made site.now layout.now) }
-        ensures honest { IsHonest self.new → IsHonest self.old }
-        ensures fault { result ≡ Err StoreFault → IsTrue (has_failed self.new) }
-        ensures sound { result ≢ Err StoreFault → has_failed self.new ≡ false }
+        ensures stops { StopsAtFault self.old result self.new }
         ensures kind { result ≢ Err BadStore }
-        ensures stopped { IsTrue (has_failed self.old) → (result ≡ Err StoreFault) × (self.new ≡ self.old) }
     {
         if self.failed {
             return Err(TableError::StoreFault);
@@ -108,11 +105,8 @@ impl<S: Alter> Tables<S> {
         ensures ok { KeepsBlank self.old → OnOk result (KeepsStore self.new (filled site.now layout.now cells.now notices.now)) }
         ensures memory { KeepsBlank self.old → result ≡ Err Memory → KeepsBlank self.new }
         ensures either { KeepsBlank self.old → result ≡ Err StoreFault → KeepsBlankOr self.new (filled site.now layout.now cells.now notices.now) }
-        ensures honest { IsHonest self.new → IsHonest self.old }
-        ensures fault { result ≡ Err StoreFault → IsTrue (has_failed self.new) }
-        ensures sound { result ≢ Err StoreFault → has_failed self.new ≡ false }
+        ensures stops { StopsAtFault self.old result self.new }
         ensures kind { result ≢ Err BadStore }
-        ensures stopped { IsTrue (has_failed self.old) → (result ≡ Err StoreFault) × (self.new ≡ self.old) }
     {
         if self.failed {
             return Err(TableError::StoreFault);
@@ -129,11 +123,8 @@ impl<S: Alter> Tables<S> {
         ensures memory { (it : _) → it.version ≡ version → KeepsStore self.old it → result ≡ Err Memory → KeepsStore self.new it }
         ensures either { (it : _) → it.version ≡ version → KeepsStore self.old it → result ≡ Err StoreFault → KeepsOneOf self.new it (renewed layout.now it) }
         ensures beside { (it : _) → (others : _) → it.version ≡ version → KeepsStore self.old it → KeepsOthers self.old others → KeepsOthers self.new others }
-        ensures honest { IsHonest self.new → IsHonest self.old }
-        ensures fault { result ≡ Err StoreFault → IsTrue (has_failed self.new) }
-        ensures sound { result ≢ Err StoreFault → has_failed self.new ≡ false }
+        ensures stops { StopsAtFault self.old result self.new }
         ensures kind { result ≢ Err BadStore }
-        ensures stopped { IsTrue (has_failed self.old) → (result ≡ Err StoreFault) × (self.new ≡ self.old) }
     {
         if self.failed {
             return Err(TableError::StoreFault);
@@ -150,11 +141,8 @@ impl<S: Alter> Tables<S> {
         ensures memory { (it : _) → it.version ≡ Second → KeepsStore self.old it → result ≡ Err Memory → KeepsStore self.new it }
         ensures either { (it : _) → it.version ≡ Second → KeepsStore self.old it → result ≡ Err StoreFault → KeepsOneOf self.new it (with_site site.now it) }
         ensures beside { (it : _) → (others : _) → it.version ≡ Second → KeepsStore self.old it → KeepsOthers self.old others → KeepsOthers self.new others }
-        ensures honest { IsHonest self.new → IsHonest self.old }
-        ensures fault { result ≡ Err StoreFault → IsTrue (has_failed self.new) }
-        ensures sound { result ≢ Err StoreFault → has_failed self.new ≡ false }
+        ensures stops { StopsAtFault self.old result self.new }
         ensures kind { result ≢ Err BadStore }
-        ensures stopped { IsTrue (has_failed self.old) → (result ≡ Err StoreFault) × (self.new ≡ self.old) }
     {
         if self.failed {
             return Err(TableError::StoreFault);
@@ -179,11 +167,8 @@ impl<S: Alter> Tables<S> {
         ensures memory { (it : _) → Takes edit it → KeepsStore self.old it → result ≡ Err Memory → KeepsStore self.new it }
         ensures either { (it : _) → Takes edit it → KeepsStore self.old it → result ≡ Err StoreFault → KeepsOneOf self.new it (changed cells.now notices.now edit it) }
         ensures beside { (it : _) → (others : _) → Takes edit it → KeepsStore self.old it → KeepsOthers self.old others → KeepsOthers self.new others }
-        ensures honest { IsHonest self.new → IsHonest self.old }
-        ensures fault { result ≡ Err StoreFault → IsTrue (has_failed self.new) }
-        ensures sound { result ≢ Err StoreFault → has_failed self.new ≡ false }
+        ensures stops { StopsAtFault self.old result self.new }
         ensures kind { result ≢ Err BadStore }
-        ensures stopped { IsTrue (has_failed self.old) → (result ≡ Err StoreFault) × (self.new ≡ self.old) }
         ensures nothing { cells.now ≡ [] → notices.now ≡ [] → edit ≡ None → self.new ≡ self.old }
     {
         if self.failed {
@@ -212,11 +197,8 @@ impl<S: Alter> Tables<S> {
         ensures memory { (it : _) → KeepsStore self.old it → result ≡ Err Memory → KeepsStore self.new it }
         ensures either { (it : _) → TakesAll edits.now it → KeepsStore self.old it → result ≡ Err StoreFault → KeepsOneOf self.new it (changed_all cells.now notices.now edits.now it) }
         ensures beside { (it : _) → (others : _) → TakesAll edits.now it → KeepsStore self.old it → KeepsOthers self.old others → KeepsOthers self.new others }
-        ensures honest { IsHonest self.new → IsHonest self.old }
-        ensures fault { result ≡ Err StoreFault → IsTrue (has_failed self.new) }
-        ensures sound { result ≢ Err StoreFault → has_failed self.new ≡ false }
+        ensures stops { StopsAtFault self.old result self.new }
         ensures kind { result ≢ Err BadStore }
-        ensures stopped { IsTrue (has_failed self.old) → (result ≡ Err StoreFault) × (self.new ≡ self.old) }
     {
         if self.failed {
             return Err(TableError::StoreFault);
@@ -242,10 +224,7 @@ impl<S: Alter> Tables<S> {
         ensures bare { KeepsBlank self.old → KeepsBlank self.new }
         ensures bare_or { (it : _) → KeepsBlankOr self.old it → KeepsBlankOr self.new it }
         ensures beside { (others : _) → KeepsOthers self.old others → KeepsOthers self.new others }
-        ensures honest { IsHonest self.new → IsHonest self.old }
-        ensures fault { result ≡ Err StoreFault → IsTrue (has_failed self.new) }
-        ensures sound { result ≢ Err StoreFault → has_failed self.new ≡ false }
-        ensures stopped { IsTrue (has_failed self.old) → (result ≡ Err StoreFault) × (self.new ≡ self.old) }
+        ensures stops { StopsAtFault self.old result self.new }
         ensures good { KeepsSome self.old IsInRange → IsHonest self.new → result ≢ Err BadStore }
         ensures refused { has_failed self.old ≡ false → KeepsSome self.old (λ _. ⊤) → IsHonest self.new → result ≡ Err StoreFault → IsRefusal self.old self.new }
         ensures other { has_failed self.old ≡ false → found_in (schema_of self.old) ≡ Other → IsHonest self.new → result ≡ Err StoreFault → IsRefusal self.old self.new }
@@ -298,11 +277,8 @@ impl<S: Alter> Tables<S> {
         ensures either { (a b : _) → a.version ≡ Second → b.version ≡ Second → KeepsOneOf self.old a b → KeepsOneOf self.new a b }
         ensures beside { (it : _) → (others : _) → it.version ≡ Second → KeepsStore self.old it → KeepsOthers self.old others → KeepsOthers self.new others }
         ensures memory { result ≡ Err Memory → CommitsNothing self.old self.new }
-        ensures honest { IsHonest self.new → IsHonest self.old }
-        ensures fault { result ≡ Err StoreFault → IsTrue (has_failed self.new) }
-        ensures sound { result ≢ Err StoreFault → has_failed self.new ≡ false }
+        ensures stops { StopsAtFault self.old result self.new }
         ensures kind { result ≢ Err BadStore }
-        ensures stopped { IsTrue (has_failed self.old) → (result ≡ Err StoreFault) × (self.new ≡ self.old) }
     {
         if self.failed {
             return Err(TableError::StoreFault);
@@ -319,11 +295,8 @@ impl<S: Alter> Tables<S> {
         ensures marked { (it : _) → KeepsStore self.old it → KeepsOutdated self.old → IsHonest self.new → IfOk result (λ found. found ≡ true) }
         ensures unmarked { (it : _) → KeepsStore self.old it → KeepsTold self.old false → IsHonest self.new → IfOk result (λ found. found ≡ false) }
         ensures unwritten { CommitsNothing self.old self.new }
-        ensures honest { IsHonest self.new → IsHonest self.old }
-        ensures fault { result ≡ Err StoreFault → IsTrue (has_failed self.new) }
-        ensures sound { result ≢ Err StoreFault → has_failed self.new ≡ false }
+        ensures stops { StopsAtFault self.old result self.new }
         ensures kind { result ≢ Err BadStore }
-        ensures stopped { IsTrue (has_failed self.old) → (result ≡ Err StoreFault) × (self.new ≡ self.old) }
         ensures refused { has_failed self.old ≡ false → (it : _) → KeepsStore self.old it → IsHonest self.new → result ≡ Err StoreFault → IsRefusal self.old self.new }
     {
         if self.failed {
