@@ -132,8 +132,8 @@ module _ {S : Type 0} (g : Ghosts S) where
     pub runs : HasCleanDisk (state g new.conn.now) → IsTrue old.conn.now.in_transaction → HasRun sql params (state g old.conn.now) result (state g new.conn.now)
     pub survives : Survives (state g old.conn.now) (state g new.conn.now) (λ _. ⊥)
 
-  -- A call inside a transaction: where it answers a value, it changed what the transaction sees in the way of that value.
-  -- Whatever it answers, it commits nothing and forgets no fault.
+  -- What a call inside a transaction does. Where it answers a value, it has changed what the transaction sees, as the effect
+  -- says of that value. Whatever it answers, it commits nothing and forgets no fault.
   pub record Runs {A : Type 0} (Effect : A → Database → Database → Type 0) (old : Transaction S) (result : Result A Error) (new : Transaction S) : Type 0 where
     pub same_reference : new.conn.ghost_name ≡ old.conn.ghost_name
     pub goes : HasCleanDisk (state g new.conn.now) → IsTrue old.conn.now.in_transaction
@@ -141,8 +141,8 @@ module _ {S : Type 0} (g : Ghosts S) where
     pub kept : HasCleanDisk (state g new.conn.now) → IsTrue old.conn.now.in_transaction → KeepsCommit (state g old.conn.now) (state g new.conn.now)
     pub survives : Survives (state g old.conn.now) (state g new.conn.now) (λ _. ⊥)
 
-  -- The same, with how many rowids of each table it takes at most, and why it is refused: not for want of rowids where
-  -- there are so many, and not by a store whose parts fit.
+  -- The same of a call that writes rows, with its needs: it takes at most so many rowids of each table, and it is refused
+  -- neither for want of them where so many are left, nor by a store whose parts fit.
   pub record Puts {A : Type 0} (n : ℕ) (Fits : Parts → Type 0) (Effect : A → Database → Database → Type 0) (old : Transaction S) (result : Result A Error) (new : Transaction S) : Type 0 where
     pub runs : Runs Effect old result new
     pub uses : HasCleanDisk (state g new.conn.now) → IsTrue old.conn.now.in_transaction

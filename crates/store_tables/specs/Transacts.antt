@@ -77,8 +77,8 @@ module _ {S : Type 0} (g : Ghosts S) where
     pub runs : Runs g (λ _. Effect) old result new
     pub opened : HasCleanDisk (state g new.conn.now) → OnOk result (IsTrue (state g old.conn.now).is_open)
 
-  -- One transaction over a connection: `Ok` is answered where its change is committed, and want of memory where nothing is.
-  -- Whatever is answered, a crash leaves what it left before or what the change makes.
+  -- One transaction over a connection: after `Ok` its change is committed, and after `Memory` nothing is. Whatever it answers,
+  -- a crash leaves what it left before, or what the change makes of that.
   pub record Transacts (Effect : Database → Database → Type 0) (old : Held S) (result : Result (Unit {0}) TableError) (new : Held S) : Type 0 where
     pub idle : new.in_transaction ≡ false
     pub done : HasCleanDisk (state g new) → OnOk result (HasCommitted (state g old) (state g new) Effect)
