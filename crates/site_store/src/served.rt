@@ -4,15 +4,14 @@ ghost use Rattle.sqlite_schema.specs.declared.schema.Schema.{Schema};
 ghost use Rattle.sqlite.specs.State.{HasCleanDisk, Survives};
 ghost use Rattle.sqlite.specs.Held.{state};
 ghost use Rattle.layout_line.specs.Line.{line_of, IsLine};
-ghost use Rattle.store_rows.specs.Holding.{Keeps, KeepsBeside};
+ghost use Rattle.store_rows.specs.Holding.{Keeps};
 ghost use Rattle.store_tables.specs.Kept.{has_failed, connection_of, CommitsNothing, IsRefusal};
 ghost use Rattle.store_rows.specs.Refusals.{HasRefused};
 ghost use Rattle.site_store.specs.declared.error.ServedError.TheVariants.{Outdated, StoreFault, Memory};
 ghost use Rattle.site_store.specs.Errors.{marked_error};
 ghost use Rattle.site_store.specs.SiteText.{named};
-ghost use Rattle.store_tables.specs.Transacts.{made};
 ghost use Rattle.site_store.specs.Opened.{IsCurrent, IsDue};
-ghost use Rattle.site_store.specs.Served.{Finds, FindsStore, IsContentCause, IsDenied, IsDevice, IsDeviceOrMark, IsHeldRefusal, KeepsMark, KeepsNoMark, IsNotEarlier, IsOpenRefusal, IsOriginOf, IsPermitted, IsSettled, IsTaken, MakesStore};
+ghost use Rattle.site_store.specs.Served.{FindsContent, FindsStore, IsContentCause, IsDenied, IsDevice, IsDeviceOrMark, IsHeldRefusal, KeepsMark, KeepsNoMark, IsNotEarlier, IsOpenRefusal, IsOriginOf, IsPermitted, IsSettled, IsTaken, MakesStore};
 
 use crate::error::{ServedError, StoreOpenError};
 use crate::opening::{judge, make_new, open_found};
@@ -133,11 +132,7 @@ fn take_content<S: Alter>(
     grow: bool,
 ) -> Result<Index, ServedError>
     requires { line.now ≡ line_of layout.now }
-    ensures ready { (it : _) → Keeps S.Store (connection_of tables.old) it → (HasCleanDisk (state S.Store (connection_of tables.old)) → content.now ≡ it)
-        → Finds S.Store grow layout.now site (named group.entry) it (connection_of tables.new) result }
-    ensures beside { (it : _) → (others : _) → Keeps S.Store (connection_of tables.old) it → (HasCleanDisk (state S.Store (connection_of tables.old)) → content.now ≡ it)
-        → KeepsBeside S.Store (connection_of tables.old) others → KeepsBeside S.Store (connection_of tables.new) others }
-    ensures honest { HasCleanDisk (state S.Store (connection_of tables.new)) → HasCleanDisk (state S.Store (connection_of tables.old)) }
+    ensures finds { FindsContent grow layout.now site (named group.entry) content.now tables.old tables.new result }
     ensures sound { has_failed tables.old ≡ false → IsOk result → has_failed tables.new ≡ false }
     ensures own { IsTaken grow layout.now site (named group.entry) content.now → IfErr result IsDeviceOrMark }
     ensures kind { IfErr result IsOpenRefusal }
@@ -224,11 +219,7 @@ fn open_content<S: Alter>(
     grow: bool,
 ) -> Result<Index, ServedError>
     requires { line.now ≡ line_of layout.now }
-    ensures ready { (it : _) → Keeps S.Store (connection_of tables.old) it → (HasCleanDisk (state S.Store (connection_of tables.old)) → content.now ≡ it)
-        → Finds S.Store grow layout.now site (named group.entry) it (connection_of tables.new) result }
-    ensures beside { (it : _) → (others : _) → Keeps S.Store (connection_of tables.old) it → (HasCleanDisk (state S.Store (connection_of tables.old)) → content.now ≡ it)
-        → KeepsBeside S.Store (connection_of tables.old) others → KeepsBeside S.Store (connection_of tables.new) others }
-    ensures honest { HasCleanDisk (state S.Store (connection_of tables.new)) → HasCleanDisk (state S.Store (connection_of tables.old)) }
+    ensures finds { FindsContent grow layout.now site (named group.entry) content.now tables.old tables.new result }
     ensures sound { IsOk result → has_failed tables.new ≡ false }
     ensures own { IsTaken grow layout.now site (named group.entry) content.now → IfErr result IsDeviceOrMark }
     ensures kind { IfErr result IsHeldRefusal }

@@ -38,10 +38,10 @@ bad_is_none is = absurd (cc)
 
 pub returns-in-Ok-Some-clause-found : goal.returns-in-Ok-Some-clause-found
 returns-in-Ok-Some-clause-found g c = record {
-  ready = λ it keeps. c.open_content.ensures.ready it (c.in-Ok-Some.ensures.kept it keeps) (λ clean. same_Some c.in-Ok-Some.content it (sym c.in-Ok-Some.field-0-is ∙ c.in-Ok-Some.ensures.read it keeps clean));
+  ready = λ it keeps. c.open_content.ensures.finds.ready it (c.in-Ok-Some.ensures.kept it keeps) (λ clean. same_Some c.in-Ok-Some.content it (sym c.in-Ok-Some.field-0-is ∙ c.in-Ok-Some.ensures.read it keeps clean));
   settles = λ a b keeps. settled_as g.S.Store (connection_of c.open_content.new.tables) c.args.grow c.args.layout.now c.args.site (named c.args.group) a b _ _ _ c.in-Ok-Some.field-0 (c.in-Ok-Some.ensures.settles a b keeps)
       c.in-Ok-Some.content c.in-Ok-Some.field-0-is c.open_content.result
-      (λ kept same. c.open_content.ensures.ready a kept (λ clean. same clean)) (λ kept same. c.open_content.ensures.ready b kept (λ clean. same clean));
+      (λ kept same. c.open_content.ensures.finds.ready a kept (λ clean. same clean)) (λ kept same. c.open_content.ensures.finds.ready b kept (λ clean. same clean));
   settles_or = λ it keeps. let layout = c.args.layout.now in
       let conn = connection_of c.look.new.self in
       let next = connection_of c.open_content.new.tables in
@@ -49,39 +49,39 @@ returns-in-Ok-Some-clause-found g c = record {
       let t = c.in-Ok-Some.field-0 in
       if_ok_from c.open_content.result (λ index is.
       ready_honest g.S.Store next layout c.args.site (named c.args.group) it index (λ clean.
-      let early = c.open_content.ensures.honest clean in
+      let early = c.open_content.ensures.finds.honest clean in
       let kept = some_kept g.S.Store conn it _ early t found c.in-Ok-Some.content c.in-Ok-Some.field-0-is in
       let same = some_found g.S.Store conn it _ early t found c.in-Ok-Some.content c.in-Ok-Some.field-0-is in
-      (subst (λ (r : Result Index ServedError). Finds g.S.Store c.args.grow layout c.args.site (named c.args.group) it next r) is (c.open_content.ensures.ready it kept (λ _. same))).ready));
+      (subst (λ (r : Result Index ServedError). Finds g.S.Store c.args.grow layout c.args.site (named c.args.group) it next r) is (c.open_content.ensures.finds.ready it kept (λ _. same))).ready));
   own = λ a b first second keeps. if_err_from c.open_content.result (λ e is clean.
       either_taken g.S.Store (connection_of c.open_content.new.tables) c.args.grow c.args.layout.now c.args.site (named c.args.group) a b _ _ _ c.in-Ok-Some.field-0 (c.in-Ok-Some.ensures.settles a b keeps)
-      (c.open_content.ensures.honest clean) c.in-Ok-Some.content c.in-Ok-Some.field-0-is first second e (λ taken. IfErr-at_err IsDeviceOrMark is (c.open_content.ensures.own taken)));
+      (c.open_content.ensures.finds.honest clean) c.in-Ok-Some.content c.in-Ok-Some.field-0-is first second e (λ taken. IfErr-at_err IsDeviceOrMark is (c.open_content.ensures.own taken)));
   left = λ a b keeps. if_err_from c.open_content.result (λ e is.
       left_as g.S.Store (connection_of c.open_content.new.tables) c.args.grow c.args.layout.now c.args.site (named c.args.group) a b _ _ _ c.in-Ok-Some.field-0 (c.in-Ok-Some.ensures.settles a b keeps)
-      c.in-Ok-Some.content c.in-Ok-Some.field-0-is c.open_content.result e is (λ kept same. c.open_content.ensures.ready a kept (λ clean. same clean)) (λ kept same. c.open_content.ensures.ready b kept (λ clean. same clean)));
+      c.in-Ok-Some.content c.in-Ok-Some.field-0-is c.open_content.result e is (λ kept same. c.open_content.ensures.finds.ready a kept (λ clean. same clean)) (λ kept same. c.open_content.ensures.finds.ready b kept (λ clean. same clean)));
   left_or = λ it keeps. if_err_from c.open_content.result (λ e is.
       left_doubt_as g.S.Store (connection_of c.open_content.new.tables) c.args.grow c.args.layout.now c.args.site (named c.args.group) it _ _ _ c.in-Ok-Some.field-0 (c.in-Ok-Some.ensures.settles_or it keeps)
-      c.open_content.ensures.honest c.in-Ok-Some.content c.in-Ok-Some.field-0-is c.open_content.result e is (λ kept same. c.open_content.ensures.ready it kept (λ clean. same clean)));
+      c.open_content.ensures.finds.honest c.in-Ok-Some.content c.in-Ok-Some.field-0-is c.open_content.result e is (λ kept same. c.open_content.ensures.finds.ready it kept (λ clean. same clean)));
   kind = c.open_content.ensures.kind;
   marked = λ it keeps mark. c.open_content.ensures.marked it (c.in-Ok-Some.ensures.kept it keeps)
       (leaves_still g.S.Store (connection_of c.args.tables.now) (connection_of c.look.new.self) HasOutdatedMark c.in-Ok-Some.ensures.unwritten mark);
   unmarked = λ it keeps none. c.open_content.ensures.unmarked it (c.in-Ok-Some.ensures.kept it keeps)
       (leaves_still g.S.Store (connection_of c.args.tables.now) (connection_of c.look.new.self) (TellsOutdated false) c.in-Ok-Some.ensures.unwritten none);
   beside = λ a b others keeps beside. let still = c.in-Ok-Some.ensures.beside others beside in
-      beside_some g.S.Store (connection_of c.open_content.new.tables) a b _ _ _ others c.open_content.ensures.honest c.in-Ok-Some.field-0 c.in-Ok-Some.content c.in-Ok-Some.field-0-is
-      (λ kept same. c.open_content.ensures.beside a others kept same still) (λ kept same. c.open_content.ensures.beside b others kept same still) (c.in-Ok-Some.ensures.settles a b keeps);
+      beside_some g.S.Store (connection_of c.open_content.new.tables) a b _ _ _ others c.open_content.ensures.finds.honest c.in-Ok-Some.field-0 c.in-Ok-Some.content c.in-Ok-Some.field-0-is
+      (λ kept same. c.open_content.ensures.finds.beside a others kept same still) (λ kept same. c.open_content.ensures.finds.beside b others kept same still) (c.in-Ok-Some.ensures.settles a b keeps);
   fault = λ sound it keeps. if_err_from c.open_content.result (λ e is fault clean.
       let s0 = state g.S.Store (connection_of c.args.tables.now) in
       let s1 = state g.S.Store (connection_of c.look.new.self) in
       let s2 = state g.S.Store (connection_of c.open_content.new.tables) in
-      let early = c.open_content.ensures.honest clean in
+      let early = c.open_content.ensures.finds.honest clean in
       let same = same_Some c.in-Ok-Some.content it (sym c.in-Ok-Some.field-0-is ∙ c.in-Ok-Some.ensures.read it keeps early) in
       elim (IfErr-at_err (λ x. x ≡ served.StoreFault → HasCleanDisk s2 → (IsRefusal c.look.new.self c.open_content.new.tables × CommitsNothing c.look.new.self c.open_content.new.tables)
       ⊎ IsDue c.args.layout.now c.args.site (named c.args.group) c.in-Ok-Some.content) is (c.open_content.ensures.fault (c.in-Ok-Some.ensures.stops.sound ok_is_none) it (c.in-Ok-Some.ensures.kept it keeps)) fault clean) [
         | inl why ↦ inl (refused_from s0 s1 s2 c.in-Ok-Some.ensures.unwritten early why.1 why.0)
         | inr due ↦ inr (subst (IsDue c.args.layout.now c.args.site (named c.args.group)) same due)
       ]);
-  current = λ it current keeps clean. let early = c.open_content.ensures.honest clean in
+  current = λ it current keeps clean. let early = c.open_content.ensures.finds.honest clean in
       let found = same_Some c.in-Ok-Some.content it (sym c.in-Ok-Some.field-0-is ∙ c.in-Ok-Some.ensures.read it keeps early) in
       survives_more (state g.S.Store (connection_of c.args.tables.now)) (state g.S.Store (connection_of c.look.new.self)) (state g.S.Store (connection_of c.open_content.new.tables)) c.in-Ok-Some.ensures.unwritten
       (c.open_content.ensures.current (subst (IsCurrent c.args.layout.now) (sym found) current));
