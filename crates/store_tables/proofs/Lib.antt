@@ -2,6 +2,7 @@ pub mod FoundLemmas
 pub mod KeepChangeLemmas
 pub mod KeepLemmas
 pub mod LookLemmas
+pub mod LookingLemmas
 pub mod MakeLemmas
 pub mod MarkingLemmas
 pub mod OwnLemmas

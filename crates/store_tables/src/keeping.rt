@@ -1,16 +1,13 @@
 //! What a connection keeps, over each transaction.
-ghost use Rattle.std.specs.Prelude.{◌≡◌, ◌≢◌, ◌⊎◌, ◌<◌, ◌^◌, ⊤, false, All, None, Some, Ok, Err, IfOk, OnOk};
-ghost use Rattle.sqlite.specs.State.{HasCleanDisk, Survives};
+ghost use Rattle.std.specs.Prelude.{◌≡◌, ◌<◌, ◌^◌, false, All, None, Some, Ok, Err};
 ghost use Rattle.sqlite.specs.Held.{state};
-ghost use Rattle.store_schema.specs.Tables.{no_schema, IsSchemaOf};
 ghost use Rattle.store_schema.specs.Found.{found_in};
 ghost use Rattle.store_schema.specs.declared.Found.TheVariants.{Blank, Store, Other};
 ghost use Rattle.store_rows.specs.Changes.{changed, renewed};
-ghost use Rattle.store_rows.specs.Holding.{Keeps, KeepsEither, KeepsNothing, KeepsNothingOr};
 ghost use Rattle.store_rows.specs.Steps.{IsStorable};
 ghost use Rattle.store_tables.specs.Transacts.{Takes, made};
-ghost use Rattle.store_tables.specs.Reads.{IsInRange, KeepsAny, ReadsFound};
-ghost use Rattle.store_rows.specs.Refusals.{HasRefused};
+ghost use Rattle.store_tables.specs.Looking.{IsRefusedLook, Looks};
+ghost use Rattle.store_tables.specs.Reads.{ReadsFound};
 ghost use Rattle.store_tables.specs.declared.reads.Unread.TheVariants.{Bad, Failed};
 ghost use Rattle.store_tables.specs.Keeping.{ChangesStore, MakesStore};
 
@@ -114,24 +111,8 @@ pub(crate) fn look_kept<S: Alter>(
 ) -> Result<Option<Content>, Unread>
     requires { conn.old.in_transaction ≡ false }
     ensures idle { conn.new.in_transaction ≡ false }
-    ensures read { HasCleanDisk (state S.Store conn.new) → (it : _) → Keeps S.Store conn.old it → IfOk result (λ found. found ≡ Some it) }
-    ensures own { HasCleanDisk (state S.Store conn.new) → (it : _) → IsInRange it → Keeps S.Store conn.old it → result ≢ Err Bad }
-    ensures blank { HasCleanDisk (state S.Store conn.new) → KeepsNothing S.Store conn.old → IfOk result (λ found. found ≡ None) × (result ≢ Err Bad) }
-    ensures settles { (a : _) → (b : _) → KeepsEither S.Store conn.old a b
-        → IfOk result (λ found. ∥ (Keeps S.Store conn.new a × (HasCleanDisk (state S.Store conn.new) → found ≡ Some a))
-        ⊎ (Keeps S.Store conn.new b × (HasCleanDisk (state S.Store conn.new) → found ≡ Some b)) ∥₁) }
-    ensures settles_or { (it : _) → KeepsNothingOr S.Store conn.old it
-        → IfOk result (λ found. ∥ (KeepsNothing S.Store conn.new × (HasCleanDisk (state S.Store conn.new) → found ≡ None))
-        ⊎ (Keeps S.Store conn.new it × (HasCleanDisk (state S.Store conn.new) → found ≡ Some it)) ∥₁) }
-    ensures cause { result ≡ Ok None → found_in (state S.Store conn.old).now.schema ≡ Blank }
-    ensures fresh { (state S.Store conn.old).now.schema ≡ no_schema → OnOk result (KeepsNothing S.Store conn.new) }
-    ensures sound { HasCleanDisk (state S.Store conn.new) → KeepsAny S.Store conn.old IsInRange → result ≢ Err Bad }
-    ensures refused { HasCleanDisk (state S.Store conn.new) → KeepsAny S.Store conn.old (λ _. ⊤) → result ≡ Err Failed → HasRefused (state S.Store conn.old) (state S.Store conn.new) }
-    ensures other { HasCleanDisk (state S.Store conn.new) → found_in (state S.Store conn.old).now.schema ≡ Other → result ≡ Err Failed
-        → HasRefused (state S.Store conn.old) (state S.Store conn.new) }
-    ensures tables { HasCleanDisk (state S.Store conn.new) → (v : Version) → found_in (state S.Store conn.old).now.schema ≡ Store v
-        → IsSchemaOf v (state S.Store conn.old).now.schema → result ≡ Err Failed → HasRefused (state S.Store conn.old) (state S.Store conn.new) }
-    ensures survives { Survives (state S.Store conn.old) (state S.Store conn.new) (λ _. ⊥) }
+    ensures looks { Looks S.Store Bad conn.old result conn.new }
+    ensures refused { IsRefusedLook S.Store Failed conn.old result conn.new }
 {
     // what it ensures of a connection, the transaction is read with
     let _is_idle = conn.is_autocommit();

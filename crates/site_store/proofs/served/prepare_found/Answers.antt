@@ -38,14 +38,14 @@ bad_is_none is = absurd (cc)
 
 pub returns-in-Ok-Some-clause-found : goal.returns-in-Ok-Some-clause-found
 returns-in-Ok-Some-clause-found g c = record {
-  ready = λ it keeps. c.open_content.ensures.finds.ready it (c.in-Ok-Some.ensures.kept it keeps) (λ clean. same_Some c.in-Ok-Some.content it (sym c.in-Ok-Some.field-0-is ∙ c.in-Ok-Some.ensures.read it keeps clean));
-  settles = λ a b keeps. settled_as g.S.Store (connection_of c.open_content.new.tables) c.args.grow c.args.layout.now c.args.site (named c.args.group) a b _ _ _ c.in-Ok-Some.field-0 (c.in-Ok-Some.ensures.settles a b keeps)
+  ready = λ it keeps. c.open_content.ensures.finds.ready it (c.in-Ok-Some.ensures.keeps.kept it keeps) (λ clean. same_Some c.in-Ok-Some.content it (sym c.in-Ok-Some.field-0-is ∙ c.in-Ok-Some.ensures.looks.read it keeps clean));
+  settles = λ a b keeps. settled_as g.S.Store (connection_of c.open_content.new.tables) c.args.grow c.args.layout.now c.args.site (named c.args.group) a b _ _ _ c.in-Ok-Some.field-0 (c.in-Ok-Some.ensures.looks.settles a b keeps)
       c.in-Ok-Some.content c.in-Ok-Some.field-0-is c.open_content.result
       (λ kept same. c.open_content.ensures.finds.ready a kept (λ clean. same clean)) (λ kept same. c.open_content.ensures.finds.ready b kept (λ clean. same clean));
   settles_or = λ it keeps. let layout = c.args.layout.now in
       let conn = connection_of c.look.new.self in
       let next = connection_of c.open_content.new.tables in
-      let found = c.in-Ok-Some.ensures.settles_or it keeps in
+      let found = c.in-Ok-Some.ensures.looks.settles_or it keeps in
       let t = c.in-Ok-Some.field-0 in
       if_ok_from c.open_content.result (λ index is.
       ready_honest g.S.Store next layout c.args.site (named c.args.group) it index (λ clean.
@@ -54,65 +54,65 @@ returns-in-Ok-Some-clause-found g c = record {
       let same = some_found g.S.Store conn it _ early t found c.in-Ok-Some.content c.in-Ok-Some.field-0-is in
       (subst (λ (r : Result Index ServedError). Finds g.S.Store c.args.grow layout c.args.site (named c.args.group) it next r) is (c.open_content.ensures.finds.ready it kept (λ _. same))).ready));
   own = λ a b first second keeps. if_err_from c.open_content.result (λ e is clean.
-      either_taken g.S.Store (connection_of c.open_content.new.tables) c.args.grow c.args.layout.now c.args.site (named c.args.group) a b _ _ _ c.in-Ok-Some.field-0 (c.in-Ok-Some.ensures.settles a b keeps)
+      either_taken g.S.Store (connection_of c.open_content.new.tables) c.args.grow c.args.layout.now c.args.site (named c.args.group) a b _ _ _ c.in-Ok-Some.field-0 (c.in-Ok-Some.ensures.looks.settles a b keeps)
       (c.open_content.ensures.finds.honest clean) c.in-Ok-Some.content c.in-Ok-Some.field-0-is first second e (λ taken. IfErr-at_err IsDeviceOrMark is (c.open_content.ensures.own taken)));
   left = λ a b keeps. if_err_from c.open_content.result (λ e is.
-      left_as g.S.Store (connection_of c.open_content.new.tables) c.args.grow c.args.layout.now c.args.site (named c.args.group) a b _ _ _ c.in-Ok-Some.field-0 (c.in-Ok-Some.ensures.settles a b keeps)
+      left_as g.S.Store (connection_of c.open_content.new.tables) c.args.grow c.args.layout.now c.args.site (named c.args.group) a b _ _ _ c.in-Ok-Some.field-0 (c.in-Ok-Some.ensures.looks.settles a b keeps)
       c.in-Ok-Some.content c.in-Ok-Some.field-0-is c.open_content.result e is (λ kept same. c.open_content.ensures.finds.ready a kept (λ clean. same clean)) (λ kept same. c.open_content.ensures.finds.ready b kept (λ clean. same clean)));
   left_or = λ it keeps. if_err_from c.open_content.result (λ e is.
-      left_doubt_as g.S.Store (connection_of c.open_content.new.tables) c.args.grow c.args.layout.now c.args.site (named c.args.group) it _ _ _ c.in-Ok-Some.field-0 (c.in-Ok-Some.ensures.settles_or it keeps)
+      left_doubt_as g.S.Store (connection_of c.open_content.new.tables) c.args.grow c.args.layout.now c.args.site (named c.args.group) it _ _ _ c.in-Ok-Some.field-0 (c.in-Ok-Some.ensures.looks.settles_or it keeps)
       c.open_content.ensures.finds.honest c.in-Ok-Some.content c.in-Ok-Some.field-0-is c.open_content.result e is (λ kept same. c.open_content.ensures.finds.ready it kept (λ clean. same clean)));
   kind = c.open_content.ensures.kind;
-  marked = λ it keeps mark. c.open_content.ensures.marked it (c.in-Ok-Some.ensures.kept it keeps)
-      (leaves_still g.S.Store (connection_of c.args.tables.now) (connection_of c.look.new.self) HasOutdatedMark c.in-Ok-Some.ensures.unwritten mark);
-  unmarked = λ it keeps none. c.open_content.ensures.unmarked it (c.in-Ok-Some.ensures.kept it keeps)
-      (leaves_still g.S.Store (connection_of c.args.tables.now) (connection_of c.look.new.self) (TellsOutdated false) c.in-Ok-Some.ensures.unwritten none);
-  beside = λ a b others keeps beside. let still = c.in-Ok-Some.ensures.beside others beside in
+  marked = λ it keeps mark. c.open_content.ensures.marked it (c.in-Ok-Some.ensures.keeps.kept it keeps)
+      (leaves_still g.S.Store (connection_of c.args.tables.now) (connection_of c.look.new.self) HasOutdatedMark c.in-Ok-Some.ensures.looks.unwritten mark);
+  unmarked = λ it keeps none. c.open_content.ensures.unmarked it (c.in-Ok-Some.ensures.keeps.kept it keeps)
+      (leaves_still g.S.Store (connection_of c.args.tables.now) (connection_of c.look.new.self) (TellsOutdated false) c.in-Ok-Some.ensures.looks.unwritten none);
+  beside = λ a b others keeps beside. let still = c.in-Ok-Some.ensures.keeps.beside others beside in
       beside_some g.S.Store (connection_of c.open_content.new.tables) a b _ _ _ others c.open_content.ensures.finds.honest c.in-Ok-Some.field-0 c.in-Ok-Some.content c.in-Ok-Some.field-0-is
-      (λ kept same. c.open_content.ensures.finds.beside a others kept same still) (λ kept same. c.open_content.ensures.finds.beside b others kept same still) (c.in-Ok-Some.ensures.settles a b keeps);
+      (λ kept same. c.open_content.ensures.finds.beside a others kept same still) (λ kept same. c.open_content.ensures.finds.beside b others kept same still) (c.in-Ok-Some.ensures.looks.settles a b keeps);
   fault = λ sound it keeps. if_err_from c.open_content.result (λ e is fault clean.
       let s0 = state g.S.Store (connection_of c.args.tables.now) in
       let s1 = state g.S.Store (connection_of c.look.new.self) in
       let s2 = state g.S.Store (connection_of c.open_content.new.tables) in
       let early = c.open_content.ensures.finds.honest clean in
-      let same = same_Some c.in-Ok-Some.content it (sym c.in-Ok-Some.field-0-is ∙ c.in-Ok-Some.ensures.read it keeps early) in
+      let same = same_Some c.in-Ok-Some.content it (sym c.in-Ok-Some.field-0-is ∙ c.in-Ok-Some.ensures.looks.read it keeps early) in
       elim (IfErr-at_err (λ x. x ≡ served.StoreFault → HasCleanDisk s2 → (IsRefusal c.look.new.self c.open_content.new.tables × CommitsNothing c.look.new.self c.open_content.new.tables)
-      ⊎ IsDue c.args.layout.now c.args.site (named c.args.group) c.in-Ok-Some.content) is (c.open_content.ensures.fault (c.in-Ok-Some.ensures.stops.sound ok_is_none) it (c.in-Ok-Some.ensures.kept it keeps)) fault clean) [
-        | inl why ↦ inl (refused_from s0 s1 s2 c.in-Ok-Some.ensures.unwritten early why.1 why.0)
+      ⊎ IsDue c.args.layout.now c.args.site (named c.args.group) c.in-Ok-Some.content) is (c.open_content.ensures.fault (c.in-Ok-Some.ensures.stops.sound ok_is_none) it (c.in-Ok-Some.ensures.keeps.kept it keeps)) fault clean) [
+        | inl why ↦ inl (refused_from s0 s1 s2 c.in-Ok-Some.ensures.looks.unwritten early why.1 why.0)
         | inr due ↦ inr (subst (IsDue c.args.layout.now c.args.site (named c.args.group)) same due)
       ]);
   current = λ it current keeps clean. let early = c.open_content.ensures.finds.honest clean in
-      let found = same_Some c.in-Ok-Some.content it (sym c.in-Ok-Some.field-0-is ∙ c.in-Ok-Some.ensures.read it keeps early) in
-      survives_more (state g.S.Store (connection_of c.args.tables.now)) (state g.S.Store (connection_of c.look.new.self)) (state g.S.Store (connection_of c.open_content.new.tables)) c.in-Ok-Some.ensures.unwritten
+      let found = same_Some c.in-Ok-Some.content it (sym c.in-Ok-Some.field-0-is ∙ c.in-Ok-Some.ensures.looks.read it keeps early) in
+      survives_more (state g.S.Store (connection_of c.args.tables.now)) (state g.S.Store (connection_of c.look.new.self)) (state g.S.Store (connection_of c.open_content.new.tables)) c.in-Ok-Some.ensures.looks.unwritten
       (c.open_content.ensures.current (subst (IsCurrent c.args.layout.now) (sym found) current));
 }
 
 pub returns-in-Ok-None-clause-found : goal.returns-in-Ok-None-clause-found
 returns-in-Ok-None-clause-found g c = record {
   ready = λ it keeps. record {
-    cause = λ clean. absurd (none-some it (sym c.in-Ok-None.field-0-is ∙ c.in-Ok-None.ensures.read it keeps clean));
-    left = kept_store g.S.Store (connection_of c.look.new.self) c.args.layout.now it served.BadStore (c.in-Ok-None.ensures.kept it keeps);
+    cause = λ clean. absurd (none-some it (sym c.in-Ok-None.field-0-is ∙ c.in-Ok-None.ensures.looks.read it keeps clean));
+    left = kept_store g.S.Store (connection_of c.look.new.self) c.args.layout.now it served.BadStore (c.in-Ok-None.ensures.keeps.kept it keeps);
   };
   settles = λ a b keeps. tt;
   settles_or = λ it keeps. tt;
   own = λ a b first second keeps. λ clean.
-      absurd (not_found g.S.Store (connection_of c.look.new.self) c.args.grow c.args.layout.now c.args.site (named c.args.group) a b _ _ _ c.in-Ok-None.field-0 (c.in-Ok-None.ensures.settles a b keeps)
+      absurd (not_found g.S.Store (connection_of c.look.new.self) c.args.grow c.args.layout.now c.args.site (named c.args.group) a b _ _ _ c.in-Ok-None.field-0 (c.in-Ok-None.ensures.looks.settles a b keeps)
       clean c.in-Ok-None.field-0-is);
-  left = λ a b keeps. ∣ inl (c.in-Ok-None.ensures.either a b keeps) ∣₁;
-  left_or = λ it keeps. ∣ inl (c.in-Ok-None.ensures.bare_or it keeps) ∣₁;
+  left = λ a b keeps. ∣ inl (c.in-Ok-None.ensures.keeps.either a b keeps) ∣₁;
+  left_or = λ it keeps. ∣ inl (c.in-Ok-None.ensures.keeps.bare_or it keeps) ∣₁;
   kind = inl (opening.BadStore, refl);
   marked = λ it keeps mark. tt;
   unmarked = λ it keeps none. λ clean. bad_unmarked;
-  beside = λ a b others keeps beside. c.in-Ok-None.ensures.beside others beside;
+  beside = λ a b others keeps beside. c.in-Ok-None.ensures.keeps.beside others beside;
   fault = λ sound it keeps. λ fault clean. absurd (bad_is_none fault);
-  current = λ it current keeps clean. c.in-Ok-None.ensures.unwritten;
+  current = λ it current keeps clean. c.in-Ok-None.ensures.looks.unwritten;
 }
 
 pub returns-clause-found : goal.returns-clause-found
 returns-clause-found g c = record {
   ready = λ it keeps. let conn = connection_of c.look.new.self in
       let told = refused g.S.Store conn c.args.layout.now c.args.site (named c.args.group) it c.in-Err.error
-      (λ is clean content. c.in-Err.ensures.own it (in_range it content) keeps clean (ap error is)) (c.in-Err.ensures.kept it keeps) in
+      (λ is clean content. c.in-Err.ensures.looks.own it (in_range it content) keeps clean (ap error is)) (c.in-Err.ensures.keeps.kept it keeps) in
       subst (IsUntaken g.S.Store c.args.grow c.args.layout.now c.args.site (named c.args.group) it conn) (sym c.from.ensures) (record {
         cause = λ clean. content_cause c.args.grow c.args.layout.now c.args.site (named c.args.group) it (open_error c.in-Err.error) (told.cause clean);
         left = left_store g.S.Store conn c.args.layout.now it (open_error c.in-Err.error) told.left;
@@ -121,18 +121,18 @@ returns-clause-found g c = record {
   settles_or = λ it keeps. tt;
   own = λ a b first second keeps. λ clean.
       inl (subst IsDevice (sym c.from.ensures) (device_of (open_error c.in-Err.error)
-      (table_cause c.in-Err.error (λ is. c.in-Err.ensures.good
+      (table_cause c.in-Err.error (λ is. c.in-Err.ensures.looks.good
       (any_of_either g.S.Store (connection_of c.args.tables.now) IsInRange a b (in_range a first.own.content) (in_range b second.own.content) keeps) clean (ap error is)))));
-  left = λ a b keeps. ∣ inl (c.in-Err.ensures.either a b keeps) ∣₁;
-  left_or = λ it keeps. ∣ inl (c.in-Err.ensures.bare_or it keeps) ∣₁;
+  left = λ a b keeps. ∣ inl (c.in-Err.ensures.keeps.either a b keeps) ∣₁;
+  left_or = λ it keeps. ∣ inl (c.in-Err.ensures.keeps.bare_or it keeps) ∣₁;
   kind = inl (open_error c.in-Err.error, c.from.ensures);
   marked = λ it keeps mark. tt;
   unmarked = λ it keeps none. λ clean is. not_marked (open_error c.in-Err.error) (sym c.from.ensures ∙ is);
-  beside = λ a b others keeps beside. c.in-Err.ensures.beside others beside;
+  beside = λ a b others keeps beside. c.in-Err.ensures.keeps.beside others beside;
   fault = λ sound it keeps. λ fault clean.
-      inl (c.in-Err.ensures.refused sound (any_of g.S.Store (connection_of c.args.tables.now) (λ _. Unit {0}) it tt keeps) clean
+      inl ((c.in-Err.ensures.refused sound).any (any_of g.S.Store (connection_of c.args.tables.now) (λ _. Unit {0}) it tt keeps) clean
       (ap error (fault_of c.in-Err.error (fault_below (open_error c.in-Err.error) (sym c.from.ensures ∙ fault)))));
-  current = λ it current keeps clean. c.in-Err.ensures.unwritten;
+  current = λ it current keeps clean. c.in-Err.ensures.looks.unwritten;
 }
 
 pub returns-in_err-line-clause-found : goal.returns-in_err-line-clause-found
@@ -159,7 +159,7 @@ returns-in_err-line-clause-found g c =
 pub returns-in-Ok-Some-clause-judged : goal.returns-in-Ok-Some-clause-judged
 returns-in-Ok-Some-clause-judged g c =
     if_err_from c.open_content.result (λ e is other room.
-    survives_more (state g.S.Store (connection_of c.args.tables.now)) (state g.S.Store (connection_of c.look.new.self)) (state g.S.Store (connection_of c.open_content.new.tables)) c.in-Ok-Some.ensures.unwritten
+    survives_more (state g.S.Store (connection_of c.args.tables.now)) (state g.S.Store (connection_of c.look.new.self)) (state g.S.Store (connection_of c.open_content.new.tables)) c.in-Ok-Some.ensures.looks.unwritten
     (IfErr-at_err (λ x. x ≢ served.StoreFault → x ≢ served.Memory → CommitsNothing c.look.new.self c.open_content.new.tables) is c.open_content.ensures.judged other room))
 
 pub returns-in_err-line-clause-judged : goal.returns-in_err-line-clause-judged

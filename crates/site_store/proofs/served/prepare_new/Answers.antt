@@ -14,7 +14,7 @@ abbrev error : TableError → Result (Option Stored) TableError
 error e = Err e
 
 pub returns-in-Ok-make_new-clause-made : goal.returns-in-Ok-make_new-clause-made
-returns-in-Ok-make_new-clause-made g c = record { ready = λ none. c.in-Ok-make_new.ensures.made (c.in-Ok.ensures.fresh none); device = λ keeps. tt; left = λ keeps. tt }
+returns-in-Ok-make_new-clause-made g c = record { ready = λ none. c.in-Ok-make_new.ensures.made (c.in-Ok.ensures.looks.fresh none); device = λ keeps. tt; left = λ keeps. tt }
 
 pub returns-in-Ok-clause-made : goal.returns-in-Ok-clause-made
 returns-in-Ok-clause-made g c =
@@ -24,7 +24,7 @@ returns-in-Ok-clause-made g c =
       device = λ keeps clean. subst IsDevice (sym c.from.ensures) (device_of c.in-Err-make_new.error c.in-Err-make_new.ensures.device);
       left = λ keeps.
           subst (IsLeftOfNothing g.S.Store c.args.layout.now c.args.site (named c.args.group) conn) (sym c.from.ensures)
-          (left_nothing g.S.Store conn c.args.layout.now c.args.site (named c.args.group) c.in-Err-make_new.error (c.in-Err-make_new.ensures.made (c.in-Ok.ensures.bare keeps)).left);
+          (left_nothing g.S.Store conn c.args.layout.now c.args.site (named c.args.group) c.in-Err-make_new.error (c.in-Err-make_new.ensures.made (c.in-Ok.ensures.keeps.bare keeps)).left);
     }
 
 pub returns-in-Ok-clause-judged : goal.returns-in-Ok-clause-judged
@@ -36,10 +36,10 @@ returns-clause-made g c =
     let conn = connection_of c.look.new.self in
     record {
       ready = λ none. tt;
-      device = λ keeps clean. subst IsDevice (sym c.from-in-Err.ensures) (device_of (open_error c.in-Err.error) (table_cause c.in-Err.error (λ is. (c.in-Err.ensures.blank keeps clean).1 (ap error is))));
+      device = λ keeps clean. subst IsDevice (sym c.from-in-Err.ensures) (device_of (open_error c.in-Err.error) (table_cause c.in-Err.error (λ is. (c.in-Err.ensures.looks.blank keeps clean).1 (ap error is))));
       left = λ keeps.
           subst (IsLeftOfNothing g.S.Store c.args.layout.now c.args.site (named c.args.group) conn) (sym c.from-in-Err.ensures)
-          (kept_nothing g.S.Store conn c.args.layout.now c.args.site (named c.args.group) _ (c.in-Err.ensures.bare keeps));
+          (kept_nothing g.S.Store conn c.args.layout.now c.args.site (named c.args.group) _ (c.in-Err.ensures.keeps.bare keeps));
     }
 
 pub returns-in_err-line-clause-made : goal.returns-in_err-line-clause-made
