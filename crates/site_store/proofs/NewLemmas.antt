@@ -1,5 +1,5 @@
 -- A store that is made with counters in it.
-use Rattle.std.proofs.Common.{◌≡◌, ◌≢◌, inl, inr, ℕ, true, false, List, [], ◌∷◌, Option, None, Result, Ok, Err, IsTrue, refl, sym, ap, subst, ◌∙◌}
+use Rattle.std.proofs.Common.{◌≡◌, ◌≢◌, inl, inr, ℕ, true, false, List, [], ◌∷◌, Option, Result, Ok, Err, IsTrue, refl, ap, subst, ◌∙◌}
 use Rattle.std.specs.Prelude.{IfErr, OnOk}
 use Rattle.std.specs.List.{AllByRecursion}
 use Rattle.sqlite_trees.specs.declared.store.Store.{Ghosts}
@@ -9,19 +9,16 @@ use Rattle.merge_core.specs.Layout.{IsLayout, LayoutState}
 use Rattle.layout_line.specs.Line.{line_of}
 use Rattle.admission_model.specs.declared.durable.DurableCell.{DurableCell}
 use Rattle.admission_model.specs.Durable.{AreRising, is_before, put_cell, put_cells}
-use Rattle.admission_core.specs.Kept.{ChangeState, DurableState}
+use Rattle.admission_core.specs.Kept.{ChangeState}
 use Rattle.durable_keeper.specs.Keeping.{IsChange}
-use Rattle.store_rows.specs.declared.content.StoredCell.{StoredCell}
-use Rattle.store_rows.specs.declared.content.StoredNotice.{StoredNotice}
-use Rattle.store_rows.specs.declared.content.SessionEdit.{SessionEdit}
 use Rattle.store_rows.specs.Rows.{Stored}
-use Rattle.store_rows.specs.Holding.{Holds, HoldsNothing, Keeps, KeepsNothing, KeepsNothingOr}
+use Rattle.store_rows.specs.Holding.{Holds, HoldsNothing, KeepsNothing, KeepsNothingOr}
 use Rattle.store_tables.specs.declared.error.TableError.{TableError}
 use Rattle.store_tables.specs.declared.error.TableError.TheVariants as tables
 use Rattle.store_tables.specs.Transacts.{filled, made}
 use Rattle.store_tables.proofs.KeepLemmas.{leaves_first}
-use Rattle.store_content.specs.Plan.{IsPlan, IsTellable, Makes, RowsState, after, after_change, edit_of, rows_for}
-use Rattle.store_content.proofs.LawLemmas.{makes, same_rows}
+use Rattle.store_content.specs.Plan.{IsPlan, IsTellable, Makes, RowsState, rows_for}
+use Rattle.store_content.proofs.LawLemmas.{makes}
 use Rattle.store_content.proofs.TellableLemmas.{tellable}
 use Rattle.site_store.specs.declared.error.ServedError.{ServedError}
 use Rattle.site_store.specs.declared.error.ServedError.TheVariants.{Memory, StoreFault}

@@ -1,5 +1,5 @@
 -- Changes of several calls, planned one behind the other, and what tables that took them or refused them keep.
-use Rattle.std.proofs.Common.{◌≡◌, ◌<◌, ◌^◌, ℕ, inl, inr, Bool, List, [], ◌∷◌, ◌++◌, Option, Some, None, All, refl, sym, ap, subst, ◌∙◌, arith}
+use Rattle.std.proofs.Common.{◌≡◌, ◌<◌, ◌^◌, ℕ, inl, inr, Bool, List, [], ◌∷◌, ◌++◌, Option, Some, None, All, refl, sym, ap, subst, ◌∙◌}
 use Rattle.std.proofs.lemmas.List.{append-nil}
 use Rattle.std.proofs.lemmas.List.Elements.{All-append, All-cons, All-head, All-nil, All-tail}
 use Rattle.sqlite_trees.specs.declared.store.Store.{Ghosts}
@@ -27,7 +27,7 @@ use Rattle.store_content.specs.Known.{Knows}
 use Rattle.store_content.specs.Plan.{IsPlan, Makes, RowsState, after, after_change}
 use Rattle.store_content.proofs.LawLemmas.{same_rows}
 use Rattle.site_store.specs.Rounds.{AreRows, ChangesAll, ChangesAllOrNone, Plans, after_changes, edits_in}
-use Rattle.site_store.specs.Sql.{IsOf, IsOneOf, Stores}
+use Rattle.site_store.specs.Sql.{IsOf, IsOneOf}
 use Rattle.site_store.proofs.OpenLemmas.{twice}
 use Rattle.site_store.proofs.SqlLemmas.{either_first, nothing_after}
 

@@ -41,7 +41,7 @@ use Rattle.site_store.specs.SiteText.{site_text}
 use Rattle.site_store.specs.Opened.{Fits, IsCause, IsDeviceCause, IsLeft, IsLeftBlank, IsOwn, IsReady}
 use Rattle.site_store.proofs.OpenLemmas.{if_honest}
 use Rattle.site_store.proofs.OwnLemmas.{same_line, table_cause}
-use Rattle.site_store.specs.Served.{Finds, IsContentCause, IsDenied, IsDevice, IsDeviceOrMark, IsHeldRefusal, IsLeftOfDoubt, IsLeftOfEither, IsLeftOfNothing, IsLeftOfStore, IsMade, IsNotEarlier, IsNothingCause, IsOpenRefusal, IsOriginOf, IsOtherLine, IsPermitted, IsReadyAs, IsRefusedNothing, IsRefusedStore, IsSchemaCause, IsSettled, IsStoreCause, IsTaken}
+use Rattle.site_store.specs.Served.{Finds, IsContentCause, IsDenied, IsDevice, IsDeviceOrMark, IsHeldRefusal, IsLeftOfDoubt, IsLeftOfEither, IsLeftOfNothing, IsLeftOfStore, IsMade, IsNotEarlier, IsNothingCause, IsOriginOf, IsOtherLine, IsPermitted, IsReadyAs, IsRefusedNothing, IsRefusedStore, IsSchemaCause, IsSettled, IsStoreCause, IsTaken}
 
 -- ---- the schema
 

@@ -229,6 +229,13 @@ module _ {S : Type 0} {g : Ghosts S} where
   ServesNothing p layout i group (Ok x) = (is_honest x.0 → (p.create ≡ true) × (x.1 ≡ true)) × KeepsPart x.0 nothing_kept
   ServesNothing p layout i group (Err x) = IsRefusedNothing g p layout i group x.1 x.0
 
+  -- what an opening of tables comes to in which this content was found, if an honest device kept that
+  pub record FindsContent (grow : Bool) (layout : LayoutState) (i : ℕ) (group : Option (List ℕ)) (content : Stored) (old new : Tables S g) (r : Result Index ServedError) : Type 0 where
+    pub ready : (it : Stored) → Keeps g (connection_of old) it → (HasCleanDisk (state g (connection_of old)) → content ≡ it) → Finds g grow layout i group it (connection_of new) r
+    pub beside : (it : Stored) → (others : Database) → Keeps g (connection_of old) it → (HasCleanDisk (state g (connection_of old)) → content ≡ it)
+        → KeepsBeside g (connection_of old) others → KeepsBeside g (connection_of new) others
+    pub honest : HasCleanDisk (state g (connection_of new)) → HasCleanDisk (state g (connection_of old))
+
   -- what an opening of tables that is to make no store comes to, by what their connection kept
   pub record FindsStore (grow : Bool) (layout : LayoutState) (i : ℕ) (group : Option (List ℕ)) (old new : Tables S g) (r : Result Index ServedError) : Type 0 where
     pub ready : (it : Stored) → Keeps g (connection_of old) it → Finds g grow layout i group it (connection_of new) r

@@ -8,7 +8,7 @@ ghost use Rattle.admission_core.specs.Kept.{ChangeState};
 ghost use Rattle.store_rows.specs.Rows.{Stored};
 ghost use Rattle.store_rows.specs.Holding.{Keeps, KeepsBeside, KeepsEither};
 ghost use Rattle.store_schema.specs.declared.Version.TheVariants.{Second};
-ghost use Rattle.store_tables.specs.Kept.{has_failed, connection_of};
+ghost use Rattle.store_tables.specs.Kept.{StopsAtFault, has_failed, connection_of};
 ghost use Rattle.store_tables.specs.Rounds.{TakesAll, changed_all};
 ghost use Rattle.store_tables.specs.declared.error.TableError.TheVariants.{BadStore, Memory as NoMemory, StoreFault as NoStore};
 ghost use Rattle.store_content.specs.Content.{IsContent};
@@ -126,8 +126,7 @@ fn put_all<S: Alter>(tables: &mut Tables<S>, round: &Round) -> Result<(), TableE
         → result ≡ Err NoStore → KeepsEither S.Store (connection_of tables.new) it (changed_all round.now.cells.items round.now.notices.items round.now.edits.items it) }
     ensures beside { (it : Stored) → (others : Database) → TakesAll round.now.edits.items it → Keeps S.Store (connection_of tables.old) it
         → KeepsBeside S.Store (connection_of tables.old) others → KeepsBeside S.Store (connection_of tables.new) others }
-    ensures honest { HasCleanDisk (state S.Store (connection_of tables.new)) → HasCleanDisk (state S.Store (connection_of tables.old)) }
-    ensures sound { result ≢ Err NoStore → has_failed tables.new ≡ false }
+    ensures stops { StopsAtFault tables.old result tables.new }
     ensures kind { result ≢ Err BadStore }
 {
     tables.commit_all(&round.cells, &round.notices, &round.edits)

@@ -4,16 +4,14 @@ ghost use Rattle.sqlite_schema.specs.declared.schema.Schema.{Schema};
 ghost use Rattle.sqlite.specs.State.{HasCleanDisk, Survives};
 ghost use Rattle.sqlite.specs.Held.{state};
 ghost use Rattle.layout_line.specs.Line.{line_of, IsLine};
-ghost use Rattle.store_rows.specs.Holding.{Keeps, KeepsBeside, KeepsEither, KeepsNothing, KeepsNothingOr};
-ghost use Rattle.store_tables.specs.Kept.{has_failed, connection_of, CommitsNothing, IsBlank, IsRefusal};
+ghost use Rattle.store_rows.specs.Holding.{Keeps};
+ghost use Rattle.store_tables.specs.Kept.{has_failed, connection_of, CommitsNothing, IsRefusal};
 ghost use Rattle.store_rows.specs.Refusals.{HasRefused};
 ghost use Rattle.site_store.specs.declared.error.ServedError.TheVariants.{Outdated, StoreFault, Memory};
 ghost use Rattle.site_store.specs.Errors.{marked_error};
-ghost use Rattle.site_store.specs.SiteText.{named, site_text};
-ghost use Rattle.site_store.specs.Sql.{Stores};
-ghost use Rattle.store_tables.specs.Transacts.{made};
-ghost use Rattle.site_store.specs.Opened.{IsCurrent, IsDue, IsReady};
-ghost use Rattle.site_store.specs.Served.{Finds, FindsStore, IsContentCause, IsDenied, IsDevice, IsDeviceOrMark, IsHeldRefusal, KeepsMark, KeepsNoMark, IsLeftOfDoubt, IsLeftOfEither, IsLeftOfNothing, IsNotEarlier, IsOpenRefusal, IsOriginOf, IsPermitted, IsSettled, IsTaken, MakesStore};
+ghost use Rattle.site_store.specs.SiteText.{named};
+ghost use Rattle.site_store.specs.Opened.{IsCurrent, IsDue};
+ghost use Rattle.site_store.specs.Served.{FindsContent, FindsStore, IsContentCause, IsDenied, IsDevice, IsDeviceOrMark, IsHeldRefusal, KeepsMark, KeepsNoMark, IsNotEarlier, IsOpenRefusal, IsOriginOf, IsPermitted, IsSettled, IsTaken, MakesStore};
 
 use crate::error::{ServedError, StoreOpenError};
 use crate::opening::{judge, make_new, open_found};
@@ -134,11 +132,7 @@ fn take_content<S: Alter>(
     grow: bool,
 ) -> Result<Index, ServedError>
     requires { line.now ≡ line_of layout.now }
-    ensures ready { (it : _) → Keeps S.Store (connection_of tables.old) it → (HasCleanDisk (state S.Store (connection_of tables.old)) → content.now ≡ it)
-        → Finds S.Store grow layout.now site (named group.entry) it (connection_of tables.new) result }
-    ensures beside { (it : _) → (others : _) → Keeps S.Store (connection_of tables.old) it → (HasCleanDisk (state S.Store (connection_of tables.old)) → content.now ≡ it)
-        → KeepsBeside S.Store (connection_of tables.old) others → KeepsBeside S.Store (connection_of tables.new) others }
-    ensures honest { HasCleanDisk (state S.Store (connection_of tables.new)) → HasCleanDisk (state S.Store (connection_of tables.old)) }
+    ensures finds { FindsContent grow layout.now site (named group.entry) content.now tables.old tables.new result }
     ensures sound { has_failed tables.old ≡ false → IsOk result → has_failed tables.new ≡ false }
     ensures own { IsTaken grow layout.now site (named group.entry) content.now → IfErr result IsDeviceOrMark }
     ensures kind { IfErr result IsOpenRefusal }
@@ -225,11 +219,7 @@ fn open_content<S: Alter>(
     grow: bool,
 ) -> Result<Index, ServedError>
     requires { line.now ≡ line_of layout.now }
-    ensures ready { (it : _) → Keeps S.Store (connection_of tables.old) it → (HasCleanDisk (state S.Store (connection_of tables.old)) → content.now ≡ it)
-        → Finds S.Store grow layout.now site (named group.entry) it (connection_of tables.new) result }
-    ensures beside { (it : _) → (others : _) → Keeps S.Store (connection_of tables.old) it → (HasCleanDisk (state S.Store (connection_of tables.old)) → content.now ≡ it)
-        → KeepsBeside S.Store (connection_of tables.old) others → KeepsBeside S.Store (connection_of tables.new) others }
-    ensures honest { HasCleanDisk (state S.Store (connection_of tables.new)) → HasCleanDisk (state S.Store (connection_of tables.old)) }
+    ensures finds { FindsContent grow layout.now site (named group.entry) content.now tables.old tables.new result }
     ensures sound { IsOk result → has_failed tables.new ≡ false }
     ensures own { IsTaken grow layout.now site (named group.entry) content.now → IfErr result IsDeviceOrMark }
     ensures kind { IfErr result IsHeldRefusal }
@@ -257,27 +247,8 @@ fn prepare_found<S: Alter>(
     group: Option<&str>,
     grow: bool,
 ) -> Result<Index, ServedError>
-    ensures ready { (it : _) → Keeps S.Store (connection_of tables.old) it → Finds S.Store grow layout.now site (named group.entry) it (connection_of tables.new) result }
-    ensures settles { (a b : _) → KeepsEither S.Store (connection_of tables.old) a b
-        → IfOk result (λ index. ∥ IsReady S.Store layout.now site (named group.entry) a (connection_of tables.new) index
-        ⊎ IsReady S.Store layout.now site (named group.entry) b (connection_of tables.new) index ∥₁) }
-    ensures settles_or { (it : _) → KeepsNothingOr S.Store (connection_of tables.old) it → IfOk result (IsReady S.Store layout.now site (named group.entry) it (connection_of tables.new)) }
-    ensures own { (a b : _) → IsTaken grow layout.now site (named group.entry) a → IsTaken grow layout.now site (named group.entry) b → KeepsEither S.Store (connection_of tables.old) a b
-        → IfErr result (λ e. HasCleanDisk (state S.Store (connection_of tables.new)) → IsDeviceOrMark e) }
-    ensures left { (a b : _) → KeepsEither S.Store (connection_of tables.old) a b → IfErr result (IsLeftOfEither S.Store layout.now a b (connection_of tables.new)) }
-    ensures left_or { (it : _) → KeepsNothingOr S.Store (connection_of tables.old) it → IfErr result (IsLeftOfDoubt S.Store layout.now site (named group.entry) it (connection_of tables.new)) }
-    ensures kind { IfErr result IsHeldRefusal }
-    ensures marked { (it : _) → Keeps S.Store (connection_of tables.old) it → KeepsMark S.Store (connection_of tables.old)
-        → IfOk result (λ _. ¬ HasCleanDisk (state S.Store (connection_of tables.new))) }
-    ensures unmarked { (it : _) → Keeps S.Store (connection_of tables.old) it → KeepsNoMark S.Store (connection_of tables.old)
-        → IfErr result (λ e. HasCleanDisk (state S.Store (connection_of tables.new)) → e ≢ Outdated) }
-    ensures beside { (a b : _) → (others : _) → KeepsEither S.Store (connection_of tables.old) a b → KeepsBeside S.Store (connection_of tables.old) others
-        → KeepsBeside S.Store (connection_of tables.new) others }
-    ensures fault { has_failed tables.old ≡ false → (it : _) → Keeps S.Store (connection_of tables.old) it
-        → IfErr result (λ e. e ≡ StoreFault → HasCleanDisk (state S.Store (connection_of tables.new)) → IsRefusal tables.old tables.new ⊎ IsDue layout.now site (named group.entry) it) }
+    ensures found { FindsStore grow layout.now site (named group.entry) tables.old tables.new result }
     ensures judged { IfErr result (λ e. e ≢ StoreFault → e ≢ Memory → CommitsNothing tables.old tables.new) }
-    ensures current { (it : _) → IsCurrent layout.now it → Keeps S.Store (connection_of tables.old) it → HasCleanDisk (state S.Store (connection_of tables.new))
-        → CommitsNothing tables.old tables.new }
     ensures honest { HasCleanDisk (state S.Store (connection_of tables.new)) → HasCleanDisk (state S.Store (connection_of tables.old)) }
     ensures sound { IsOk result → has_failed tables.new ≡ false }
 {
@@ -306,10 +277,7 @@ fn prepare_new<S: Alter>(
     site: u16,
     group: Option<&str>,
 ) -> Result<Index, ServedError>
-    ensures ready { IsBlank tables.old → IfOk result (λ index. HasCleanDisk (state S.Store (connection_of tables.new))
-        → Stores S.Store layout.now (site_text site (named group.entry)) (connection_of tables.new) index (made (site_text site (named group.entry)) (line_of layout.now))) }
-    ensures device { KeepsNothing S.Store (connection_of tables.old) → IfErr result (λ e. HasCleanDisk (state S.Store (connection_of tables.new)) → IsDevice e) }
-    ensures left { KeepsNothing S.Store (connection_of tables.old) → IfErr result (IsLeftOfNothing S.Store layout.now site (named group.entry) (connection_of tables.new)) }
+    ensures made { MakesStore layout.now site (named group.entry) tables.old tables.new result }
     ensures judged { IfErr result (λ e. e ≢ StoreFault → e ≢ Memory → CommitsNothing tables.old tables.new) }
     ensures honest { HasCleanDisk (state S.Store (connection_of tables.new)) → HasCleanDisk (state S.Store (connection_of tables.old)) }
     ensures sound { IsOk result → has_failed tables.new ≡ false }

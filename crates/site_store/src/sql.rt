@@ -7,7 +7,7 @@ ghost use Rattle.sqlite.specs.declared.connection.Connection.{Connection};
 ghost use Rattle.merge_core.specs.Layout.{LayoutState};
 ghost use Rattle.store_rows.specs.Rows.{Stored};
 ghost use Rattle.store_rows.specs.Steps.{IsStorable};
-ghost use Rattle.store_tables.specs.Kept.{has_failed, connection_of};
+ghost use Rattle.store_tables.specs.Kept.{StopsAtFault, has_failed, connection_of};
 ghost use Rattle.store_rows.specs.Holding.{Keeps, KeepsBeside, KeepsEither};
 ghost use Rattle.store_tables.specs.Transacts.{Takes};
 ghost use Rattle.store_tables.specs.declared.error.TableError.TheVariants.{BadStore, Memory as NoMemory, StoreFault as NoStore};
@@ -70,9 +70,7 @@ fn put<S: Alter>(tables: &mut Tables<S>, rows: &Rows) -> Result<(), TableError>
         → result ≡ Err NoStore → KeepsEither S.Store (connection_of tables.new) it (after rows.now it) }
     ensures beside { (it : Stored) → (others : Database) → Takes rows.now.edit it → Keeps S.Store (connection_of tables.old) it
         → KeepsBeside S.Store (connection_of tables.old) others → KeepsBeside S.Store (connection_of tables.new) others }
-    ensures honest { HasCleanDisk (state S.Store (connection_of tables.new)) → HasCleanDisk (state S.Store (connection_of tables.old)) }
-    ensures fault { result ≡ Err NoStore → IsTrue (has_failed tables.new) }
-    ensures sound { result ≢ Err NoStore → has_failed tables.new ≡ false }
+    ensures stops { StopsAtFault tables.old result tables.new }
     ensures kind { result ≢ Err BadStore }
 {
     tables.commit(&rows.cells, &rows.notices, rows.edit)

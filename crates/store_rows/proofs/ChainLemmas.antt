@@ -1,5 +1,5 @@
 -- Statements one after another: why they are refused, and what they take of the rowids.
-use Rattle.std.proofs.Common.{◌≡◌, ◌⊎◌, inl, inr, ℕ, zero, suc, ◌+◌, ◌-◌, ◌≤◌, ◌==◌, true, not, Option, Some, IsSome, Result, Ok, Err, OnOk, IfOk, refl, sym, ap, subst, ◌∙◌, arith}
+use Rattle.std.proofs.Common.{◌≡◌, inl, inr, ℕ, zero, suc, ◌+◌, ◌-◌, ◌≤◌, ◌==◌, true, not, Option, Some, IsSome, subst, arith}
 use Rattle.std.proofs.lemmas.Bool.{cases_Bool, both_ways, not-true}
 use Rattle.std.proofs.lemmas.Bool.Decides.{nat_tests}
 use Rattle.sqlite_trees.specs.Tree.{Trees}
@@ -10,7 +10,7 @@ use Rattle.store_schema.specs.declared.Version.TheVariants.{Second}
 use Rattle.store_rows.specs.Holding.{Parts}
 use Rattle.store_rows.specs.Refusals.{HasRefused}
 use Rattle.store_rows.specs.Rowids.{has_room}
-use Rattle.store_rows.specs.Steps.{Brings, Any, Uses, IsUnfit, IsStopped, if_changed}
+use Rattle.store_rows.specs.Steps.{Brings, Any, Uses, IsStopped, if_changed}
 use Rattle.store_rows.specs.declared.content.StoredSession.{StoredSession}
 use Rattle.store_rows.specs.declared.content.SessionEdit.TheVariants.{Put}
 use Rattle.store_rows.specs.Changes.{is_of}
@@ -82,13 +82,6 @@ none_count count h = grind (arith, nat_tests)
 -- no row was changed
 pub brought_none : (a b : Database) (count : ℕ) (f : Parts → Parts) → count ≡ 0 → Brings Any (if_changed count f) a b → Brings Any (λ p. p) a b
 brought_none a b count f none step p two fits h = rw (none_count count none) at step p two fits h
-
-pub same_error : {A E : Type 0} {x y : E} → ◌≡◌ {A = Result A E} (Err x) (Err y) → x ≡ y
-same_error e = cc
-
--- the error that a call passes on
-pub told_error : {A E : Type 0} (r : Result A E) (u from e : E) → r ≡ Err u → u ≡ from → r ≡ Err e → from ≡ e
-told_error r u from e a b is = sym b ∙ same_error (sym a ∙ is)
 
 -- ---- what fits
 

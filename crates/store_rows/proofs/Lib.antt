@@ -10,6 +10,7 @@ pub mod PutLemmas
 pub mod ReadLemmas
 pub mod RefusalLemmas
 pub mod RoomLemmas
+pub mod RunLemmas
 pub mod SafeLemmas
 pub mod SelectLemmas
 pub mod SessionLemmas

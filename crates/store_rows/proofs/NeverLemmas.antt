@@ -1,59 +1,43 @@
 -- No statement of a store is stopped by the database, where it is one and has rowids left.
-use Rattle.std.proofs.Common.{◌≡◌, ◌≢◌, ◌⊎◌, inl, inr, ℕ, suc, ◌+◌, ℤ, pos, ◌+ℤ◌, Bool, true, false, ◌&&◌, ◌||◌, ◌==◌, List, [], ◌∷◌, drop, Option, Some, None, Result, Ok, Err, Less, refl, sym, ap, subst, ◌∙◌, arith}
+use Rattle.std.proofs.Common.{◌≡◌, inl, inr, ℕ, suc, ◌+◌, ℤ, pos, true, ◌||◌, List, [], ◌∷◌, Option, None, Ok, Err, refl, sym, ap, subst, ◌∙◌, arith}
 use Rattle.std.proofs.lemmas.Bool.{and_parts}
-use Rattle.std.proofs.lemmas.Bool.Decides.{nat_tests}
-use Rattle.sqlite_value.specs.Keys.{first_key}
-use Rattle.sqlite_trees.specs.View.{is_int}
-use Rattle.sqlite_sql.specs.Term.{eval_all}
-use Rattle.sqlite_sql.specs.Program.{overlay}
-use Rattle.sqlite_schema.specs.declared.program.Program.{Program}
-use Rattle.sqlite_schema.specs.declared.schema.Kind.TheVariants.{Integer}
 use Rattle.sqlite_rules.specs.Cast.{cast, cast_row}
-use Rattle.sqlite_rules.proofs.ListLemmas.{all_has, test_has}
-use Rattle.sqlite_rules.proofs.TableLemmas.{int_is}
-use Rattle.store_rows.proofs.ReadLemmas.{passes, query_on, answer_has, has_answer}
-use Rattle.store_rows.proofs.SafeLemmas.{clear_before}
-use Rattle.store_rows.proofs.StopQueryLemmas.{query_stop, few_answers, never_two, update_stop, update_spares, update_from, delete_stop, delete_spares, delete_from}
-use Rattle.store_rows.proofs.UpdateLemmas.{key_filter, both_are, cell_changes, update_cell_command, update_cell_is, update_cell_plain, cell_passes, written_cell, notice_changes, update_notice_command, update_notice_is, update_notice_plain, notice_passes, written_notice}
 use Rattle.sqlite_value.specs.declared.value.Value.{Value}
-use Rattle.sqlite_value.specs.declared.value.Value.TheVariants.{Null, Int}
+use Rattle.sqlite_value.specs.declared.value.Value.TheVariants.{Int}
 use Rattle.sqlite_value.specs.Keys.{plain}
-use Rattle.sqlite_value.specs.Order.{Row, value_cmp}
-use Rattle.sqlite_trees.specs.Tree.{Trees, rowid}
+use Rattle.sqlite_value.specs.Order.{Row}
+use Rattle.sqlite_trees.specs.Tree.{Trees}
 use Rattle.sqlite_sql.specs.Ops.{fits_i64}
-use Rattle.sqlite_typing.specs.Types.{accepts_terms, accepts_program}
+use Rattle.sqlite_typing.specs.Types.{accepts_terms}
 use Rattle.sqlite_schema.specs.declared.schema.Constraint.TheVariants.{Unique, ForeignKey}
 use Rattle.sqlite_schema.specs.declared.schema.Keys.TheVariants.{Enforced}
 use Rattle.sqlite_schema.specs.declared.schema.Schema.{Schema}
 use Rattle.sqlite_schema.specs.declared.command.Source.TheVariants.{Values}
 use Rattle.sqlite_schema.specs.Rules.{Keeps, agree}
-use Rattle.sqlite_rules.specs.Lists.{Has}
-use Rattle.sqlite_rules.specs.Edit.{id_in, next_rowid}
+use Rattle.sqlite_rules.specs.Edit.{next_rowid}
 use Rattle.sqlite_tied.specs.Compute.{everything}
 use Rattle.sqlite.specs.declared.error.Error.{Error}
 use Rattle.sqlite.specs.Does.{Does, Tally}
 use Rattle.sqlite.specs.Effect.{Database, IsDatabase}
 use Rattle.sqlite.specs.Listing.{understood}
-use Rattle.sqlite.specs.Rows.{Written, Queried}
 use Rattle.sqlite.specs.State.{State, Executes, ExecutesInside, mode_of}
-use Rattle.sqlite.proofs.Callers.{command_of, statement_of, runs_as}
-use Rattle.store_schema.specs.Tables.{AreBehind, behind, others_in, schema_4, cells_tree, notices_tree, sessions_tree}
+use Rattle.sqlite.proofs.Callers.{statement_of, runs_as}
+use Rattle.store_schema.specs.Tables.{AreBehind, behind, others_in, schema_4, cells_tree, notices_tree}
 use Rattle.store_rows.specs.declared.content.StoredCell.{StoredCell}
 use Rattle.store_rows.specs.declared.content.StoredNotice.{StoredNotice}
-use Rattle.store_rows.specs.declared.content.StoredSession.{StoredSession}
-use Rattle.store_rows.specs.Texts.{put_cell_text, put_notice_text, update_cell_text, update_notice_text, add_session_text, drop_session_text}
+use Rattle.store_rows.specs.Texts.{put_cell_text, put_notice_text}
 use Rattle.sqlite_rules.specs.Keys.{conflicts}
-use Rattle.store_rows.specs.Rows.{cell_row, cell_before, notice_row, notice_before, session_row, session_before, stage_number}
+use Rattle.store_rows.specs.Rows.{cell_row, cell_before, notice_row, notice_before}
 use Rattle.store_rows.specs.Steps.{Any, Uses, IsStopped, IsUnfit}
 use Rattle.store_rows.specs.Rowids.{has_room}
 use Rattle.store_rows.proofs.BesideLemmas.{no_works, shared}
-use Rattle.store_rows.proofs.ContentLemmas.{has_own, rows_keyed, cells_ordered, notices_ordered, sessions_ordered, notices_of, equal_whole, cell_hit, cell_finds, notice_hit, notice_finds}
+use Rattle.store_rows.proofs.ContentLemmas.{has_own, rows_keyed, cells_ordered, notices_ordered, notices_of}
 use Rattle.store_rows.proofs.EditLemmas.{IsKeyed, went, same_value}
 use Rattle.store_rows.proofs.PutLemmas.{cells_there, cell_terms, put_cell_command, put_cell_is, put_cell_plain, notices_there, notice_terms, put_notice_command, put_notice_is, put_notice_plain, cast_three, cast_four, cast_int, hits, IsPlainFor}
-use Rattle.store_rows.proofs.RoomLemmas.{room_parts, room_of_next, rooms_after, rooms_kept}
+use Rattle.store_rows.proofs.RoomLemmas.{room_parts, room_of_next, rooms_after}
 use Rattle.store_rows.proofs.StopLemmas.{IsFull, IsOdd, stopped, not_odd}
 use Rattle.store_rows.proofs.StopPutLemmas.{task_on, concludes, inserts_stop, inserts_spare, inserts_from, given_stop}
-use Rattle.store_rows.proofs.StoredLemmas.{cells_own, cell_good, notices_own, notice_good, sessions_own, session_good}
+use Rattle.store_rows.proofs.StoredLemmas.{cells_own, cell_good, notices_own, notice_good}
 
 -- a rule holds of the trees of a sound database
 pub rules_of : (d : Database) (schema : Schema) → d.schema ≡ schema → IsDatabase d → (Keeps Unique schema d.trees) × Keeps ForeignKey schema d.trees

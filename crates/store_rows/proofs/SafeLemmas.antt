@@ -1,14 +1,13 @@
 -- An edit that meets no rule of the tables is not refused.
 use Rattle.std.proofs.Common.{◌≡◌, ◌≢◌, ◌⊎◌, inl, inr, ℕ, zero, suc, ◌+◌, ◌<◌, ◌≤◌, Bool, true, false, not, ◌&&◌, ◌||◌, ◌==◌, List, [], ◌∷◌, ◌++◌, length, Option, Some, None, Result, Ok, Err, refl, sym, ap, subst, ◌∙◌, length-append, arith}
-use Rattle.std.specs.List.{AllByRecursion, list_any, list_all}
-use Rattle.std.specs.Ordering.{is_eq, is_ne}
-use Rattle.std.proofs.lemmas.Bool.{cases_Bool, cases_eq, both_ways, false_from_ne_true, not-true, not_from_false, and_parts, and_from, and_right, or_parts, or_left, or_right}
+use Rattle.std.specs.List.{AllByRecursion, list_all}
+use Rattle.std.proofs.lemmas.Bool.{cases_Bool, both_ways, false_from_ne_true, not-true, not_from_false, and_parts, and_from, or_left, or_right}
 use Rattle.std.proofs.lemmas.Bool.Decides.{nat_tests}
 use Rattle.std.proofs.lemmas.Cmp.{tied_itself}
-use Rattle.sqlite_value.specs.Order.{Row, value_cmp}
+use Rattle.sqlite_value.specs.Order.{Row}
 use Rattle.sqlite_value.specs.declared.value.Value.{Value}
 use Rattle.sqlite_value.proofs.OrderLemmas.{value_cmp_total}
-use Rattle.sqlite_trees.specs.Tree.{Trees, rowid, put_row, with_tree}
+use Rattle.sqlite_trees.specs.Tree.{Trees, rowid, with_tree}
 use Rattle.sqlite_sql.specs.Ops.{binary, fits_i64, is_null}
 use Rattle.sqlite_schema.specs.declared.schema.Constraint.TheVariants.{Datatype, NotNull, Check, PrimaryKey, Unique, ForeignKey}
 use Rattle.sqlite_schema.specs.declared.schema.Keys.{Keys}
@@ -31,7 +30,6 @@ use Rattle.sqlite.specs.Rows.{Edited}
 use Rattle.sqlite.specs.declared.error.Error.{Error}
 use Rattle.store_schema.specs.Tables.{AreBehind, ReferElsewhere, behind, first_other_tree, is_own_name, schema_4}
 use Rattle.store_rows.proofs.BesideLemmas.{IsTableTree, IsFar, far_key}
-use Rattle.store_rows.proofs.PutLemmas.{compared_parts}
 
 -- ---- an edit that breaks no rule
 

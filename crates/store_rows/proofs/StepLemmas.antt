@@ -1,5 +1,5 @@
 -- What each statement brings to a store.
-use Rattle.std.proofs.Common.{◌≡◌, inl, inr, ◌==◌, ℕ, pos, false, Bool, List, [], ◌∷◌, ◌++◌, drop, Some, Result, Ok, Err, OnOk, IfOk, refl, sym, ◌∙◌, arith}
+use Rattle.std.proofs.Common.{◌≡◌, inl, inr, ◌==◌, ℕ, pos, false, Bool, List, [], ◌∷◌, ◌++◌, drop, Some, Result, Ok, Err, OnOk, refl, sym, ◌∙◌, arith}
 use Rattle.sqlite_value.specs.declared.value.Value.TheVariants.{Int}
 use Rattle.std.proofs.lemmas.Bool.Decides.{nat_tests}
 use Rattle.sqlite_value.specs.Order.{Row}
@@ -79,15 +79,6 @@ notice_changes old new n count ran p two fits h =
           let step : HasPut more notices_tree (hits notices_there (notice_row n)) (notice_row n) old.now new.now = record { schema = it.schema; rows = rows; others = it.others; sound = it.sound } in
           rw some.0 (parts_notice p old.now new.now two h n step, spares)
     ]
-
--- what holds of an answer that is a value
-pub each_ok : {A E : Type 0} {P : A → Type 0} (Q : Result A E → Type 0) (r : Result A E) → Q r → ((x : A) → Q (Ok x) → P x) → IfOk r P
-each_ok Q (Ok x) h f = f x h
-each_ok Q (Err e) h f = tt
-
-pub on_each : {A E P : Type 0} (Q : Result A E → Type 0) (r : Result A E) → Q r → ((x : A) → Q (Ok x) → P) → OnOk r P
-on_each Q (Ok x) h f = f x h
-on_each Q (Err e) h f = tt
 
 some_count : (count : ℕ) → (count ≡ 0 → ⊥) → (count == 0) ≡ false
 some_count count h = grind (arith, nat_tests)

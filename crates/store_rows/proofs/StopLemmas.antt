@@ -1,13 +1,12 @@
 -- Why a statement that writes is refused.
-use Rattle.std.proofs.Common.{◌≡◌, ◌≢◌, ◌⊎◌, inl, inr, ℕ, ◌≤◌, true, false, List, [], ◌∷◌, ◌++◌, length, Option, Some, None, IsSome, Result, Ok, Err, IsTrue, MatchBool, refl, sym, ap, subst, subst₂, ◌∙◌, append-nil, arith}
-use Rattle.std.proofs.lemmas.Bool.{cases_Bool, both_ways}
+use Rattle.std.proofs.Common.{◌≡◌, ◌⊎◌, inl, inr, ℕ, false, List, length, Option, Some, None, Result, Ok, Err, MatchBool, refl, sym, ap, subst, subst₂, ◌∙◌, append-nil, arith}
+use Rattle.std.proofs.lemmas.Bool.{cases_Bool}
 use Rattle.sqlite_value.specs.Order.{Row}
 use Rattle.sqlite_trees.specs.declared.error.StoreError.{StoreError}
 use Rattle.sqlite_trees.specs.declared.error.StoreError.TheVariants as store
 use Rattle.sqlite_schema.specs.declared.schema.Schema.{Schema}
 use Rattle.sqlite_schema.specs.declared.command.Command.{Command}
 use Rattle.sqlite_schema.specs.declared.command.Command.TheVariants.{Begin, Commit, Rollback, Release, RollbackTo}
-use Rattle.sqlite_schema.specs.declared.command.Returning.{Returning}
 use Rattle.sqlite_resolve.specs.declared.compiled.Compiled.{Compiled}
 use Rattle.sqlite_resolve.specs.declared.error.CompileError.{CompileError}
 use Rattle.sqlite.specs.declared.error.Error.{Error}
@@ -16,7 +15,7 @@ use Rattle.sqlite.specs.declared.error.ErrorCode.TheVariants.{OutOfMemory}
 use Rattle.sqlite.specs.Calls.{IsWrite}
 use Rattle.sqlite.specs.Clock.{timed}
 use Rattle.sqlite.specs.Does.{Does}
-use Rattle.sqlite.specs.Effect.{Database, is_query}
+use Rattle.sqlite.specs.Effect.{is_query}
 use Rattle.sqlite.specs.Listing.{understood}
 use Rattle.sqlite.specs.State.{State, ExecutesInside, ExecutesIn, EndsScope, Escapes, IsStatement, IsNoStatement, IsNotRun, IsMisplaced, RunsAlone, RunsCommand, Fails, HasCause, store_error, shows_rows, is_pragma, text_of, mode_of}
 use Rattle.sqlite.proofs.Callers.{IsPlain, command_of, statement_of}

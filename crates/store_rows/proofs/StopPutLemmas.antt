@@ -1,12 +1,11 @@
 -- A statement that puts a row into a table of a store is stopped by no rule.
-use Rattle.std.proofs.Common.{◌≡◌, ◌≢◌, ◌⊎◌, inl, inr, ℕ, suc, ℤ, pos, ◌+ℤ◌, Bool, true, false, not, ◌&&◌, ◌||◌, ◌==◌, List, [], ◌∷◌, fold, Option, Some, None, Result, Ok, Err, MatchBool, refl, sym, ap, subst, ◌∙◌, arith}
-use Rattle.std.specs.List.{list_any, list_all}
+use Rattle.std.proofs.Common.{◌≡◌, ◌⊎◌, inl, inr, ℕ, ℤ, Bool, true, false, ◌&&◌, ◌||◌, ◌==◌, List, [], ◌∷◌, fold, Option, Some, None, Result, Ok, Err, refl, sym, ap, subst, ◌∙◌}
+use Rattle.std.specs.List.{list_any}
 use Rattle.std.specs.Ordering.{is_eq}
-use Rattle.std.proofs.lemmas.Bool.{both_ways, false_from_ne_true, not-true, not_from_false, and_parts, and_from, or_parts, or_left, or_right}
-use Rattle.sqlite_value.specs.declared.value.Value.{Value}
+use Rattle.std.proofs.lemmas.Bool.{both_ways, false_from_ne_true, not_from_false, and_from, or_parts}
 use Rattle.sqlite_value.specs.declared.value.Value.TheVariants.{Null, Int}
 use Rattle.sqlite_value.specs.Order.{Row, value_cmp}
-use Rattle.sqlite_trees.specs.Tree.{Trees, rowid, put_row, with_tree}
+use Rattle.sqlite_trees.specs.Tree.{Trees, rowid, put_row}
 use Rattle.sqlite_sql.specs.Ops.{fits_i64}
 use Rattle.sqlite_schema.specs.declared.command.Conflict.TheVariants.{Replace}
 use Rattle.sqlite_schema.specs.declared.command.Source.{Source}
@@ -16,7 +15,7 @@ use Rattle.sqlite_schema.specs.declared.schema.Keys.TheVariants.{Enforced}
 use Rattle.sqlite_schema.specs.declared.schema.Table.{Table}
 use Rattle.sqlite_schema.specs.declared.schema.Index.{Index}
 use Rattle.sqlite_schema.specs.declared.schema.Schema.{Schema}
-use Rattle.sqlite_schema.specs.Rules.{Keeps, Refers, agree, passes_checks}
+use Rattle.sqlite_schema.specs.Rules.{Keeps, agree, passes_checks}
 use Rattle.sqlite_rules.specs.Lists.{Has}
 use Rattle.sqlite_rules.specs.Steps.{IsJudged, is_typed, is_present}
 use Rattle.sqlite_rules.specs.Cast.{cast_row}
@@ -26,12 +25,12 @@ use Rattle.sqlite_rules.specs.declared.error.Refusal.{Refusal}
 use Rattle.sqlite_rules.specs.declared.error.Refusal.TheVariants.{Violates, Mismatch, NoRowid, BadReference, TooDeep}
 use Rattle.sqlite_schema.specs.declared.schema.Constraint.TheVariants as rule
 use Rattle.sqlite_rules.specs.declared.error.Rowids.TheVariants.{Given, Chosen}
-use Rattle.sqlite_rules.specs.Edit.{Edit, IsOversized, Applies, edit_of, taken_by, without_all, put_all, is_taken, id_in, next_rowid, at_least, with_rowid}
-use Rattle.sqlite_rules.proofs.ListLemmas.{all_has, some_has, some_from}
+use Rattle.sqlite_rules.specs.Edit.{Edit, IsOversized, edit_of, taken_by, without_all, put_all, is_taken, id_in, next_rowid, at_least, with_rowid}
+use Rattle.sqlite_rules.proofs.ListLemmas.{some_has, some_from}
 use Rattle.sqlite_rules.proofs.TableLemmas.{put_has, without_all_has}
 use Rattle.sqlite.specs.declared.error.Error.{Error}
 use Rattle.sqlite.specs.declared.run.Mode.{Mode}
-use Rattle.sqlite.specs.Rows.{Written, Task, Edited, Puts, Clears, Upserts, Judged, Tries, TriesEach, Inserts, InsertsOr, Counts, rowids_for, higher, Sourced, nothing, stamped, count_of}
+use Rattle.sqlite.specs.Rows.{Written, Task, Edited, Puts, Clears, Tries, TriesEach, Inserts, InsertsOr, Counts, rowids_for, higher, Sourced, nothing, stamped, count_of}
 use Rattle.sqlite.specs.Effect.{Database}
 use Rattle.sqlite.specs.Does.{Concludes}
 use Rattle.sqlite_typing.specs.Types.{accepts_terms}
@@ -41,9 +40,9 @@ use Rattle.sqlite_rules.proofs.PlaceLemmas.{next_is_free}
 use Rattle.store_rows.proofs.PutLemmas.{IsPlainFor, numbered_row, tried, tried_each}
 use Rattle.sqlite.proofs.Callers.{one_step}
 use Rattle.store_schema.specs.Tables.{AreBehind, behind, schema_4}
-use Rattle.store_rows.proofs.BesideLemmas.{IsTableTree, no_works, tables_spared}
+use Rattle.store_rows.proofs.BesideLemmas.{no_works, tables_spared}
 use Rattle.store_rows.proofs.EditLemmas.{SparesOthers, IsKeyed, IsTaken, taken, cleared, went, same_value}
-use Rattle.store_rows.proofs.SafeLemmas.{IsSafe, IsClear, IsOwn, not_stopped, clear_before, clear_fewer, clear_with, unique_after, referred, refers_after}
+use Rattle.store_rows.proofs.SafeLemmas.{IsSafe, IsOwn, not_stopped, clear_before, clear_fewer, clear_with, unique_after, referred, refers_after}
 
 -- values that a table takes, whatever the rowid of their row
 pub record IsGood (schema : Schema) (table : Table) (values : Row) : Type 0 where

@@ -1,16 +1,15 @@
 -- A statement that finds rows of a table of a store, and takes them out or writes over them, is stopped by no rule.
-use Rattle.std.proofs.Common.{◌≡◌, ◌≢◌, ◌⊎◌, inl, inr, ℕ, zero, suc, ◌<◌, ◌≤◌, ℤ, Bool, true, false, not, cond, ◌&&◌, ◌||◌, ◌==◌, List, [], ◌∷◌, ◌++◌, drop, map, length, Option, Some, None, Result, Ok, Err, Ordering, Less, Equal, Greater, IsTrue, refl, sym, ap, subst, ◌∙◌, arith}
+use Rattle.std.proofs.Common.{◌≡◌, inl, inr, ℕ, ◌≤◌, ℤ, Bool, true, false, not, ◌&&◌, ◌==◌, List, [], ◌∷◌, drop, map, length, Option, Some, None, Ok, Err, Less, IsTrue, refl, sym, ap, subst, ◌∙◌, arith}
 use Rattle.std.proofs.lemmas.List.{length-map}
 use Rattle.std.specs.List.{AllByRecursion, list_any}
-use Rattle.std.specs.Ordering.{is_eq, is_ne}
+use Rattle.std.specs.Ordering.{is_eq}
 use Rattle.std.proofs.lemmas.Bool.{cases_Bool, both_ways, not-true, false_from_ne_true, and_from}
 use Rattle.std.proofs.lemmas.List.Sorted.{length_permutation}
-use Rattle.sqlite_value.specs.declared.keys.Key.{Key}
 use Rattle.sqlite_value.specs.declared.value.Value.TheVariants.{Null, Int}
 use Rattle.sqlite_value.specs.Order.{Row, value_cmp}
 use Rattle.sqlite_trees.specs.Tree.{Trees, IsTable, rowid, has_rowid}
 use Rattle.sqlite_sql.specs.Ops.{binary, fits_i64}
-use Rattle.sqlite_sql.specs.Term.{Term, eval_all}
+use Rattle.sqlite_sql.specs.Term.{Term}
 use Rattle.sqlite_sql.specs.Query.{IsAnswerAs, Output, output}
 use Rattle.sqlite_sql.specs.Program.{overlay}
 use Rattle.sqlite_schema.specs.declared.program.Program.{Program}
@@ -34,8 +33,8 @@ use Rattle.sqlite.specs.declared.error.Error.{Error}
 use Rattle.sqlite.specs.Rows.{Written, Task, Edited, Queried, Updates, Deletes}
 use Rattle.store_schema.specs.Tables.{AreBehind, behind, schema_4}
 use Rattle.store_rows.proofs.EditLemmas.{SparesOthers, IsKeyed, IsTaken, taken, as_given, went, same_value}
-use Rattle.store_rows.proofs.ReadLemmas.{mapped_has, passes, found, query_on, answer_has, has_answer, outputs, shown}
-use Rattle.store_rows.proofs.SafeLemmas.{IsOwn, IsClear, not_stopped, clear_before}
+use Rattle.store_rows.proofs.ReadLemmas.{mapped_has, passes, found, query_on, outputs, shown}
+use Rattle.store_rows.proofs.SafeLemmas.{IsOwn, IsClear, not_stopped}
 use Rattle.store_rows.proofs.StopPutLemmas.{IsGood, task_on, safe_clear, safe_put, one_row, edit_spares, edit_rows}
 
 -- ---- what a query finds

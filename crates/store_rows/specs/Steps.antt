@@ -1,10 +1,14 @@
 -- What the statements of a transaction do to a database.
-use Rattle.std.specs.Prelude.{◌≡◌, ◌⊎◌, ℕ, ◌+◌, ◌<◌, ◌^◌, true, ◌==◌, if◌then◌else◌, [], List, Option, Some, None, ⊤, IsTrue, false}
+use Rattle.std.specs.Prelude.{◌≡◌, ◌⊎◌, ℕ, ◌+◌, ◌<◌, ◌^◌, true, ◌==◌, if◌then◌else◌, [], List, Option, Some, None, Result, Ok, Err, IfOk, OnOk, ⊤, IsTrue, false}
+use Rattle.sqlite_value.specs.Order.{Row}
+use Rattle.sqlite_trees.specs.declared.store.Store.{Ghosts}
 use Rattle.sqlite_schema.specs.declared.schema.Schema.{Schema}
 use Rattle.sqlite_catalog.specs.Change.{next_tree, KeepsRows}
 use Rattle.sqlite_rules.specs.Lists.{Has}
 use Rattle.sqlite.specs.Effect.{Database, IsDatabase}
-use Rattle.sqlite.specs.State.{State}
+use Rattle.sqlite.specs.State.{State, HasCleanDisk, KeepsCommit, Survives, ExecutesInside}
+use Rattle.sqlite.specs.Held.{state}
+use Rattle.sqlite.specs.declared.transaction.Transaction.{Transaction}
 use Rattle.store_schema.specs.Tables.{others_in}
 use Rattle.store_schema.specs.declared.Version.TheVariants.{Second}
 use Rattle.store_rows.specs.declared.content.StoredCell.{StoredCell}
@@ -115,3 +119,33 @@ IsUnfit n Fits d = (p : Parts) → p.tables ≡ Second → Fits p → HoldsParts
 -- was no store that fits.
 abbrev pub IsStopped : ℕ → (Parts → Type 0) → State → State → Error → Type 0
 IsStopped n Fits old new e = HasRefused old new ⊎ ((e ≡ SqliteFailure OutOfMemory) ⊎ IsUnfit n Fits old.now)
+
+-- a statement was run inside a transaction, whatever number of rows it changed
+abbrev pub HasRun : List ℕ → Row → State → Result (Unit {0}) Error → State → Type 0
+HasRun sql params old (Ok done) new = (count : ℕ) × ExecutesInside 0 sql params old new (Ok count)
+HasRun sql params old (Err e) new = ExecutesInside 0 sql params old new (Err e)
+
+module _ {S : Type 0} (g : Ghosts S) where
+  -- a call inside a transaction runs this text with these parameters
+  pub record RunsText (sql : List ℕ) (params : Row) (old : Transaction S) (result : Result (Unit {0}) Error) (new : Transaction S) : Type 0 where
+    pub same_reference : new.conn.ghost_name ≡ old.conn.ghost_name
+    pub runs : HasCleanDisk (state g new.conn.now) → IsTrue old.conn.now.in_transaction → HasRun sql params (state g old.conn.now) result (state g new.conn.now)
+    pub survives : Survives (state g old.conn.now) (state g new.conn.now) (λ _. ⊥)
+
+  -- What a call inside a transaction does. Where it answers a value, it has changed what the transaction sees, as the effect
+  -- says of that value. Whatever it answers, it commits nothing and forgets no fault.
+  pub record Runs {A : Type 0} (Effect : A → Database → Database → Type 0) (old : Transaction S) (result : Result A Error) (new : Transaction S) : Type 0 where
+    pub same_reference : new.conn.ghost_name ≡ old.conn.ghost_name
+    pub goes : HasCleanDisk (state g new.conn.now) → IsTrue old.conn.now.in_transaction
+        → IfOk result (λ x. Goes (state g old.conn.now) (state g new.conn.now) (Effect x))
+    pub kept : HasCleanDisk (state g new.conn.now) → IsTrue old.conn.now.in_transaction → KeepsCommit (state g old.conn.now) (state g new.conn.now)
+    pub survives : Survives (state g old.conn.now) (state g new.conn.now) (λ _. ⊥)
+
+  -- The same of a call that writes rows, with its needs: it takes at most so many rowids of each table, and it is refused
+  -- neither for want of them where so many are left, nor by a store whose parts fit.
+  pub record Puts {A : Type 0} (n : ℕ) (Fits : Parts → Type 0) (Effect : A → Database → Database → Type 0) (old : Transaction S) (result : Result A Error) (new : Transaction S) : Type 0 where
+    pub runs : Runs Effect old result new
+    pub uses : HasCleanDisk (state g new.conn.now) → IsTrue old.conn.now.in_transaction
+        → OnOk result (Uses n Any (state g old.conn.now).now (state g new.conn.now).now)
+    pub refused : HasCleanDisk (state g new.conn.now) → IsTrue old.conn.now.in_transaction
+        → (e : Error) → result ≡ Err e → IsStopped n Fits (state g old.conn.now) (state g new.conn.now) e

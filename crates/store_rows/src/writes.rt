@@ -1,15 +1,12 @@
 //! The statements of a transaction, one function each, and what they make of a store.
-ghost use Rattle.std.specs.Prelude.{◌≡◌, ◌<◌, ◌^◌, pos, [], ◌∷◌, length, All, Some, Err, IsTrue, OnOk, IfOk};
+ghost use Rattle.std.specs.Prelude.{◌≡◌, ◌<◌, ◌^◌, pos, [], ◌∷◌, length, All, Some};
 ghost use Rattle.sqlite_value.specs.declared.value.Value.TheVariants.{Int};
 ghost use Rattle.sqlite_value.specs.Value.{owned};
 ghost use Rattle.sqlite.specs.Values.{bound};
 ghost use Rattle.store_rows.specs.Rows.{cell_row, notice_row};
-ghost use Rattle.sqlite.specs.State.{HasCleanDisk, KeepsCommit, Survives};
-ghost use Rattle.sqlite.specs.Held.{state};
-ghost use Rattle.sqlite.specs.declared.error.Error.{Error as SqlError};
 ghost use Rattle.store_schema.specs.Tables.{no_schema, schema_1, schema_2, schema_3, schema_4};
 ghost use Rattle.store_rows.specs.Holding.{mark};
-ghost use Rattle.store_rows.specs.Steps.{Goes, Makes, Brings, Uses, IsStopped, IsNewTo, Any, HasFreePlace, HasNoSuchPlace, IsStorable, if_changed, with_mark, with_cells, with_notices, with_drop, with_session, with_edit};
+ghost use Rattle.store_rows.specs.Steps.{Runs, RunsText, Puts, Makes, Brings, Any, HasFreePlace, HasNoSuchPlace, IsNewTo, IsStorable, if_changed, with_mark, with_cells, with_notices, with_drop, with_session, with_edit};
 
 use crate::content::{SessionEdit, StoredCell, StoredNotice, StoredSession};
 use sqlite::types::ValueRef;
@@ -23,87 +20,74 @@ fn number<'a>(n: u64) -> ValueRef<'a>
     ValueRef::Int(n as i64)
 }
 
+/// Runs a statement, whatever number of rows it changes.
+fn run<S: Alter>(
+    tx: &mut Transaction<'_, S>,
+    sql: &str,
+    params: &[ValueRef<'_>],
+) -> Result<(), Error>
+    ensures { RunsText S.Store sql.now (bound params.now) tx.old result tx.new }
+{
+    tx.execute(sql, params)?;
+    Ok(())
+}
+
 /// Makes the table of the marks, in a database without tables.
 pub fn create_meta<S: Alter>(tx: &mut Transaction<'_, S>) -> Result<(), Error>
-    ensures same_reference { tx.new.conn.ghost_name ≡ tx.old.conn.ghost_name }
-    ensures goes { HasCleanDisk (state S.Store tx.new.conn.now) → IsTrue tx.old.conn.now.in_transaction
-        → OnOk result (Goes (state S.Store tx.old.conn.now) (state S.Store tx.new.conn.now) (Makes no_schema schema_1)) }
-    ensures kept { HasCleanDisk (state S.Store tx.new.conn.now) → IsTrue tx.old.conn.now.in_transaction
-        → KeepsCommit (state S.Store tx.old.conn.now) (state S.Store tx.new.conn.now) }
-    ensures survives { Survives (state S.Store tx.old.conn.now) (state S.Store tx.new.conn.now) (λ _. ⊥) }
+    ensures { Runs S.Store (λ _. Makes no_schema schema_1) tx.old result tx.new }
 {
-    tx.execute(
+    run(
+        tx,
         "CREATE TABLE meta (name TEXT PRIMARY KEY NOT NULL, value TEXT NOT NULL)",
         &[],
-    )?;
-    Ok(())
+    )
 }
 
 /// Makes the table of the counters, the second.
 pub fn create_cells<S: Alter>(tx: &mut Transaction<'_, S>) -> Result<(), Error>
-    ensures same_reference { tx.new.conn.ghost_name ≡ tx.old.conn.ghost_name }
-    ensures goes { HasCleanDisk (state S.Store tx.new.conn.now) → IsTrue tx.old.conn.now.in_transaction
-        → OnOk result (Goes (state S.Store tx.old.conn.now) (state S.Store tx.new.conn.now) (Makes schema_1 schema_2)) }
-    ensures kept { HasCleanDisk (state S.Store tx.new.conn.now) → IsTrue tx.old.conn.now.in_transaction
-        → KeepsCommit (state S.Store tx.old.conn.now) (state S.Store tx.new.conn.now) }
-    ensures survives { Survives (state S.Store tx.old.conn.now) (state S.Store tx.new.conn.now) (λ _. ⊥) }
+    ensures { Runs S.Store (λ _. Makes schema_1 schema_2) tx.old result tx.new }
 {
-    tx.execute(
+    run(
+        tx,
         "CREATE TABLE cells (record INTEGER NOT NULL, slot INTEGER NOT NULL, n INTEGER NOT NULL CHECK (n >= 0), PRIMARY KEY (record, slot))",
         &[],
-    )?;
-    Ok(())
+    )
 }
 
 /// Makes the table of the sessions, the third.
 pub fn create_sessions<S: Alter>(tx: &mut Transaction<'_, S>) -> Result<(), Error>
-    ensures same_reference { tx.new.conn.ghost_name ≡ tx.old.conn.ghost_name }
-    ensures goes { HasCleanDisk (state S.Store tx.new.conn.now) → IsTrue tx.old.conn.now.in_transaction
-        → OnOk result (Goes (state S.Store tx.old.conn.now) (state S.Store tx.new.conn.now) (Makes schema_2 schema_3)) }
-    ensures kept { HasCleanDisk (state S.Store tx.new.conn.now) → IsTrue tx.old.conn.now.in_transaction
-        → KeepsCommit (state S.Store tx.old.conn.now) (state S.Store tx.new.conn.now) }
-    ensures survives { Survives (state S.Store tx.old.conn.now) (state S.Store tx.new.conn.now) (λ _. ⊥) }
+    ensures { Runs S.Store (λ _. Makes schema_2 schema_3) tx.old result tx.new }
 {
-    tx.execute(
+    run(
+        tx,
         "CREATE TABLE sessions (record INTEGER NOT NULL, holder INTEGER NOT NULL, phase INTEGER NOT NULL, place INTEGER NOT NULL UNIQUE, PRIMARY KEY (record, holder))",
         &[],
-    )?;
-    Ok(())
+    )
 }
 
 /// Makes the table of the notices, the last.
 pub fn create_notices<S: Alter>(tx: &mut Transaction<'_, S>) -> Result<(), Error>
-    ensures same_reference { tx.new.conn.ghost_name ≡ tx.old.conn.ghost_name }
-    ensures goes { HasCleanDisk (state S.Store tx.new.conn.now) → IsTrue tx.old.conn.now.in_transaction
-        → OnOk result (Goes (state S.Store tx.old.conn.now) (state S.Store tx.new.conn.now) (Makes schema_3 schema_4)) }
-    ensures kept { HasCleanDisk (state S.Store tx.new.conn.now) → IsTrue tx.old.conn.now.in_transaction
-        → KeepsCommit (state S.Store tx.old.conn.now) (state S.Store tx.new.conn.now) }
-    ensures survives { Survives (state S.Store tx.old.conn.now) (state S.Store tx.new.conn.now) (λ _. ⊥) }
+    ensures { Runs S.Store (λ _. Makes schema_3 schema_4) tx.old result tx.new }
 {
-    tx.execute(
+    run(
+        tx,
         "CREATE TABLE notices (record INTEGER NOT NULL, site INTEGER NOT NULL, ann INTEGER NOT NULL CHECK (ann >= 0), fin INTEGER NOT NULL CHECK (fin >= 0), PRIMARY KEY (record, site))",
         &[],
-    )?;
-    Ok(())
+    )
 }
 
 /// Sets a row of `meta`.
 pub fn put_mark<S: Alter>(tx: &mut Transaction<'_, S>, name: &str, value: &str) -> Result<(), Error>
-    ensures same_reference { tx.new.conn.ghost_name ≡ tx.old.conn.ghost_name }
-    ensures goes { HasCleanDisk (state S.Store tx.new.conn.now) → IsTrue tx.old.conn.now.in_transaction
-        → OnOk result (Goes (state S.Store tx.old.conn.now) (state S.Store tx.new.conn.now) (Brings Any (with_mark (mark name.now value.now)))) }
-    ensures kept { HasCleanDisk (state S.Store tx.new.conn.now) → IsTrue tx.old.conn.now.in_transaction
-        → KeepsCommit (state S.Store tx.old.conn.now) (state S.Store tx.new.conn.now) }
-    ensures survives { Survives (state S.Store tx.old.conn.now) (state S.Store tx.new.conn.now) (λ _. ⊥) }
+    ensures { Runs S.Store (λ _. Brings Any (with_mark (mark name.now value.now))) tx.old result tx.new }
 {
-    tx.execute(
+    run(
+        tx,
         "INSERT OR REPLACE INTO meta (name, value) VALUES (?1, ?2)",
         &[
             ValueRef::Text(name.as_bytes()),
             ValueRef::Text(value.as_bytes()),
         ],
-    )?;
-    Ok(())
+    )
 }
 
 /// The columns of a counter's row.
@@ -121,16 +105,7 @@ fn cell_values<'a>(cell: StoredCell) -> [ValueRef<'a>; 3]
 /// Sets a counter that is there, and tells how many rows that changed.
 fn update_cell<S: Alter>(tx: &mut Transaction<'_, S>, cell: StoredCell) -> Result<usize, Error>
     requires { cell.n < 2 ^ 63 }
-    ensures same_reference { tx.new.conn.ghost_name ≡ tx.old.conn.ghost_name }
-    ensures goes { HasCleanDisk (state S.Store tx.new.conn.now) → IsTrue tx.old.conn.now.in_transaction
-        → IfOk result (λ count. Goes (state S.Store tx.old.conn.now) (state S.Store tx.new.conn.now) (Brings Any (if_changed count (with_cells (cell ∷ []))))) }
-    ensures kept { HasCleanDisk (state S.Store tx.new.conn.now) → IsTrue tx.old.conn.now.in_transaction
-        → KeepsCommit (state S.Store tx.old.conn.now) (state S.Store tx.new.conn.now) }
-    ensures uses { HasCleanDisk (state S.Store tx.new.conn.now) → IsTrue tx.old.conn.now.in_transaction
-        → OnOk result (Uses 0 Any (state S.Store tx.old.conn.now).now (state S.Store tx.new.conn.now).now) }
-    ensures refused { HasCleanDisk (state S.Store tx.new.conn.now) → IsTrue tx.old.conn.now.in_transaction
-        → (e : SqlError) → result ≡ Err e → IsStopped 0 Any (state S.Store tx.old.conn.now) (state S.Store tx.new.conn.now) e }
-    ensures survives { Survives (state S.Store tx.old.conn.now) (state S.Store tx.new.conn.now) (λ _. ⊥) }
+    ensures { Puts S.Store 0 Any (λ count. Brings Any (if_changed count (with_cells (cell ∷ [])))) tx.old result tx.new }
 {
     tx.execute(
         "UPDATE cells SET n = ?3 WHERE record = ?1 AND slot = ?2",
@@ -141,37 +116,19 @@ fn update_cell<S: Alter>(tx: &mut Transaction<'_, S>, cell: StoredCell) -> Resul
 /// Sets a counter, with its entry in the index, whether it is there or not.
 fn replace_cell<S: Alter>(tx: &mut Transaction<'_, S>, cell: StoredCell) -> Result<(), Error>
     requires { cell.n < 2 ^ 63 }
-    ensures same_reference { tx.new.conn.ghost_name ≡ tx.old.conn.ghost_name }
-    ensures goes { HasCleanDisk (state S.Store tx.new.conn.now) → IsTrue tx.old.conn.now.in_transaction
-        → OnOk result (Goes (state S.Store tx.old.conn.now) (state S.Store tx.new.conn.now) (Brings Any (with_cells (cell ∷ [])))) }
-    ensures kept { HasCleanDisk (state S.Store tx.new.conn.now) → IsTrue tx.old.conn.now.in_transaction
-        → KeepsCommit (state S.Store tx.old.conn.now) (state S.Store tx.new.conn.now) }
-    ensures uses { HasCleanDisk (state S.Store tx.new.conn.now) → IsTrue tx.old.conn.now.in_transaction
-        → OnOk result (Uses 1 Any (state S.Store tx.old.conn.now).now (state S.Store tx.new.conn.now).now) }
-    ensures refused { HasCleanDisk (state S.Store tx.new.conn.now) → IsTrue tx.old.conn.now.in_transaction
-        → (e : SqlError) → result ≡ Err e → IsStopped 1 Any (state S.Store tx.old.conn.now) (state S.Store tx.new.conn.now) e }
-    ensures survives { Survives (state S.Store tx.old.conn.now) (state S.Store tx.new.conn.now) (λ _. ⊥) }
+    ensures { Puts S.Store 1 Any (λ _. Brings Any (with_cells (cell ∷ []))) tx.old result tx.new }
 {
-    tx.execute(
+    run(
+        tx,
         "INSERT OR REPLACE INTO cells (record, slot, n) VALUES (?1, ?2, ?3)",
         &cell_values(cell),
-    )?;
-    Ok(())
+    )
 }
 
 /// Sets a counter. Where it is there, the index stays, and so a page less goes into the log.
 fn put_cell<S: Alter>(tx: &mut Transaction<'_, S>, cell: StoredCell) -> Result<(), Error>
     requires { cell.n < 2 ^ 63 }
-    ensures same_reference { tx.new.conn.ghost_name ≡ tx.old.conn.ghost_name }
-    ensures goes { HasCleanDisk (state S.Store tx.new.conn.now) → IsTrue tx.old.conn.now.in_transaction
-        → OnOk result (Goes (state S.Store tx.old.conn.now) (state S.Store tx.new.conn.now) (Brings Any (with_cells (cell ∷ [])))) }
-    ensures kept { HasCleanDisk (state S.Store tx.new.conn.now) → IsTrue tx.old.conn.now.in_transaction
-        → KeepsCommit (state S.Store tx.old.conn.now) (state S.Store tx.new.conn.now) }
-    ensures uses { HasCleanDisk (state S.Store tx.new.conn.now) → IsTrue tx.old.conn.now.in_transaction
-        → OnOk result (Uses 1 Any (state S.Store tx.old.conn.now).now (state S.Store tx.new.conn.now).now) }
-    ensures refused { HasCleanDisk (state S.Store tx.new.conn.now) → IsTrue tx.old.conn.now.in_transaction
-        → (e : SqlError) → result ≡ Err e → IsStopped 1 Any (state S.Store tx.old.conn.now) (state S.Store tx.new.conn.now) e }
-    ensures survives { Survives (state S.Store tx.old.conn.now) (state S.Store tx.new.conn.now) (λ _. ⊥) }
+    ensures { Puts S.Store 1 Any (λ _. Brings Any (with_cells (cell ∷ []))) tx.old result tx.new }
 {
     let count = update_cell(tx, cell)?;
     if count == 0 {
@@ -201,16 +158,7 @@ fn update_notice<S: Alter>(
 ) -> Result<usize, Error>
     requires announced { notice.announced < 2 ^ 63 }
     requires finished { notice.finished < 2 ^ 63 }
-    ensures same_reference { tx.new.conn.ghost_name ≡ tx.old.conn.ghost_name }
-    ensures goes { HasCleanDisk (state S.Store tx.new.conn.now) → IsTrue tx.old.conn.now.in_transaction
-        → IfOk result (λ count. Goes (state S.Store tx.old.conn.now) (state S.Store tx.new.conn.now) (Brings Any (if_changed count (with_notices (notice ∷ []))))) }
-    ensures kept { HasCleanDisk (state S.Store tx.new.conn.now) → IsTrue tx.old.conn.now.in_transaction
-        → KeepsCommit (state S.Store tx.old.conn.now) (state S.Store tx.new.conn.now) }
-    ensures uses { HasCleanDisk (state S.Store tx.new.conn.now) → IsTrue tx.old.conn.now.in_transaction
-        → OnOk result (Uses 0 Any (state S.Store tx.old.conn.now).now (state S.Store tx.new.conn.now).now) }
-    ensures refused { HasCleanDisk (state S.Store tx.new.conn.now) → IsTrue tx.old.conn.now.in_transaction
-        → (e : SqlError) → result ≡ Err e → IsStopped 0 Any (state S.Store tx.old.conn.now) (state S.Store tx.new.conn.now) e }
-    ensures survives { Survives (state S.Store tx.old.conn.now) (state S.Store tx.new.conn.now) (λ _. ⊥) }
+    ensures { Puts S.Store 0 Any (λ count. Brings Any (if_changed count (with_notices (notice ∷ [])))) tx.old result tx.new }
 {
     tx.execute(
         "UPDATE notices SET ann = ?3, fin = ?4 WHERE record = ?1 AND site = ?2",
@@ -222,38 +170,20 @@ fn update_notice<S: Alter>(
 fn replace_notice<S: Alter>(tx: &mut Transaction<'_, S>, notice: StoredNotice) -> Result<(), Error>
     requires announced { notice.announced < 2 ^ 63 }
     requires finished { notice.finished < 2 ^ 63 }
-    ensures same_reference { tx.new.conn.ghost_name ≡ tx.old.conn.ghost_name }
-    ensures goes { HasCleanDisk (state S.Store tx.new.conn.now) → IsTrue tx.old.conn.now.in_transaction
-        → OnOk result (Goes (state S.Store tx.old.conn.now) (state S.Store tx.new.conn.now) (Brings Any (with_notices (notice ∷ [])))) }
-    ensures kept { HasCleanDisk (state S.Store tx.new.conn.now) → IsTrue tx.old.conn.now.in_transaction
-        → KeepsCommit (state S.Store tx.old.conn.now) (state S.Store tx.new.conn.now) }
-    ensures uses { HasCleanDisk (state S.Store tx.new.conn.now) → IsTrue tx.old.conn.now.in_transaction
-        → OnOk result (Uses 1 Any (state S.Store tx.old.conn.now).now (state S.Store tx.new.conn.now).now) }
-    ensures refused { HasCleanDisk (state S.Store tx.new.conn.now) → IsTrue tx.old.conn.now.in_transaction
-        → (e : SqlError) → result ≡ Err e → IsStopped 1 Any (state S.Store tx.old.conn.now) (state S.Store tx.new.conn.now) e }
-    ensures survives { Survives (state S.Store tx.old.conn.now) (state S.Store tx.new.conn.now) (λ _. ⊥) }
+    ensures { Puts S.Store 1 Any (λ _. Brings Any (with_notices (notice ∷ []))) tx.old result tx.new }
 {
-    tx.execute(
+    run(
+        tx,
         "INSERT OR REPLACE INTO notices (record, site, ann, fin) VALUES (?1, ?2, ?3, ?4)",
         &notice_values(notice),
-    )?;
-    Ok(())
+    )
 }
 
 /// Sets a notice. Where it is there, the index stays, and so a page less goes into the log.
 fn put_notice<S: Alter>(tx: &mut Transaction<'_, S>, notice: StoredNotice) -> Result<(), Error>
     requires announced { notice.announced < 2 ^ 63 }
     requires finished { notice.finished < 2 ^ 63 }
-    ensures same_reference { tx.new.conn.ghost_name ≡ tx.old.conn.ghost_name }
-    ensures goes { HasCleanDisk (state S.Store tx.new.conn.now) → IsTrue tx.old.conn.now.in_transaction
-        → OnOk result (Goes (state S.Store tx.old.conn.now) (state S.Store tx.new.conn.now) (Brings Any (with_notices (notice ∷ [])))) }
-    ensures kept { HasCleanDisk (state S.Store tx.new.conn.now) → IsTrue tx.old.conn.now.in_transaction
-        → KeepsCommit (state S.Store tx.old.conn.now) (state S.Store tx.new.conn.now) }
-    ensures uses { HasCleanDisk (state S.Store tx.new.conn.now) → IsTrue tx.old.conn.now.in_transaction
-        → OnOk result (Uses 1 Any (state S.Store tx.old.conn.now).now (state S.Store tx.new.conn.now).now) }
-    ensures refused { HasCleanDisk (state S.Store tx.new.conn.now) → IsTrue tx.old.conn.now.in_transaction
-        → (e : SqlError) → result ≡ Err e → IsStopped 1 Any (state S.Store tx.old.conn.now) (state S.Store tx.new.conn.now) e }
-    ensures survives { Survives (state S.Store tx.old.conn.now) (state S.Store tx.new.conn.now) (λ _. ⊥) }
+    ensures { Puts S.Store 1 Any (λ _. Brings Any (with_notices (notice ∷ []))) tx.old result tx.new }
 {
     let count = update_notice(tx, notice)?;
     if count == 0 {
@@ -266,18 +196,10 @@ fn put_notice<S: Alter>(tx: &mut Transaction<'_, S>, notice: StoredNotice) -> Re
 fn add_session<S: Alter>(tx: &mut Transaction<'_, S>, session: StoredSession) -> Result<(), Error>
     requires holder { session.h < 2 ^ 63 }
     requires place { session.place < 2 ^ 63 }
-    ensures same_reference { tx.new.conn.ghost_name ≡ tx.old.conn.ghost_name }
-    ensures goes { HasCleanDisk (state S.Store tx.new.conn.now) → IsTrue tx.old.conn.now.in_transaction
-        → OnOk result (Goes (state S.Store tx.old.conn.now) (state S.Store tx.new.conn.now) (Brings (HasNoSuchPlace session) (with_session session))) }
-    ensures kept { HasCleanDisk (state S.Store tx.new.conn.now) → IsTrue tx.old.conn.now.in_transaction
-        → KeepsCommit (state S.Store tx.old.conn.now) (state S.Store tx.new.conn.now) }
-    ensures uses { HasCleanDisk (state S.Store tx.new.conn.now) → IsTrue tx.old.conn.now.in_transaction
-        → OnOk result (Uses 1 Any (state S.Store tx.old.conn.now).now (state S.Store tx.new.conn.now).now) }
-    ensures refused { HasCleanDisk (state S.Store tx.new.conn.now) → IsTrue tx.old.conn.now.in_transaction
-        → (e : SqlError) → result ≡ Err e → IsStopped 1 (IsNewTo session) (state S.Store tx.old.conn.now) (state S.Store tx.new.conn.now) e }
-    ensures survives { Survives (state S.Store tx.old.conn.now) (state S.Store tx.new.conn.now) (λ _. ⊥) }
+    ensures { Puts S.Store 1 (IsNewTo session) (λ _. Brings (HasNoSuchPlace session) (with_session session)) tx.old result tx.new }
 {
-    tx.execute(
+    run(
+        tx,
         "INSERT INTO sessions (record, holder, phase, place) VALUES (?1, ?2, ?3, ?4)",
         &[
             number(u64::from(session.r)),
@@ -285,46 +207,26 @@ fn add_session<S: Alter>(tx: &mut Transaction<'_, S>, session: StoredSession) ->
             number(session.stage.number()),
             number(session.place),
         ],
-    )?;
-    Ok(())
+    )
 }
 
 /// Drops the session of a holder at a record, if there is one.
 fn drop_session<S: Alter>(tx: &mut Transaction<'_, S>, r: u16, h: u64) -> Result<(), Error>
     requires { h < 2 ^ 63 }
-    ensures same_reference { tx.new.conn.ghost_name ≡ tx.old.conn.ghost_name }
-    ensures goes { HasCleanDisk (state S.Store tx.new.conn.now) → IsTrue tx.old.conn.now.in_transaction
-        → OnOk result (Goes (state S.Store tx.old.conn.now) (state S.Store tx.new.conn.now) (Brings Any (with_drop r h))) }
-    ensures kept { HasCleanDisk (state S.Store tx.new.conn.now) → IsTrue tx.old.conn.now.in_transaction
-        → KeepsCommit (state S.Store tx.old.conn.now) (state S.Store tx.new.conn.now) }
-    ensures uses { HasCleanDisk (state S.Store tx.new.conn.now) → IsTrue tx.old.conn.now.in_transaction
-        → OnOk result (Uses 0 Any (state S.Store tx.old.conn.now).now (state S.Store tx.new.conn.now).now) }
-    ensures refused { HasCleanDisk (state S.Store tx.new.conn.now) → IsTrue tx.old.conn.now.in_transaction
-        → (e : SqlError) → result ≡ Err e → IsStopped 0 Any (state S.Store tx.old.conn.now) (state S.Store tx.new.conn.now) e }
-    ensures survives { Survives (state S.Store tx.old.conn.now) (state S.Store tx.new.conn.now) (λ _. ⊥) }
+    ensures { Puts S.Store 0 Any (λ _. Brings Any (with_drop r h)) tx.old result tx.new }
 {
-    tx.execute(
+    run(
+        tx,
         "DELETE FROM sessions WHERE record = ?1 AND holder = ?2",
         &[number(u64::from(r)), number(h)],
-    )?;
-    Ok(())
+    )
 }
 
 /// Puts a session in the place of the one that its holder has at its record, if there is one.
 fn put_session<S: Alter>(tx: &mut Transaction<'_, S>, session: StoredSession) -> Result<(), Error>
     requires holder { session.h < 2 ^ 63 }
     requires place { session.place < 2 ^ 63 }
-    ensures same_reference { tx.new.conn.ghost_name ≡ tx.old.conn.ghost_name }
-    ensures goes { HasCleanDisk (state S.Store tx.new.conn.now) → IsTrue tx.old.conn.now.in_transaction
-        → OnOk result (Goes (state S.Store tx.old.conn.now) (state S.Store tx.new.conn.now)
-        (Brings (λ p. HasFreePlace (Some (SessionEdit.Put session)) p.sessions) (with_edit (Some (SessionEdit.Put session))))) }
-    ensures kept { HasCleanDisk (state S.Store tx.new.conn.now) → IsTrue tx.old.conn.now.in_transaction
-        → KeepsCommit (state S.Store tx.old.conn.now) (state S.Store tx.new.conn.now) }
-    ensures uses { HasCleanDisk (state S.Store tx.new.conn.now) → IsTrue tx.old.conn.now.in_transaction
-        → OnOk result (Uses 1 Any (state S.Store tx.old.conn.now).now (state S.Store tx.new.conn.now).now) }
-    ensures refused { HasCleanDisk (state S.Store tx.new.conn.now) → IsTrue tx.old.conn.now.in_transaction
-        → (e : SqlError) → result ≡ Err e → IsStopped 1 (λ p. HasFreePlace (Some (SessionEdit.Put session)) p.sessions) (state S.Store tx.old.conn.now) (state S.Store tx.new.conn.now) e }
-    ensures survives { Survives (state S.Store tx.old.conn.now) (state S.Store tx.new.conn.now) (λ _. ⊥) }
+    ensures { Puts S.Store 1 (λ p. HasFreePlace (Some (SessionEdit.Put session)) p.sessions) (λ _. Brings (λ p. HasFreePlace (Some (SessionEdit.Put session)) p.sessions) (with_edit (Some (SessionEdit.Put session)))) tx.old result tx.new }
 {
     drop_session(tx, session.r, session.h)?;
     add_session(tx, session)
@@ -333,16 +235,7 @@ fn put_session<S: Alter>(tx: &mut Transaction<'_, S>, session: StoredSession) ->
 /// Sets counters, in turn. One statement each, and a second where the counter is new.
 pub fn put_cells<S: Alter>(tx: &mut Transaction<'_, S>, cells: &[StoredCell]) -> Result<(), Error>
     requires { All (λ c. c.n < 2 ^ 63) cells.now }
-    ensures same_reference { tx.new.conn.ghost_name ≡ tx.old.conn.ghost_name }
-    ensures goes { HasCleanDisk (state S.Store tx.new.conn.now) → IsTrue tx.old.conn.now.in_transaction
-        → OnOk result (Goes (state S.Store tx.old.conn.now) (state S.Store tx.new.conn.now) (Brings Any (with_cells cells.now))) }
-    ensures kept { HasCleanDisk (state S.Store tx.new.conn.now) → IsTrue tx.old.conn.now.in_transaction
-        → KeepsCommit (state S.Store tx.old.conn.now) (state S.Store tx.new.conn.now) }
-    ensures uses { HasCleanDisk (state S.Store tx.new.conn.now) → IsTrue tx.old.conn.now.in_transaction
-        → OnOk result (Uses (length cells.now) Any (state S.Store tx.old.conn.now).now (state S.Store tx.new.conn.now).now) }
-    ensures refused { HasCleanDisk (state S.Store tx.new.conn.now) → IsTrue tx.old.conn.now.in_transaction
-        → (e : SqlError) → result ≡ Err e → IsStopped (length cells.now) Any (state S.Store tx.old.conn.now) (state S.Store tx.new.conn.now) e }
-    ensures survives { Survives (state S.Store tx.old.conn.now) (state S.Store tx.new.conn.now) (λ _. ⊥) }
+    ensures { Puts S.Store (length cells.now) Any (λ _. Brings Any (with_cells cells.now)) tx.old result tx.new }
 {
     for cell in cells {
         put_cell(tx, *cell)?;
@@ -356,16 +249,7 @@ pub fn put_notices<S: Alter>(
     notices: &[StoredNotice],
 ) -> Result<(), Error>
     requires { All (λ n. (n.announced < 2 ^ 63) × (n.finished < 2 ^ 63)) notices.now }
-    ensures same_reference { tx.new.conn.ghost_name ≡ tx.old.conn.ghost_name }
-    ensures goes { HasCleanDisk (state S.Store tx.new.conn.now) → IsTrue tx.old.conn.now.in_transaction
-        → OnOk result (Goes (state S.Store tx.old.conn.now) (state S.Store tx.new.conn.now) (Brings Any (with_notices notices.now))) }
-    ensures kept { HasCleanDisk (state S.Store tx.new.conn.now) → IsTrue tx.old.conn.now.in_transaction
-        → KeepsCommit (state S.Store tx.old.conn.now) (state S.Store tx.new.conn.now) }
-    ensures uses { HasCleanDisk (state S.Store tx.new.conn.now) → IsTrue tx.old.conn.now.in_transaction
-        → OnOk result (Uses (length notices.now) Any (state S.Store tx.old.conn.now).now (state S.Store tx.new.conn.now).now) }
-    ensures refused { HasCleanDisk (state S.Store tx.new.conn.now) → IsTrue tx.old.conn.now.in_transaction
-        → (e : SqlError) → result ≡ Err e → IsStopped (length notices.now) Any (state S.Store tx.old.conn.now) (state S.Store tx.new.conn.now) e }
-    ensures survives { Survives (state S.Store tx.old.conn.now) (state S.Store tx.new.conn.now) (λ _. ⊥) }
+    ensures { Puts S.Store (length notices.now) Any (λ _. Brings Any (with_notices notices.now)) tx.old result tx.new }
 {
     for notice in notices {
         put_notice(tx, *notice)?;
@@ -379,16 +263,7 @@ pub fn edit_session<S: Alter>(
     edit: Option<SessionEdit>,
 ) -> Result<(), Error>
     requires { IsStorable edit }
-    ensures same_reference { tx.new.conn.ghost_name ≡ tx.old.conn.ghost_name }
-    ensures goes { HasCleanDisk (state S.Store tx.new.conn.now) → IsTrue tx.old.conn.now.in_transaction
-        → OnOk result (Goes (state S.Store tx.old.conn.now) (state S.Store tx.new.conn.now) (Brings (λ p. HasFreePlace edit p.sessions) (with_edit edit))) }
-    ensures kept { HasCleanDisk (state S.Store tx.new.conn.now) → IsTrue tx.old.conn.now.in_transaction
-        → KeepsCommit (state S.Store tx.old.conn.now) (state S.Store tx.new.conn.now) }
-    ensures uses { HasCleanDisk (state S.Store tx.new.conn.now) → IsTrue tx.old.conn.now.in_transaction
-        → OnOk result (Uses 1 Any (state S.Store tx.old.conn.now).now (state S.Store tx.new.conn.now).now) }
-    ensures refused { HasCleanDisk (state S.Store tx.new.conn.now) → IsTrue tx.old.conn.now.in_transaction
-        → (e : SqlError) → result ≡ Err e → IsStopped 1 (λ p. HasFreePlace edit p.sessions) (state S.Store tx.old.conn.now) (state S.Store tx.new.conn.now) e }
-    ensures survives { Survives (state S.Store tx.old.conn.now) (state S.Store tx.new.conn.now) (λ _. ⊥) }
+    ensures { Puts S.Store 1 (λ p. HasFreePlace edit p.sessions) (λ _. Brings (λ p. HasFreePlace edit p.sessions) (with_edit edit)) tx.old result tx.new }
 {
     match edit {
         Some(SessionEdit::Put(session)) => put_session(tx, session),

@@ -1,5 +1,8 @@
+pub mod FoundLemmas
+pub mod KeepChangeLemmas
 pub mod KeepLemmas
 pub mod LookLemmas
+pub mod LookingLemmas
 pub mod MakeLemmas
 pub mod MarkingLemmas
 pub mod OwnLemmas

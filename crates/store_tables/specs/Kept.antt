@@ -1,5 +1,5 @@
 -- What a store over a connection keeps.
-use Rattle.std.specs.Prelude.{◌≡◌, Bool, Option, None, Some}
+use Rattle.std.specs.Prelude.{◌≡◌, ◌≢◌, Bool, false, Result, Err, IsTrue}
 use Rattle.sqlite_trees.specs.declared.store.Store.{Ghosts}
 use Rattle.sqlite.specs.Effect.{Database}
 use Rattle.sqlite.specs.State.{HasCleanDisk, Survives}
@@ -9,8 +9,9 @@ use Rattle.store_schema.specs.Tables.{no_schema}
 use Rattle.store_rows.specs.Rows.{Stored}
 use Rattle.store_rows.specs.Holding.{Keeps, KeepsBeside, KeepsEither, KeepsNothing, KeepsNothingOr, Leaves}
 use Rattle.store_tables.specs.Marking.{HasOutdatedMark, TellsOutdated}
-use Rattle.store_tables.specs.Reads.{KeepsAny}
 use Rattle.store_rows.specs.Refusals.{HasRefused}
+use Rattle.store_tables.specs.declared.error.TableError.{TableError}
+use Rattle.store_tables.specs.declared.error.TableError.TheVariants.{StoreFault}
 use Rattle.store_tables.specs.declared.tables.Tables.{Tables}
 
 module _ {S : Type 0} {g : Ghosts S} where
@@ -46,10 +47,6 @@ module _ {S : Type 0} {g : Ghosts S} where
   abbrev pub KeepsBlankOr : Tables S g → Stored → Type 0
   KeepsBlankOr t it = KeepsNothingOr g t.conn it
 
-  -- whatever a crash at this moment leaves is a database without tables, or a store whose content is such
-  abbrev pub KeepsSome : Tables S g → (Stored → Type 0) → Type 0
-  KeepsSome t Fits = KeepsAny g t.conn Fits
-
   -- whatever a crash at this moment leaves has these other tables, indexes and views, and the rows of the tables
   abbrev pub KeepsOthers : Tables S g → Database → Type 0
   KeepsOthers t others = KeepsBeside g t.conn others
@@ -66,13 +63,13 @@ module _ {S : Type 0} {g : Ghosts S} where
   abbrev pub IsHonest : Tables S g → Type 0
   IsHonest t = HasCleanDisk (state g t.conn)
 
-  -- a content is what is kept, and a look has found it
-  abbrev pub Settles : Tables S g → Option Stored → Stored → Type 0
-  Settles t found it = KeepsStore t it × (IsHonest t → found ≡ Some it)
-
-  -- no table is what is kept, and a look has found none
-  abbrev pub SettlesBlank : Tables S g → Option Stored → Type 0
-  SettlesBlank t found = KeepsBlank t × (IsHonest t → found ≡ None)
+  -- How a call ends: a fault is answered where the store has failed by now, and only there; a store that had failed before
+  -- stays as it is; and a device that has given back what was written so far had done so before the call.
+  pub record StopsAtFault {A : Type 0} (old : Tables S g) (result : Result A TableError) (new : Tables S g) : Type 0 where
+    pub honest : IsHonest new → IsHonest old
+    pub fault : result ≡ Err StoreFault → IsTrue (has_failed new)
+    pub sound : result ≢ Err StoreFault → has_failed new ≡ false
+    pub stopped : IsTrue (has_failed old) → (result ≡ Err StoreFault) × (new ≡ old)
 
   -- whatever a crash at this moment leaves has the mark of a store that is older than what others have seen of its site
   abbrev pub KeepsOutdated : Tables S g → Type 0

@@ -1,4 +1,6 @@
+pub mod Keeping
 pub mod Kept
+pub mod Looking
 pub mod Marking
 pub mod Reads
 pub mod Rounds

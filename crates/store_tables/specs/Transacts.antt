@@ -1,19 +1,24 @@
 -- What one transaction does to a store, and what a store over a connection keeps.
-use Rattle.std.specs.Prelude.{◌≡◌, ℕ, List, [], IsTrue}
+use Rattle.std.specs.Prelude.{◌≡◌, ◌≢◌, ℕ, List, [], Option, None, Result, Err, IsTrue, OnOk, false}
+use Rattle.sqlite_trees.specs.declared.store.Store.{Ghosts}
 use Rattle.sqlite_trees.specs.Tree.{Trees}
 use Rattle.sqlite.specs.Effect.{Database}
-use Rattle.sqlite.specs.State.{State}
+use Rattle.sqlite.specs.State.{State, HasCleanDisk, Survives}
+use Rattle.sqlite.specs.Held.{Held, state}
+use Rattle.sqlite.specs.declared.error.Error.{Error}
+use Rattle.sqlite.specs.declared.transaction.Transaction.{Transaction}
 use Rattle.store_schema.specs.declared.Version.{Version}
 use Rattle.store_schema.specs.declared.Version.TheVariants.{Second}
 use Rattle.store_schema.specs.Tables.{no_schema}
 use Rattle.store_rows.specs.declared.content.SessionEdit.{SessionEdit}
-use Rattle.std.specs.Prelude.{Option, None}
 use Rattle.store_rows.specs.declared.content.StoredCell.{StoredCell}
 use Rattle.store_rows.specs.declared.content.StoredNotice.{StoredNotice}
 use Rattle.store_rows.specs.Changes.{changed}
 use Rattle.store_rows.specs.Rows.{Stored}
 use Rattle.store_rows.specs.Holding.{Parts, HoldsParts, IsStoreOf}
-use Rattle.store_rows.specs.Steps.{HasFreePlace, SparesBeside}
+use Rattle.store_rows.specs.Steps.{HasFreePlace, Runs, SparesBeside}
+use Rattle.store_tables.specs.declared.error.TableError.{TableError}
+use Rattle.store_tables.specs.declared.error.TableError.TheVariants.{BadStore, Memory}
 
 -- what a transaction did is committed
 pub record HasCommitted (old new : State) (Effect : Database → Database → Type 0) : Type 0 where
@@ -65,3 +70,18 @@ BecomesEmpty a b = a.schema ≡ no_schema → HoldsParts no_parts b
 -- a store of a version becomes one of the second
 abbrev pub Upgrades : Version → Database → Database → Type 0
 Upgrades version = Turns (λ it. it.version ≡ version) (λ it. record it { version = Second })
+
+module _ {S : Type 0} (g : Ghosts S) where
+  -- a call inside a transaction that ends well only where the connection is open
+  pub record RunsOpen (Effect : Database → Database → Type 0) (old : Transaction S) (result : Result (Unit {0}) Error) (new : Transaction S) : Type 0 where
+    pub runs : Runs g (λ _. Effect) old result new
+    pub opened : HasCleanDisk (state g new.conn.now) → OnOk result (IsTrue (state g old.conn.now).is_open)
+
+  -- One transaction over a connection: after `Ok` its change is committed, and after `Memory` nothing is. Whatever it answers,
+  -- a crash leaves what it left before, or what the change makes of that.
+  pub record Transacts (Effect : Database → Database → Type 0) (old : Held S) (result : Result (Unit {0}) TableError) (new : Held S) : Type 0 where
+    pub idle : new.in_transaction ≡ false
+    pub done : HasCleanDisk (state g new) → OnOk result (HasCommitted (state g old) (state g new) Effect)
+    pub kind : result ≢ Err BadStore
+    pub undone : result ≡ Err Memory → Survives (state g old) (state g new) (λ _. ⊥)
+    pub survives : Survives (state g old) (state g new) (MayCommit (state g old) Effect)

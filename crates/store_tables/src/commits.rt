@@ -6,9 +6,9 @@ ghost use Rattle.sqlite.specs.declared.error.Error.{Error as SqlError};
 ghost use Rattle.sqlite.specs.declared.error.Error.TheVariants.{MultipleStatement, SqliteFailure};
 ghost use Rattle.sqlite.specs.declared.error.ErrorCode.TheVariants.{OutOfMemory};
 ghost use Rattle.store_rows.specs.Changes.{changed};
-ghost use Rattle.store_rows.specs.Steps.{Goes, Brings, HasFreePlace, IsStorable, with_cells, with_notices, with_edit};
+ghost use Rattle.store_rows.specs.Steps.{Brings, HasFreePlace, IsStorable, with_cells, with_notices, with_edit};
 ghost use Rattle.store_tables.specs.declared.error.TableError.TheVariants.{BadStore, Memory, StoreFault};
-ghost use Rattle.store_tables.specs.Transacts.{HasCommitted, MayCommit, Turns, Takes};
+ghost use Rattle.store_tables.specs.Transacts.{Turns, Takes, RunsOpen, Transacts};
 ghost use Rattle.store_rows.specs.Refusals.{HasRefused, HasLackedMemory};
 
 use crate::error::{TableError, is_memory};
@@ -97,14 +97,7 @@ fn change<S: Alter>(
     requires cells { All (λ c. c.n < 2 ^ 63) cells.now }
     requires notices { All (λ n. (n.announced < 2 ^ 63) × (n.finished < 2 ^ 63)) notices.now }
     requires edit { IsStorable edit }
-    ensures same_reference { tx.new.conn.ghost_name ≡ tx.old.conn.ghost_name }
-    ensures goes { HasCleanDisk (state S.Store tx.new.conn.now) → IsTrue tx.old.conn.now.in_transaction
-        → OnOk result (Goes (state S.Store tx.old.conn.now) (state S.Store tx.new.conn.now)
-        (Brings (λ p. HasFreePlace edit p.sessions) (λ p. with_edit edit (with_notices notices.now (with_cells cells.now p))))) }
-    ensures kept { HasCleanDisk (state S.Store tx.new.conn.now) → IsTrue tx.old.conn.now.in_transaction
-        → KeepsCommit (state S.Store tx.old.conn.now) (state S.Store tx.new.conn.now) }
-    ensures opened { HasCleanDisk (state S.Store tx.new.conn.now) → OnOk result (IsTrue (state S.Store tx.old.conn.now).is_open) }
-    ensures survives { Survives (state S.Store tx.old.conn.now) (state S.Store tx.new.conn.now) (λ _. ⊥) }
+    ensures { RunsOpen S.Store (Brings (λ p. HasFreePlace edit p.sessions) (λ p. with_edit edit (with_notices notices.now (with_cells cells.now p)))) tx.old result tx.new }
 {
     check_open(tx)?;
     put_cells(tx, cells)?;
@@ -124,13 +117,7 @@ pub(crate) fn write<S: Alter>(
     requires cells { All (λ c. c.n < 2 ^ 63) cells.now }
     requires notices { All (λ n. (n.announced < 2 ^ 63) × (n.finished < 2 ^ 63)) notices.now }
     requires edit { IsStorable edit }
-    ensures idle { conn.new.in_transaction ≡ false }
-    ensures done { HasCleanDisk (state S.Store conn.new)
-        → OnOk result (HasCommitted (state S.Store conn.old) (state S.Store conn.new) (Turns (Takes edit) (changed cells.now notices.now edit))) }
-    ensures kind { result ≢ Err BadStore }
-    ensures undone { result ≡ Err Memory → Survives (state S.Store conn.old) (state S.Store conn.new) (λ _. ⊥) }
-    ensures survives { Survives (state S.Store conn.old) (state S.Store conn.new)
-        (MayCommit (state S.Store conn.old) (Turns (Takes edit) (changed cells.now notices.now edit))) }
+    ensures { Transacts S.Store (Turns (Takes edit) (changed cells.now notices.now edit)) conn.old result conn.new }
 {
     let mut tx = conn.transaction();
     change(&mut tx, cells, notices, edit)?;

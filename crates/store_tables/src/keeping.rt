@@ -1,18 +1,15 @@
 //! What a connection keeps, over each transaction.
-ghost use Rattle.std.specs.Prelude.{◌≡◌, ◌≢◌, ◌⊎◌, ◌<◌, ◌^◌, ⊤, false, All, None, Some, Ok, Err, IsTrue, IfOk, OnOk};
-ghost use Rattle.sqlite.specs.State.{HasCleanDisk, Survives};
+ghost use Rattle.std.specs.Prelude.{◌≡◌, ◌<◌, ◌^◌, false, All, None, Some, Ok, Err};
 ghost use Rattle.sqlite.specs.Held.{state};
-ghost use Rattle.store_schema.specs.Tables.{no_schema, IsSchemaOf};
 ghost use Rattle.store_schema.specs.Found.{found_in};
 ghost use Rattle.store_schema.specs.declared.Found.TheVariants.{Blank, Store, Other};
 ghost use Rattle.store_rows.specs.Changes.{changed, renewed};
-ghost use Rattle.store_rows.specs.Holding.{Keeps, KeepsBeside, KeepsEither, KeepsNothing, KeepsNothingOr, IsStoreOf};
 ghost use Rattle.store_rows.specs.Steps.{IsStorable};
 ghost use Rattle.store_tables.specs.Transacts.{Takes, made};
-ghost use Rattle.store_tables.specs.Reads.{IsInRange, KeepsAny};
-ghost use Rattle.store_rows.specs.Refusals.{HasRefused};
-ghost use Rattle.store_tables.specs.declared.error.TableError.TheVariants.{BadStore, Memory};
+ghost use Rattle.store_tables.specs.Looking.{IsRefusedLook, Looks};
+ghost use Rattle.store_tables.specs.Reads.{ReadsFound};
 ghost use Rattle.store_tables.specs.declared.reads.Unread.TheVariants.{Bad, Failed};
+ghost use Rattle.store_tables.specs.Keeping.{ChangesStore, MakesStore};
 
 use crate::commits::{check_open, write};
 use crate::error::TableError;
@@ -34,13 +31,7 @@ pub(crate) fn write_kept<S: Alter>(
     requires cells { All (λ c. c.n < 2 ^ 63) cells.now }
     requires notices { All (λ n. (n.announced < 2 ^ 63) × (n.finished < 2 ^ 63)) notices.now }
     requires edit { IsStorable edit }
-    ensures idle { conn.new.in_transaction ≡ false }
-    ensures honest { HasCleanDisk (state S.Store conn.new) → HasCleanDisk (state S.Store conn.old) }
-    ensures done { (it : _) → Takes edit it → Keeps S.Store conn.old it → OnOk result (Keeps S.Store conn.new (changed cells.now notices.now edit it)) }
-    ensures either { (it : _) → Takes edit it → Keeps S.Store conn.old it → KeepsEither S.Store conn.new it (changed cells.now notices.now edit it) }
-    ensures memory { (it : _) → Keeps S.Store conn.old it → result ≡ Err Memory → Keeps S.Store conn.new it }
-    ensures kind { result ≢ Err BadStore }
-    ensures beside { (it : _) → (others : _) → Takes edit it → Keeps S.Store conn.old it → KeepsBeside S.Store conn.old others → KeepsBeside S.Store conn.new others }
+    ensures { ChangesStore S.Store (Takes edit) (changed cells.now notices.now edit) conn.old result conn.new }
 {
     // what these two ensure of a connection, the transaction is proved with
     let _is_idle = conn.is_autocommit();
@@ -55,12 +46,7 @@ pub(crate) fn make_kept<S: Alter>(
     layout: &str,
 ) -> Result<(), TableError>
     requires { conn.old.in_transaction ≡ false }
-    ensures idle { conn.new.in_transaction ≡ false }
-    ensures honest { HasCleanDisk (state S.Store conn.new) → HasCleanDisk (state S.Store conn.old) }
-    ensures done { KeepsNothing S.Store conn.old → OnOk result (Keeps S.Store conn.new (made site.now layout.now)) }
-    ensures either { KeepsNothing S.Store conn.old → KeepsNothingOr S.Store conn.new (made site.now layout.now) }
-    ensures memory { KeepsNothing S.Store conn.old → result ≡ Err Memory → KeepsNothing S.Store conn.new }
-    ensures kind { result ≢ Err BadStore }
+    ensures { MakesStore S.Store (made site.now layout.now) conn.old result conn.new }
 {
     // what these two ensure of a connection, the transaction is proved with
     let _is_idle = conn.is_autocommit();
@@ -75,13 +61,7 @@ pub(crate) fn renew_kept<S: Alter>(
     layout: &str,
 ) -> Result<(), TableError>
     requires { conn.old.in_transaction ≡ false }
-    ensures idle { conn.new.in_transaction ≡ false }
-    ensures honest { HasCleanDisk (state S.Store conn.new) → HasCleanDisk (state S.Store conn.old) }
-    ensures done { (it : _) → it.version ≡ version → Keeps S.Store conn.old it → OnOk result (Keeps S.Store conn.new (renewed layout.now it)) }
-    ensures either { (it : _) → it.version ≡ version → Keeps S.Store conn.old it → KeepsEither S.Store conn.new it (renewed layout.now it) }
-    ensures memory { (it : _) → Keeps S.Store conn.old it → result ≡ Err Memory → Keeps S.Store conn.new it }
-    ensures kind { result ≢ Err BadStore }
-    ensures beside { (it : _) → (others : _) → it.version ≡ version → Keeps S.Store conn.old it → KeepsBeside S.Store conn.old others → KeepsBeside S.Store conn.new others }
+    ensures { ChangesStore S.Store (λ it. it.version ≡ version) (renewed layout.now) conn.old result conn.new }
 {
     // what these two ensure of a connection, the transaction is proved with
     let _is_idle = conn.is_autocommit();
@@ -96,16 +76,7 @@ fn read_found<S: Alter>(
     found: Found,
 ) -> Result<Option<Content>, Unread>
     ensures same_reference { tx.new.conn.ghost_name ≡ tx.old.conn.ghost_name }
-    ensures opened { HasCleanDisk (state S.Store tx.new.conn.now) → OnOk result (IsTrue (state S.Store tx.old.conn.now).is_open) }
-    ensures judged { HasCleanDisk (state S.Store tx.new.conn.now) → result ≡ Err Bad → IsTrue (state S.Store tx.old.conn.now).is_open }
-    ensures read { HasCleanDisk (state S.Store tx.new.conn.now) → (it : _) → found ≡ Store it.version → IsStoreOf (state S.Store tx.old.conn.now).now it
-        → IfOk result (λ content. content ≡ Some it) }
-    ensures own { HasCleanDisk (state S.Store tx.new.conn.now) → (it : _) → found ≡ Store it.version → IsStoreOf (state S.Store tx.old.conn.now).now it → IsInRange it → result ≢ Err Bad }
-    ensures blank { found ≡ Blank → IfOk result (λ content. content ≡ None) × (result ≢ Err Bad) }
-    ensures cause { result ≡ Ok None → found ≡ Blank }
-    ensures refused { HasCleanDisk (state S.Store tx.new.conn.now) → ((v : Version) → found ≡ Store v → IsSchemaOf v (state S.Store tx.old.conn.now).now.schema)
-        → result ≡ Err Failed → HasRefused (state S.Store tx.old.conn.now) (state S.Store tx.new.conn.now) }
-    ensures survives { Survives (state S.Store tx.old.conn.now) (state S.Store tx.new.conn.now) (λ _. ⊥) }
+    ensures reads { ReadsFound found (state S.Store tx.old.conn.now) result (state S.Store tx.new.conn.now) }
 {
     check_open(tx)?;
     match found {
@@ -126,16 +97,7 @@ fn read_whole<S: Alter>(
 ) -> Result<Option<Content>, Unread>
     requires { conn.old.in_transaction ≡ false }
     ensures idle { conn.new.in_transaction ≡ false }
-    ensures opened { HasCleanDisk (state S.Store conn.new) → OnOk result (IsTrue (state S.Store conn.old).is_open) }
-    ensures judged { HasCleanDisk (state S.Store conn.new) → result ≡ Err Bad → IsTrue (state S.Store conn.old).is_open }
-    ensures read { HasCleanDisk (state S.Store conn.new) → (it : _) → found ≡ Store it.version → IsStoreOf (state S.Store conn.old).now it
-        → IfOk result (λ content. content ≡ Some it) }
-    ensures own { HasCleanDisk (state S.Store conn.new) → (it : _) → found ≡ Store it.version → IsStoreOf (state S.Store conn.old).now it → IsInRange it → result ≢ Err Bad }
-    ensures blank { found ≡ Blank → IfOk result (λ content. content ≡ None) × (result ≢ Err Bad) }
-    ensures cause { result ≡ Ok None → found ≡ Blank }
-    ensures refused { HasCleanDisk (state S.Store conn.new) → ((v : Version) → found ≡ Store v → IsSchemaOf v (state S.Store conn.old).now.schema)
-        → result ≡ Err Failed → HasRefused (state S.Store conn.old) (state S.Store conn.new) }
-    ensures survives { Survives (state S.Store conn.old) (state S.Store conn.new) (λ _. ⊥) }
+    ensures reads { ReadsFound found (state S.Store conn.old) result (state S.Store conn.new) }
 {
     let mut tx = conn.transaction();
     let content = read_found(alloc, &mut tx, found)?;
@@ -149,24 +111,8 @@ pub(crate) fn look_kept<S: Alter>(
 ) -> Result<Option<Content>, Unread>
     requires { conn.old.in_transaction ≡ false }
     ensures idle { conn.new.in_transaction ≡ false }
-    ensures read { HasCleanDisk (state S.Store conn.new) → (it : _) → Keeps S.Store conn.old it → IfOk result (λ found. found ≡ Some it) }
-    ensures own { HasCleanDisk (state S.Store conn.new) → (it : _) → IsInRange it → Keeps S.Store conn.old it → result ≢ Err Bad }
-    ensures blank { HasCleanDisk (state S.Store conn.new) → KeepsNothing S.Store conn.old → IfOk result (λ found. found ≡ None) × (result ≢ Err Bad) }
-    ensures settles { (a : _) → (b : _) → KeepsEither S.Store conn.old a b
-        → IfOk result (λ found. ∥ (Keeps S.Store conn.new a × (HasCleanDisk (state S.Store conn.new) → found ≡ Some a))
-        ⊎ (Keeps S.Store conn.new b × (HasCleanDisk (state S.Store conn.new) → found ≡ Some b)) ∥₁) }
-    ensures settles_or { (it : _) → KeepsNothingOr S.Store conn.old it
-        → IfOk result (λ found. ∥ (KeepsNothing S.Store conn.new × (HasCleanDisk (state S.Store conn.new) → found ≡ None))
-        ⊎ (Keeps S.Store conn.new it × (HasCleanDisk (state S.Store conn.new) → found ≡ Some it)) ∥₁) }
-    ensures cause { result ≡ Ok None → found_in (state S.Store conn.old).now.schema ≡ Blank }
-    ensures fresh { (state S.Store conn.old).now.schema ≡ no_schema → OnOk result (KeepsNothing S.Store conn.new) }
-    ensures sound { HasCleanDisk (state S.Store conn.new) → KeepsAny S.Store conn.old IsInRange → result ≢ Err Bad }
-    ensures refused { HasCleanDisk (state S.Store conn.new) → KeepsAny S.Store conn.old (λ _. ⊤) → result ≡ Err Failed → HasRefused (state S.Store conn.old) (state S.Store conn.new) }
-    ensures other { HasCleanDisk (state S.Store conn.new) → found_in (state S.Store conn.old).now.schema ≡ Other → result ≡ Err Failed
-        → HasRefused (state S.Store conn.old) (state S.Store conn.new) }
-    ensures tables { HasCleanDisk (state S.Store conn.new) → (v : Version) → found_in (state S.Store conn.old).now.schema ≡ Store v
-        → IsSchemaOf v (state S.Store conn.old).now.schema → result ≡ Err Failed → HasRefused (state S.Store conn.old) (state S.Store conn.new) }
-    ensures survives { Survives (state S.Store conn.old) (state S.Store conn.new) (λ _. ⊥) }
+    ensures looks { Looks S.Store Bad conn.old result conn.new }
+    ensures refused { IsRefusedLook S.Store Failed conn.old result conn.new }
 {
     // what it ensures of a connection, the transaction is read with
     let _is_idle = conn.is_autocommit();

@@ -1,14 +1,11 @@
 //! The tables are made, and a store of the first version becomes one of the second.
-ghost use Rattle.std.specs.Prelude.{◌≡◌, ◌≢◌, false, Err, IsTrue, OnOk, codes};
-ghost use Rattle.sqlite.specs.State.{HasCleanDisk, KeepsCommit, Survives};
-ghost use Rattle.sqlite.specs.Held.{state};
+ghost use Rattle.std.specs.Prelude.{◌≡◌, false, codes};
 ghost use Rattle.store_schema.specs.declared.Version.TheVariants.{Second};
 ghost use Rattle.store_rows.specs.Rows.{version_text};
 ghost use Rattle.store_rows.specs.Changes.{renewed};
 ghost use Rattle.store_rows.specs.Holding.{mark};
-ghost use Rattle.store_rows.specs.Steps.{Goes, Brings, Any, with_mark};
-ghost use Rattle.store_tables.specs.declared.error.TableError.TheVariants.{BadStore, Memory};
-ghost use Rattle.store_tables.specs.Transacts.{HasCommitted, MayCommit, Turns, Upgrades, BecomesEmpty, BecomesStore};
+ghost use Rattle.store_rows.specs.Steps.{Brings, Any, with_mark, Runs};
+ghost use Rattle.store_tables.specs.Transacts.{Turns, Upgrades, BecomesEmpty, BecomesStore, RunsOpen, Transacts};
 
 use crate::commits::{check_open, refusal_of};
 use crate::error::TableError;
@@ -28,12 +25,7 @@ pub(crate) fn version_text(version: Version) -> &'static str
 
 /// The tables, always in one order, so that every store of a version has one schema.
 fn create_tables<S: Alter>(tx: &mut Transaction<'_, S>) -> Result<(), Error>
-    ensures same_reference { tx.new.conn.ghost_name ≡ tx.old.conn.ghost_name }
-    ensures goes { HasCleanDisk (state S.Store tx.new.conn.now) → IsTrue tx.old.conn.now.in_transaction
-        → OnOk result (Goes (state S.Store tx.old.conn.now) (state S.Store tx.new.conn.now) (BecomesEmpty)) }
-    ensures kept { HasCleanDisk (state S.Store tx.new.conn.now) → IsTrue tx.old.conn.now.in_transaction
-        → KeepsCommit (state S.Store tx.old.conn.now) (state S.Store tx.new.conn.now) }
-    ensures survives { Survives (state S.Store tx.old.conn.now) (state S.Store tx.new.conn.now) (λ _. ⊥) }
+    ensures { Runs S.Store (λ _. BecomesEmpty) tx.old result tx.new }
 {
     create_meta(tx)?;
     create_cells(tx)?;
@@ -43,13 +35,7 @@ fn create_tables<S: Alter>(tx: &mut Transaction<'_, S>) -> Result<(), Error>
 
 /// The rows of `meta`.
 fn put_marks<S: Alter>(tx: &mut Transaction<'_, S>, site: &str, layout: &str) -> Result<(), Error>
-    ensures same_reference { tx.new.conn.ghost_name ≡ tx.old.conn.ghost_name }
-    ensures goes { HasCleanDisk (state S.Store tx.new.conn.now) → IsTrue tx.old.conn.now.in_transaction
-        → OnOk result (Goes (state S.Store tx.old.conn.now) (state S.Store tx.new.conn.now) (Brings Any
-        (λ p. with_mark (mark (codes "layout") layout.now) (with_mark (mark (codes "site") site.now) (with_mark (mark (codes "version") (version_text Second)) p))))) }
-    ensures kept { HasCleanDisk (state S.Store tx.new.conn.now) → IsTrue tx.old.conn.now.in_transaction
-        → KeepsCommit (state S.Store tx.old.conn.now) (state S.Store tx.new.conn.now) }
-    ensures survives { Survives (state S.Store tx.old.conn.now) (state S.Store tx.new.conn.now) (λ _. ⊥) }
+    ensures { Runs S.Store (λ _. Brings Any (λ p. with_mark (mark (codes "layout") layout.now) (with_mark (mark (codes "site") site.now) (with_mark (mark (codes "version") (version_text Second)) p)))) tx.old result tx.new }
 {
     put_mark(tx, "version", version_text(Version::Second))?;
     put_mark(tx, "site", site)?;
@@ -62,13 +48,7 @@ pub(crate) fn make_all<S: Alter>(
     site: &str,
     layout: &str,
 ) -> Result<(), Error>
-    ensures same_reference { tx.new.conn.ghost_name ≡ tx.old.conn.ghost_name }
-    ensures goes { HasCleanDisk (state S.Store tx.new.conn.now) → IsTrue tx.old.conn.now.in_transaction
-        → OnOk result (Goes (state S.Store tx.old.conn.now) (state S.Store tx.new.conn.now) (BecomesStore site.now layout.now)) }
-    ensures kept { HasCleanDisk (state S.Store tx.new.conn.now) → IsTrue tx.old.conn.now.in_transaction
-        → KeepsCommit (state S.Store tx.old.conn.now) (state S.Store tx.new.conn.now) }
-    ensures opened { HasCleanDisk (state S.Store tx.new.conn.now) → OnOk result (IsTrue (state S.Store tx.old.conn.now).is_open) }
-    ensures survives { Survives (state S.Store tx.old.conn.now) (state S.Store tx.new.conn.now) (λ _. ⊥) }
+    ensures { RunsOpen S.Store (BecomesStore site.now layout.now) tx.old result tx.new }
 {
     check_open(tx)?;
     create_tables(tx)?;
@@ -82,12 +62,7 @@ pub(crate) fn make<S: Alter>(
     layout: &str,
 ) -> Result<(), TableError>
     requires { conn.old.in_transaction ≡ false }
-    ensures idle { conn.new.in_transaction ≡ false }
-    ensures done { HasCleanDisk (state S.Store conn.new)
-        → OnOk result (HasCommitted (state S.Store conn.old) (state S.Store conn.new) (BecomesStore site.now layout.now)) }
-    ensures kind { result ≢ Err BadStore }
-    ensures undone { result ≡ Err Memory → Survives (state S.Store conn.old) (state S.Store conn.new) (λ _. ⊥) }
-    ensures survives { Survives (state S.Store conn.old) (state S.Store conn.new) (MayCommit (state S.Store conn.old) (BecomesStore site.now layout.now)) }
+    ensures { Transacts S.Store (BecomesStore site.now layout.now) conn.old result conn.new }
 {
     let mut tx = conn.transaction();
     make_all(&mut tx, site, layout)?;
@@ -99,12 +74,7 @@ pub(crate) fn make<S: Alter>(
 
 /// Makes the table of notices and sets the version, where the store is of the first version.
 fn upgrade<S: Alter>(tx: &mut Transaction<'_, S>, version: Version) -> Result<(), Error>
-    ensures same_reference { tx.new.conn.ghost_name ≡ tx.old.conn.ghost_name }
-    ensures goes { HasCleanDisk (state S.Store tx.new.conn.now) → IsTrue tx.old.conn.now.in_transaction
-        → OnOk result (Goes (state S.Store tx.old.conn.now) (state S.Store tx.new.conn.now) (Upgrades version)) }
-    ensures kept { HasCleanDisk (state S.Store tx.new.conn.now) → IsTrue tx.old.conn.now.in_transaction
-        → KeepsCommit (state S.Store tx.old.conn.now) (state S.Store tx.new.conn.now) }
-    ensures survives { Survives (state S.Store tx.old.conn.now) (state S.Store tx.new.conn.now) (λ _. ⊥) }
+    ensures { Runs S.Store (λ _. Upgrades version) tx.old result tx.new }
 {
     match version {
         Version::First => {
@@ -121,13 +91,7 @@ fn renew_all<S: Alter>(
     version: Version,
     layout: &str,
 ) -> Result<(), Error>
-    ensures same_reference { tx.new.conn.ghost_name ≡ tx.old.conn.ghost_name }
-    ensures goes { HasCleanDisk (state S.Store tx.new.conn.now) → IsTrue tx.old.conn.now.in_transaction
-        → OnOk result (Goes (state S.Store tx.old.conn.now) (state S.Store tx.new.conn.now) (Turns (λ it. it.version ≡ version) (renewed layout.now))) }
-    ensures kept { HasCleanDisk (state S.Store tx.new.conn.now) → IsTrue tx.old.conn.now.in_transaction
-        → KeepsCommit (state S.Store tx.old.conn.now) (state S.Store tx.new.conn.now) }
-    ensures opened { HasCleanDisk (state S.Store tx.new.conn.now) → OnOk result (IsTrue (state S.Store tx.old.conn.now).is_open) }
-    ensures survives { Survives (state S.Store tx.old.conn.now) (state S.Store tx.new.conn.now) (λ _. ⊥) }
+    ensures { RunsOpen S.Store (Turns (λ it. it.version ≡ version) (renewed layout.now)) tx.old result tx.new }
 {
     check_open(tx)?;
     upgrade(tx, version)?;
@@ -141,12 +105,7 @@ pub(crate) fn renew<S: Alter>(
     layout: &str,
 ) -> Result<(), TableError>
     requires { conn.old.in_transaction ≡ false }
-    ensures idle { conn.new.in_transaction ≡ false }
-    ensures done { HasCleanDisk (state S.Store conn.new)
-        → OnOk result (HasCommitted (state S.Store conn.old) (state S.Store conn.new) (Turns (λ it. it.version ≡ version) (renewed layout.now))) }
-    ensures kind { result ≢ Err BadStore }
-    ensures undone { result ≡ Err Memory → Survives (state S.Store conn.old) (state S.Store conn.new) (λ _. ⊥) }
-    ensures survives { Survives (state S.Store conn.old) (state S.Store conn.new) (MayCommit (state S.Store conn.old) (Turns (λ it. it.version ≡ version) (renewed layout.now))) }
+    ensures { Transacts S.Store (Turns (λ it. it.version ≡ version) (renewed layout.now)) conn.old result conn.new }
 {
     let mut tx = conn.transaction();
     renew_all(&mut tx, version, layout)?;

@@ -3,18 +3,15 @@ ghost use Rattle.std.specs.Prelude.{◌≡◌, ◌≢◌, true, false, Err, IsTr
 ghost use Rattle.sqlite_rules.specs.Lists.{Has};
 ghost use Rattle.sqlite_value.specs.declared.value.Value.TheVariants.{Text};
 ghost use Rattle.sqlite_value.specs.Order.{Row as SqlRow, column};
-ghost use Rattle.sqlite.specs.State.{HasCleanDisk, KeepsCommit, Survives};
+ghost use Rattle.sqlite.specs.State.{HasCleanDisk, Survives};
 ghost use Rattle.sqlite.specs.Held.{state};
-ghost use Rattle.store_schema.specs.Tables.{IsSchemaOf};
-ghost use Rattle.store_schema.specs.declared.Version.{Version};
 ghost use Rattle.store_schema.specs.declared.Version.TheVariants.{Second};
 ghost use Rattle.store_rows.specs.Holding.{Keeps, KeepsBeside, KeepsEither, Leaves};
-ghost use Rattle.store_rows.specs.Steps.{Goes};
 ghost use Rattle.store_tables.specs.declared.error.TableError.TheVariants.{BadStore, Memory};
 ghost use Rattle.store_tables.specs.declared.reads.Unread.TheVariants.{Bad, Failed};
-ghost use Rattle.store_tables.specs.Marking.{HasOutdatedMark, MarksOutdated, TellsOutdated};
+ghost use Rattle.store_tables.specs.Marking.{HasOutdatedMark, MarksOutdated, ReadsOutdated, TellsOutdated};
 ghost use Rattle.store_rows.specs.Refusals.{HasRefused};
-ghost use Rattle.store_tables.specs.Transacts.{HasCommitted, MayCommit};
+ghost use Rattle.store_tables.specs.Transacts.{RunsOpen, Transacts};
 
 use crate::commits::{check_open, refusal_of};
 use crate::error::TableError;
@@ -24,13 +21,7 @@ use store_rows::writes::put_mark;
 
 /// Sets the mark.
 fn put_outdated<S: Alter>(tx: &mut Transaction<'_, S>) -> Result<(), Error>
-    ensures same_reference { tx.new.conn.ghost_name ≡ tx.old.conn.ghost_name }
-    ensures goes { HasCleanDisk (state S.Store tx.new.conn.now) → IsTrue tx.old.conn.now.in_transaction
-        → OnOk result (Goes (state S.Store tx.old.conn.now) (state S.Store tx.new.conn.now) MarksOutdated) }
-    ensures kept { HasCleanDisk (state S.Store tx.new.conn.now) → IsTrue tx.old.conn.now.in_transaction
-        → KeepsCommit (state S.Store tx.old.conn.now) (state S.Store tx.new.conn.now) }
-    ensures opened { HasCleanDisk (state S.Store tx.new.conn.now) → OnOk result (IsTrue (state S.Store tx.old.conn.now).is_open) }
-    ensures survives { Survives (state S.Store tx.old.conn.now) (state S.Store tx.new.conn.now) (λ _. ⊥) }
+    ensures { RunsOpen S.Store MarksOutdated tx.old result tx.new }
 {
     check_open(tx)?;
     put_mark(tx, "outdated", "1")
@@ -39,11 +30,7 @@ fn put_outdated<S: Alter>(tx: &mut Transaction<'_, S>) -> Result<(), Error>
 /// Sets the mark, in one transaction.
 fn mark<S: Alter>(conn: &mut Connection<S>) -> Result<(), TableError>
     requires { conn.old.in_transaction ≡ false }
-    ensures idle { conn.new.in_transaction ≡ false }
-    ensures done { HasCleanDisk (state S.Store conn.new) → OnOk result (HasCommitted (state S.Store conn.old) (state S.Store conn.new) MarksOutdated) }
-    ensures kind { result ≢ Err BadStore }
-    ensures undone { result ≡ Err Memory → Survives (state S.Store conn.old) (state S.Store conn.new) (λ _. ⊥) }
-    ensures survives { Survives (state S.Store conn.old) (state S.Store conn.new) (MayCommit (state S.Store conn.old) MarksOutdated) }
+    ensures { Transacts S.Store MarksOutdated conn.old result conn.new }
 {
     let mut tx = conn.transaction();
     put_outdated(&mut tx)?;
@@ -87,13 +74,7 @@ fn has_name(rows: &[Row], name: &[u8]) -> bool
 /// Whether a store has a row of the mark's name.
 fn read_outdated<S: Alter>(tx: &mut Transaction<'_, S>) -> Result<bool, Unread>
     ensures same_reference { tx.new.conn.ghost_name ≡ tx.old.conn.ghost_name }
-    ensures opened { HasCleanDisk (state S.Store tx.new.conn.now) → OnOk result (IsTrue (state S.Store tx.old.conn.now).is_open) }
-    ensures told { HasCleanDisk (state S.Store tx.new.conn.now) → (v : Version) → IsSchemaOf v (state S.Store tx.old.conn.now).now.schema
-        → IfOk result (λ found. TellsOutdated found (state S.Store tx.old.conn.now).now.trees) }
-    ensures kind { result ≢ Err Bad }
-    ensures refused { HasCleanDisk (state S.Store tx.new.conn.now) → (v : Version) → IsSchemaOf v (state S.Store tx.old.conn.now).now.schema
-        → result ≡ Err Failed → HasRefused (state S.Store tx.old.conn.now) (state S.Store tx.new.conn.now) }
-    ensures survives { Survives (state S.Store tx.old.conn.now) (state S.Store tx.new.conn.now) (λ _. ⊥) }
+    ensures reads { ReadsOutdated (state S.Store tx.old.conn.now) result (state S.Store tx.new.conn.now) }
 {
     check_open(tx)?;
     let rows = read_marks(tx)?;
@@ -104,13 +85,7 @@ fn read_outdated<S: Alter>(tx: &mut Transaction<'_, S>) -> Result<bool, Unread>
 fn ask_outdated<S: Alter>(conn: &mut Connection<S>) -> Result<bool, Unread>
     requires { conn.old.in_transaction ≡ false }
     ensures idle { conn.new.in_transaction ≡ false }
-    ensures opened { HasCleanDisk (state S.Store conn.new) → OnOk result (IsTrue (state S.Store conn.old).is_open) }
-    ensures told { HasCleanDisk (state S.Store conn.new) → (v : Version) → IsSchemaOf v (state S.Store conn.old).now.schema
-        → IfOk result (λ found. TellsOutdated found (state S.Store conn.old).now.trees) }
-    ensures kind { result ≢ Err Bad }
-    ensures refused { HasCleanDisk (state S.Store conn.new) → (v : Version) → IsSchemaOf v (state S.Store conn.old).now.schema
-        → result ≡ Err Failed → HasRefused (state S.Store conn.old) (state S.Store conn.new) }
-    ensures survives { Survives (state S.Store conn.old) (state S.Store conn.new) (λ _. ⊥) }
+    ensures reads { ReadsOutdated (state S.Store conn.old) result (state S.Store conn.new) }
 {
     let mut tx = conn.transaction();
     let found = read_outdated(&mut tx)?;

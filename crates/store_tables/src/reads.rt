@@ -1,5 +1,5 @@
 //! What a store holds, read table by table inside one transaction.
-ghost use Rattle.std.specs.Prelude.{◌≡◌, ◌≢◌, ◌↔◌, ◌<◌, ◌^◌, ℕ, List, Bool, [], map, Some, None, Err, pos, All, IsTrue, IfOk, IfSome, IsSome, IsSomeAnd, OnOk};
+ghost use Rattle.std.specs.Prelude.{◌≡◌, ◌≢◌, ◌↔◌, ◌<◌, ◌^◌, ℕ, List, Bool, [], map, Some, None, Err, pos, All, IsTrue, IfOk, IfSome, IsSome, OnOk};
 ghost use Rattle.sqlite_rules.specs.Lists.{Has};
 ghost use Rattle.sqlite_value.specs.declared.value.Value.TheVariants.{Int, Text};
 ghost use Rattle.sqlite_value.specs.Order.{Row as SqlRow, column};
@@ -13,7 +13,7 @@ ghost use Rattle.store_rows.specs.Holding.{HoldsParts, IsStoreOf, mark};
 ghost use Rattle.std.specs.List.{AllByRecursion};
 ghost use Rattle.store_tables.specs.Marking.{ShowsNames};
 ghost use Rattle.store_rows.specs.Refusals.{HasRefused};
-ghost use Rattle.store_tables.specs.Reads.{is_chain, TellsMark, IsCellInRange, IsSessionInRange, IsNoticeInRange, IsInRange};
+ghost use Rattle.store_tables.specs.Reads.{is_chain, TellsMark, IsCellInRange, IsSessionInRange, IsNoticeInRange, IsInRange, ReadsTable};
 ghost use Rattle.store_tables.specs.declared.reads.Unread.TheVariants.{Bad, Memory, Failed};
 
 use crate::error::is_memory;
@@ -224,15 +224,7 @@ fn read_cells<S: Alter>(
     alloc: Global,
     tx: &mut Transaction<'_, S>,
 ) -> Result<Vec<StoredCell>, Unread>
-    ensures same_reference { tx.new.conn.ghost_name ≡ tx.old.conn.ghost_name }
-    ensures read { HasCleanDisk (state S.Store tx.new.conn.now) → (p : _) → HoldsParts p (state S.Store tx.old.conn.now).now
-        → IfOk result (λ all. (all.items ≡ p.cells) × ((state S.Store tx.new.conn.now).now ≡ (state S.Store tx.old.conn.now).now)) }
-    ensures own { HasCleanDisk (state S.Store tx.new.conn.now) → (p : _) → HoldsParts p (state S.Store tx.old.conn.now).now → All IsCellInRange p.cells → result ≢ Err Bad }
-    ensures same { HasCleanDisk (state S.Store tx.new.conn.now) → (v : Version) → IsSchemaOf v (state S.Store tx.old.conn.now).now.schema
-        → OnOk result ((state S.Store tx.new.conn.now).now ≡ (state S.Store tx.old.conn.now).now) }
-    ensures refused { HasCleanDisk (state S.Store tx.new.conn.now) → (v : Version) → IsSchemaOf v (state S.Store tx.old.conn.now).now.schema
-        → result ≡ Err Failed → HasRefused (state S.Store tx.old.conn.now) (state S.Store tx.new.conn.now) }
-    ensures survives { Survives (state S.Store tx.old.conn.now) (state S.Store tx.new.conn.now) (λ _. ⊥) }
+    ensures { ReadsTable S.Store (λ p. p.cells) IsCellInRange tx.old result tx.new }
 {
     let rows = tx.query_all(
         "SELECT record, slot, n FROM cells ORDER BY record, slot",
@@ -246,15 +238,7 @@ fn read_sessions<S: Alter>(
     alloc: Global,
     tx: &mut Transaction<'_, S>,
 ) -> Result<Vec<StoredSession>, Unread>
-    ensures same_reference { tx.new.conn.ghost_name ≡ tx.old.conn.ghost_name }
-    ensures read { HasCleanDisk (state S.Store tx.new.conn.now) → (p : _) → HoldsParts p (state S.Store tx.old.conn.now).now
-        → IfOk result (λ all. (all.items ≡ p.sessions) × ((state S.Store tx.new.conn.now).now ≡ (state S.Store tx.old.conn.now).now)) }
-    ensures own { HasCleanDisk (state S.Store tx.new.conn.now) → (p : _) → HoldsParts p (state S.Store tx.old.conn.now).now → All IsSessionInRange p.sessions → result ≢ Err Bad }
-    ensures same { HasCleanDisk (state S.Store tx.new.conn.now) → (v : Version) → IsSchemaOf v (state S.Store tx.old.conn.now).now.schema
-        → OnOk result ((state S.Store tx.new.conn.now).now ≡ (state S.Store tx.old.conn.now).now) }
-    ensures refused { HasCleanDisk (state S.Store tx.new.conn.now) → (v : Version) → IsSchemaOf v (state S.Store tx.old.conn.now).now.schema
-        → result ≡ Err Failed → HasRefused (state S.Store tx.old.conn.now) (state S.Store tx.new.conn.now) }
-    ensures survives { Survives (state S.Store tx.old.conn.now) (state S.Store tx.new.conn.now) (λ _. ⊥) }
+    ensures { ReadsTable S.Store (λ p. p.sessions) IsSessionInRange tx.old result tx.new }
 {
     let rows = tx.query_all(
         "SELECT record, holder, phase, place FROM sessions ORDER BY place",

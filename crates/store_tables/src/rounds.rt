@@ -1,12 +1,9 @@
 //! The rows of several changes of a store, as one transaction (group commit).
-ghost use Rattle.std.specs.Prelude.{◌≡◌, ◌≢◌, ◌<◌, ◌^◌, false, All, Err, IsTrue, OnOk};
-ghost use Rattle.sqlite.specs.State.{HasCleanDisk, KeepsCommit, Survives};
-ghost use Rattle.sqlite.specs.Held.{state};
-ghost use Rattle.store_rows.specs.Holding.{Keeps, KeepsBeside, KeepsEither};
-ghost use Rattle.store_rows.specs.Steps.{Goes, Brings, with_cells, with_notices};
-ghost use Rattle.store_tables.specs.declared.error.TableError.TheVariants.{BadStore, Memory};
+ghost use Rattle.std.specs.Prelude.{◌≡◌, ◌<◌, ◌^◌, false, All};
+ghost use Rattle.store_rows.specs.Steps.{Brings, with_cells, with_notices, Runs};
 ghost use Rattle.store_tables.specs.Rounds.{AreStorable, HaveFreePlaces, TakesAll, changed_all, with_edits};
-ghost use Rattle.store_tables.specs.Transacts.{HasCommitted, MayCommit, Turns};
+ghost use Rattle.store_tables.specs.Transacts.{Turns, RunsOpen, Transacts};
+ghost use Rattle.store_tables.specs.Keeping.{ChangesStore};
 
 use crate::commits::{check_open, refusal_of};
 use crate::error::TableError;
@@ -17,12 +14,7 @@ use store_rows::{SessionEdit, StoredCell, StoredNotice};
 /// Puts and drops sessions, in turn. At most two statements each.
 fn edit_sessions<S: Alter>(tx: &mut Transaction<'_, S>, edits: &[SessionEdit]) -> Result<(), Error>
     requires { AreStorable edits.now }
-    ensures same_reference { tx.new.conn.ghost_name ≡ tx.old.conn.ghost_name }
-    ensures goes { HasCleanDisk (state S.Store tx.new.conn.now) → IsTrue tx.old.conn.now.in_transaction
-        → OnOk result (Goes (state S.Store tx.old.conn.now) (state S.Store tx.new.conn.now) (Brings (λ p. HaveFreePlaces edits.now p.sessions) (with_edits edits.now))) }
-    ensures kept { HasCleanDisk (state S.Store tx.new.conn.now) → IsTrue tx.old.conn.now.in_transaction
-        → KeepsCommit (state S.Store tx.old.conn.now) (state S.Store tx.new.conn.now) }
-    ensures survives { Survives (state S.Store tx.old.conn.now) (state S.Store tx.new.conn.now) (λ _. ⊥) }
+    ensures { Runs S.Store (λ _. Brings (λ p. HaveFreePlaces edits.now p.sessions) (with_edits edits.now)) tx.old result tx.new }
 {
     for edit in edits {
         edit_session(tx, Some(*edit))?;
@@ -40,14 +32,7 @@ fn change_all<S: Alter>(
     requires cells { All (λ c. c.n < 2 ^ 63) cells.now }
     requires notices { All (λ n. (n.announced < 2 ^ 63) × (n.finished < 2 ^ 63)) notices.now }
     requires edits { AreStorable edits.now }
-    ensures same_reference { tx.new.conn.ghost_name ≡ tx.old.conn.ghost_name }
-    ensures goes { HasCleanDisk (state S.Store tx.new.conn.now) → IsTrue tx.old.conn.now.in_transaction
-        → OnOk result (Goes (state S.Store tx.old.conn.now) (state S.Store tx.new.conn.now)
-        (Brings (λ p. HaveFreePlaces edits.now p.sessions) (λ p. with_edits edits.now (with_notices notices.now (with_cells cells.now p))))) }
-    ensures kept { HasCleanDisk (state S.Store tx.new.conn.now) → IsTrue tx.old.conn.now.in_transaction
-        → KeepsCommit (state S.Store tx.old.conn.now) (state S.Store tx.new.conn.now) }
-    ensures opened { HasCleanDisk (state S.Store tx.new.conn.now) → OnOk result (IsTrue (state S.Store tx.old.conn.now).is_open) }
-    ensures survives { Survives (state S.Store tx.old.conn.now) (state S.Store tx.new.conn.now) (λ _. ⊥) }
+    ensures { RunsOpen S.Store (Brings (λ p. HaveFreePlaces edits.now p.sessions) (λ p. with_edits edits.now (with_notices notices.now (with_cells cells.now p)))) tx.old result tx.new }
 {
     check_open(tx)?;
     put_cells(tx, cells)?;
@@ -67,13 +52,7 @@ fn write_all<S: Alter>(
     requires cells { All (λ c. c.n < 2 ^ 63) cells.now }
     requires notices { All (λ n. (n.announced < 2 ^ 63) × (n.finished < 2 ^ 63)) notices.now }
     requires edits { AreStorable edits.now }
-    ensures idle { conn.new.in_transaction ≡ false }
-    ensures done { HasCleanDisk (state S.Store conn.new)
-        → OnOk result (HasCommitted (state S.Store conn.old) (state S.Store conn.new) (Turns (TakesAll edits.now) (changed_all cells.now notices.now edits.now))) }
-    ensures kind { result ≢ Err BadStore }
-    ensures undone { result ≡ Err Memory → Survives (state S.Store conn.old) (state S.Store conn.new) (λ _. ⊥) }
-    ensures survives { Survives (state S.Store conn.old) (state S.Store conn.new)
-        (MayCommit (state S.Store conn.old) (Turns (TakesAll edits.now) (changed_all cells.now notices.now edits.now))) }
+    ensures { Transacts S.Store (Turns (TakesAll edits.now) (changed_all cells.now notices.now edits.now)) conn.old result conn.new }
 {
     let mut tx = conn.transaction();
     change_all(&mut tx, cells, notices, edits)?;
@@ -94,13 +73,7 @@ pub(crate) fn write_all_kept<S: Alter>(
     requires cells { All (λ c. c.n < 2 ^ 63) cells.now }
     requires notices { All (λ n. (n.announced < 2 ^ 63) × (n.finished < 2 ^ 63)) notices.now }
     requires edits { AreStorable edits.now }
-    ensures idle { conn.new.in_transaction ≡ false }
-    ensures honest { HasCleanDisk (state S.Store conn.new) → HasCleanDisk (state S.Store conn.old) }
-    ensures done { (it : _) → TakesAll edits.now it → Keeps S.Store conn.old it → OnOk result (Keeps S.Store conn.new (changed_all cells.now notices.now edits.now it)) }
-    ensures either { (it : _) → TakesAll edits.now it → Keeps S.Store conn.old it → KeepsEither S.Store conn.new it (changed_all cells.now notices.now edits.now it) }
-    ensures memory { (it : _) → Keeps S.Store conn.old it → result ≡ Err Memory → Keeps S.Store conn.new it }
-    ensures kind { result ≢ Err BadStore }
-    ensures beside { (it : _) → (others : _) → TakesAll edits.now it → Keeps S.Store conn.old it → KeepsBeside S.Store conn.old others → KeepsBeside S.Store conn.new others }
+    ensures { ChangesStore S.Store (TakesAll edits.now) (changed_all cells.now notices.now edits.now) conn.old result conn.new }
 {
     // what these two ensure of a connection, the transaction is proved with
     let _is_idle = conn.is_autocommit();

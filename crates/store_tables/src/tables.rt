@@ -27,17 +27,15 @@ impl<S: Alter + Drop> Drop for Tables<S> {
 }
 
 impl<S: Alter> Tables<S> {
-    ghost use Rattle.std.specs.Prelude.{◌≡◌, ◌≢◌, ◌⊎◌, ◌+◌, ◌<◌, ◌^◌, ⊤, [], None, Ok, Err, true, false, All, Some, IsTrue, IfOk, OnOk, if◌then◌else◌};
+    ghost use Rattle.std.specs.Prelude.{◌≡◌, ◌≢◌, ◌+◌, ◌<◌, ◌^◌, [], None, Ok, Err, true, false, All, Some, IsTrue, IfOk, OnOk, if◌then◌else◌};
     ghost use Rattle.store_rows.specs.Changes.{changed, renewed};
     ghost use Rattle.store_rows.specs.Steps.{IsStorable};
-    ghost use Rattle.store_schema.specs.Tables.{IsSchemaOf};
-    ghost use Rattle.store_schema.specs.Found.{found_in};
     ghost use Rattle.store_schema.specs.declared.Version.TheVariants.{Second};
-    ghost use Rattle.store_schema.specs.declared.Found.TheVariants.{Blank, Store, Other};
     ghost use Rattle.store_tables.specs.Transacts.{Takes, filled, made, with_site};
+    ghost use Rattle.store_tables.specs.Looking.{IsRefusedLook, KeepsAll, Looks};
     ghost use Rattle.store_tables.specs.Reads.{IsInRange};
     ghost use Rattle.store_tables.specs.Rounds.{AreStorable, TakesAll, changed_all};
-    ghost use Rattle.store_tables.specs.Kept.{has_failed, connection_of, schema_of, IsBlank, IsHonest, KeepsStore, KeepsOneOf, KeepsBlank, KeepsBlankOr, KeepsOthers, KeepsSome, KeepsOutdated, KeepsTold, CommitsNothing, IsRefusal, Settles, SettlesBlank};
+    ghost use Rattle.store_tables.specs.Kept.{has_failed, connection_of, IsHonest, KeepsStore, KeepsOneOf, KeepsBlank, KeepsBlankOr, KeepsOthers, KeepsOutdated, KeepsTold, CommitsNothing, IsRefusal, StopsAtFault};
     ghost use Rattle.store_tables.specs.declared.error.TableError.TheVariants.{BadStore, Memory, StoreFault};
 
     /// The tables of a database, of which the caller shows that no transaction is open. Calls no store.
@@ -80,11 +78,8 @@ impl<S: Alter> Tables<S> {
         ensures ok { KeepsBlank self.old → OnOk result (KeepsStore self.new (made site.now layout.now)) }
         ensures memory { KeepsBlank self.old → result ≡ Err Memory → KeepsBlank self.new }
         ensures either { KeepsBlank self.old → result ≡ Err StoreFault → KeepsBlankOr self.new (made site.now layout.now) }
-        ensures honest { IsHonest self.new → IsHonest self.old }
-        ensures fault { result ≡ Err StoreFault → IsTrue (has_failed self.new) }
-        ensures sound { result ≢ Err StoreFault → has_failed self.new ≡ false }
+        ensures stops { StopsAtFault self.old result self.new }
         ensures kind { result ≢ Err BadStore }
-        ensures stopped { IsTrue (has_failed self.old) → (result ≡ Err StoreFault) × (self.new ≡ self.old) }
     {
         if self.failed {
             return Err(TableError::StoreFault);
@@ -108,11 +103,8 @@ impl<S: Alter> Tables<S> {
         ensures ok { KeepsBlank self.old → OnOk result (KeepsStore self.new (filled site.now layout.now cells.now notices.now)) }
         ensures memory { KeepsBlank self.old → result ≡ Err Memory → KeepsBlank self.new }
         ensures either { KeepsBlank self.old → result ≡ Err StoreFault → KeepsBlankOr self.new (filled site.now layout.now cells.now notices.now) }
-        ensures honest { IsHonest self.new → IsHonest self.old }
-        ensures fault { result ≡ Err StoreFault → IsTrue (has_failed self.new) }
-        ensures sound { result ≢ Err StoreFault → has_failed self.new ≡ false }
+        ensures stops { StopsAtFault self.old result self.new }
         ensures kind { result ≢ Err BadStore }
-        ensures stopped { IsTrue (has_failed self.old) → (result ≡ Err StoreFault) × (self.new ≡ self.old) }
     {
         if self.failed {
             return Err(TableError::StoreFault);
@@ -129,11 +121,8 @@ impl<S: Alter> Tables<S> {
         ensures memory { (it : _) → it.version ≡ version → KeepsStore self.old it → result ≡ Err Memory → KeepsStore self.new it }
         ensures either { (it : _) → it.version ≡ version → KeepsStore self.old it → result ≡ Err StoreFault → KeepsOneOf self.new it (renewed layout.now it) }
         ensures beside { (it : _) → (others : _) → it.version ≡ version → KeepsStore self.old it → KeepsOthers self.old others → KeepsOthers self.new others }
-        ensures honest { IsHonest self.new → IsHonest self.old }
-        ensures fault { result ≡ Err StoreFault → IsTrue (has_failed self.new) }
-        ensures sound { result ≢ Err StoreFault → has_failed self.new ≡ false }
+        ensures stops { StopsAtFault self.old result self.new }
         ensures kind { result ≢ Err BadStore }
-        ensures stopped { IsTrue (has_failed self.old) → (result ≡ Err StoreFault) × (self.new ≡ self.old) }
     {
         if self.failed {
             return Err(TableError::StoreFault);
@@ -150,11 +139,8 @@ impl<S: Alter> Tables<S> {
         ensures memory { (it : _) → it.version ≡ Second → KeepsStore self.old it → result ≡ Err Memory → KeepsStore self.new it }
         ensures either { (it : _) → it.version ≡ Second → KeepsStore self.old it → result ≡ Err StoreFault → KeepsOneOf self.new it (with_site site.now it) }
         ensures beside { (it : _) → (others : _) → it.version ≡ Second → KeepsStore self.old it → KeepsOthers self.old others → KeepsOthers self.new others }
-        ensures honest { IsHonest self.new → IsHonest self.old }
-        ensures fault { result ≡ Err StoreFault → IsTrue (has_failed self.new) }
-        ensures sound { result ≢ Err StoreFault → has_failed self.new ≡ false }
+        ensures stops { StopsAtFault self.old result self.new }
         ensures kind { result ≢ Err BadStore }
-        ensures stopped { IsTrue (has_failed self.old) → (result ≡ Err StoreFault) × (self.new ≡ self.old) }
     {
         if self.failed {
             return Err(TableError::StoreFault);
@@ -179,11 +165,8 @@ impl<S: Alter> Tables<S> {
         ensures memory { (it : _) → Takes edit it → KeepsStore self.old it → result ≡ Err Memory → KeepsStore self.new it }
         ensures either { (it : _) → Takes edit it → KeepsStore self.old it → result ≡ Err StoreFault → KeepsOneOf self.new it (changed cells.now notices.now edit it) }
         ensures beside { (it : _) → (others : _) → Takes edit it → KeepsStore self.old it → KeepsOthers self.old others → KeepsOthers self.new others }
-        ensures honest { IsHonest self.new → IsHonest self.old }
-        ensures fault { result ≡ Err StoreFault → IsTrue (has_failed self.new) }
-        ensures sound { result ≢ Err StoreFault → has_failed self.new ≡ false }
+        ensures stops { StopsAtFault self.old result self.new }
         ensures kind { result ≢ Err BadStore }
-        ensures stopped { IsTrue (has_failed self.old) → (result ≡ Err StoreFault) × (self.new ≡ self.old) }
         ensures nothing { cells.now ≡ [] → notices.now ≡ [] → edit ≡ None → self.new ≡ self.old }
     {
         if self.failed {
@@ -212,11 +195,8 @@ impl<S: Alter> Tables<S> {
         ensures memory { (it : _) → KeepsStore self.old it → result ≡ Err Memory → KeepsStore self.new it }
         ensures either { (it : _) → TakesAll edits.now it → KeepsStore self.old it → result ≡ Err StoreFault → KeepsOneOf self.new it (changed_all cells.now notices.now edits.now it) }
         ensures beside { (it : _) → (others : _) → TakesAll edits.now it → KeepsStore self.old it → KeepsOthers self.old others → KeepsOthers self.new others }
-        ensures honest { IsHonest self.new → IsHonest self.old }
-        ensures fault { result ≡ Err StoreFault → IsTrue (has_failed self.new) }
-        ensures sound { result ≢ Err StoreFault → has_failed self.new ≡ false }
+        ensures stops { StopsAtFault self.old result self.new }
         ensures kind { result ≢ Err BadStore }
-        ensures stopped { IsTrue (has_failed self.old) → (result ≡ Err StoreFault) × (self.new ≡ self.old) }
     {
         if self.failed {
             return Err(TableError::StoreFault);
@@ -230,28 +210,10 @@ impl<S: Alter> Tables<S> {
     /// tables, their columns, the rows of `meta` or a value are not those of a store. At most four calls of the store
     /// in one transaction, which changes nothing.
     pub fn look(&mut self, alloc: Global) -> Result<Option<Content>, TableError>
-        ensures read { (it : _) → KeepsStore self.old it → IsHonest self.new → IfOk result (λ found. found ≡ Some it) }
-        ensures own { (it : _) → IsInRange it → KeepsStore self.old it → IsHonest self.new → result ≢ Err BadStore }
-        ensures blank { KeepsBlank self.old → IsHonest self.new → IfOk result (λ found. found ≡ None) × (result ≢ Err BadStore) }
-        ensures settles { (a : _) → (b : _) → KeepsOneOf self.old a b → IfOk result (λ found. ∥ Settles self.new found a ⊎ Settles self.new found b ∥₁) }
-        ensures settles_or { (it : _) → KeepsBlankOr self.old it → IfOk result (λ found. ∥ SettlesBlank self.new found ⊎ Settles self.new found it ∥₁) }
-        ensures cause { result ≡ Ok None → found_in (schema_of self.old) ≡ Blank }
-        ensures fresh { IsBlank self.old → OnOk result (KeepsBlank self.new) }
-        ensures kept { (it : _) → KeepsStore self.old it → KeepsStore self.new it }
-        ensures either { (a : _) → (b : _) → KeepsOneOf self.old a b → KeepsOneOf self.new a b }
-        ensures bare { KeepsBlank self.old → KeepsBlank self.new }
-        ensures bare_or { (it : _) → KeepsBlankOr self.old it → KeepsBlankOr self.new it }
-        ensures beside { (others : _) → KeepsOthers self.old others → KeepsOthers self.new others }
-        ensures honest { IsHonest self.new → IsHonest self.old }
-        ensures fault { result ≡ Err StoreFault → IsTrue (has_failed self.new) }
-        ensures sound { result ≢ Err StoreFault → has_failed self.new ≡ false }
-        ensures stopped { IsTrue (has_failed self.old) → (result ≡ Err StoreFault) × (self.new ≡ self.old) }
-        ensures good { KeepsSome self.old IsInRange → IsHonest self.new → result ≢ Err BadStore }
-        ensures refused { has_failed self.old ≡ false → KeepsSome self.old (λ _. ⊤) → IsHonest self.new → result ≡ Err StoreFault → IsRefusal self.old self.new }
-        ensures other { has_failed self.old ≡ false → found_in (schema_of self.old) ≡ Other → IsHonest self.new → result ≡ Err StoreFault → IsRefusal self.old self.new }
-        ensures tables { has_failed self.old ≡ false → (v : Version) → found_in (schema_of self.old) ≡ Store v → IsSchemaOf v (schema_of self.old) → IsHonest self.new
-            → result ≡ Err StoreFault → IsRefusal self.old self.new }
-        ensures unwritten { CommitsNothing self.old self.new }
+        ensures looks { Looks S.Store BadStore (connection_of self.old) result (connection_of self.new) }
+        ensures keeps { KeepsAll S.Store (connection_of self.old) (connection_of self.new) }
+        ensures refused { has_failed self.old ≡ false → IsRefusedLook S.Store StoreFault (connection_of self.old) result (connection_of self.new) }
+        ensures stops { StopsAtFault self.old result self.new }
     {
         if self.failed {
             return Err(TableError::StoreFault);
@@ -298,11 +260,8 @@ impl<S: Alter> Tables<S> {
         ensures either { (a b : _) → a.version ≡ Second → b.version ≡ Second → KeepsOneOf self.old a b → KeepsOneOf self.new a b }
         ensures beside { (it : _) → (others : _) → it.version ≡ Second → KeepsStore self.old it → KeepsOthers self.old others → KeepsOthers self.new others }
         ensures memory { result ≡ Err Memory → CommitsNothing self.old self.new }
-        ensures honest { IsHonest self.new → IsHonest self.old }
-        ensures fault { result ≡ Err StoreFault → IsTrue (has_failed self.new) }
-        ensures sound { result ≢ Err StoreFault → has_failed self.new ≡ false }
+        ensures stops { StopsAtFault self.old result self.new }
         ensures kind { result ≢ Err BadStore }
-        ensures stopped { IsTrue (has_failed self.old) → (result ≡ Err StoreFault) × (self.new ≡ self.old) }
     {
         if self.failed {
             return Err(TableError::StoreFault);
@@ -319,11 +278,8 @@ impl<S: Alter> Tables<S> {
         ensures marked { (it : _) → KeepsStore self.old it → KeepsOutdated self.old → IsHonest self.new → IfOk result (λ found. found ≡ true) }
         ensures unmarked { (it : _) → KeepsStore self.old it → KeepsTold self.old false → IsHonest self.new → IfOk result (λ found. found ≡ false) }
         ensures unwritten { CommitsNothing self.old self.new }
-        ensures honest { IsHonest self.new → IsHonest self.old }
-        ensures fault { result ≡ Err StoreFault → IsTrue (has_failed self.new) }
-        ensures sound { result ≢ Err StoreFault → has_failed self.new ≡ false }
+        ensures stops { StopsAtFault self.old result self.new }
         ensures kind { result ≢ Err BadStore }
-        ensures stopped { IsTrue (has_failed self.old) → (result ≡ Err StoreFault) × (self.new ≡ self.old) }
         ensures refused { has_failed self.old ≡ false → (it : _) → KeepsStore self.old it → IsHonest self.new → result ≡ Err StoreFault → IsRefusal self.old self.new }
     {
         if self.failed {

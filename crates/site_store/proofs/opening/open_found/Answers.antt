@@ -39,8 +39,8 @@ returns-clause-ready g c it keeps found =
     let old = connection_of c.args.tables.now in
     let conn = connection_of c.renew.new.self in
     let version : c.content.inside.version ≡ c.args.content.now.version = grind (arith, c.content.view_is) in
-    is_ready g.S.Store conn layout c.args.site (named c.args.group) it c.args.content.now c.in_ok-index.index (λ clean. found (c.renew.ensures.honest clean)) judged.0 judged.1.0
-    (λ clean. let e = found (c.renew.ensures.honest clean) in
+    is_ready g.S.Store conn layout c.args.site (named c.args.group) it c.args.content.now c.in_ok-index.index (λ clean. found (c.renew.ensures.stops.honest clean)) judged.0 judged.1.0
+    (λ clean. let e = found (c.renew.ensures.stops.honest clean) in
     subst (λ (t : List ℕ). Keeps g.S.Store conn (renewed t it)) c.requires (c.in_ok-renew.ensures.ok it (ap (λ (s : Stored). s.version) (sym e) ∙ sym version) keeps))
 
 -- ---- refusals
@@ -63,7 +63,7 @@ returns-in_err-renew-clause-ready g c it keeps found =
     let line = line_of layout in
     let version : c.content.inside.version ≡ c.args.content.now.version = grind (arith, c.content.view_is) in
     let old : HasCleanDisk (state g.S.Store conn) → it.version ≡ c.content.inside.version =
-    λ clean. ap (λ (s : Stored). s.version) (sym (found (c.renew.ensures.honest clean))) ∙ sym version in
+    λ clean. ap (λ (s : Stored). s.version) (sym (found (c.renew.ensures.stops.honest clean))) ∙ sym version in
     rw p.1 (subst (IsRefused g.S.Store layout c.args.site (named c.args.group) it conn) (sym p.2) (refused_renewal g.S.Store conn layout c.args.site (named c.args.group) it _
     (λ is. c.in_err-renew.ensures.kind (ap error is))
     (λ is. if_honest g.S.Store conn (Holds it) (λ clean. c.in_err-renew.ensures.memory it (old clean) keeps (ap error is)))
@@ -116,10 +116,10 @@ pub returns-in_err-renew-clause-beside : goal.returns-in_err-renew-clause-beside
 returns-in_err-renew-clause-beside g c it others keeps found beside =
     let version : c.content.inside.version ≡ c.args.content.now.version = grind (arith, c.content.view_is) in
     if_honest g.S.Store (connection_of c.renew.new.self) (HoldsBeside others)
-    (λ clean. let e = found (c.renew.ensures.honest clean) in c.renew.ensures.beside it others (ap (λ (s : Stored). s.version) (sym e) ∙ sym version) keeps beside)
+    (λ clean. let e = found (c.renew.ensures.stops.honest clean) in c.renew.ensures.beside it others (ap (λ (s : Stored). s.version) (sym e) ∙ sym version) keeps beside)
 
 pub returns-clause-beside : goal.returns-clause-beside
 returns-clause-beside g c it others keeps found beside =
     let version : c.content.inside.version ≡ c.args.content.now.version = grind (arith, c.content.view_is) in
     if_honest g.S.Store (connection_of c.renew.new.self) (HoldsBeside others)
-    (λ clean. let e = found (c.renew.ensures.honest clean) in c.renew.ensures.beside it others (ap (λ (s : Stored). s.version) (sym e) ∙ sym version) keeps beside)
+    (λ clean. let e = found (c.renew.ensures.stops.honest clean) in c.renew.ensures.beside it others (ap (λ (s : Stored). s.version) (sym e) ∙ sym version) keeps beside)

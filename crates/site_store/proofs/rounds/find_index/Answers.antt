@@ -1,5 +1,5 @@
 -- What the tables hold is read, and its index made.
-use Rattle.std.proofs.Common.{◌≡◌, IfOk, subst}
+use Rattle.std.proofs.Common.{IfOk, subst}
 use Rattle.store_rows.specs.Rows.{Stored}
 use Rattle.store_content.specs.declared.index.Index.{Index}
 use Rattle.store_content.specs.Known.{Knows}

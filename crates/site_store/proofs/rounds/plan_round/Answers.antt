@@ -2,7 +2,7 @@
 use Rattle.std.proofs.Common.{[], ◌∷◌, ◌++◌, List, take, sym, subst}
 use Rattle.std.proofs.lemmas.List.{take_more}
 use Rattle.admission_core.specs.Kept.{ChangeState}
-use Rattle.site_store.specs.Rounds.{AreRows, Plans}
+use Rattle.site_store.specs.Rounds.{Plans}
 use Rattle.site_store.proofs.RoundLemmas.{none_planned, none_storable}
 use Rattle.site_store.proofs.rounds.plan_round.Goals as goal
 

@@ -16,20 +16,19 @@ use Rattle.site_store.proofs.served.open_content.Goals as goal
 
 -- ---- a store that is marked
 
-pub returns-in_err-check_current-clause-ready : goal.returns-in_err-check_current-clause-ready
-returns-in_err-check_current-clause-ready g c it keeps found =
-    let p = err_from_is_err_and c.from_residual.result c.from_residual.ensures.1 in
-    let old = connection_of c.args.tables.now in
-    let mid = connection_of c.check_current.new.tables in
-    rw p.1 (record {
-      cause = λ clean. subst (λ (s : Stored). IsContentCause c.args.grow c.args.layout.now c.args.site (named c.args.group) s p.0) (found (c.check_current.ensures.honest clean))
-          (subst (IsContentCause c.args.grow c.args.layout.now c.args.site (named c.args.group) c.args.content.now) (sym p.2) (c.in_err-check_current.ensures.err c.args.grow));
-      left = kept_store g.S.Store mid c.args.layout.now it p.0 (leaves_still g.S.Store old mid (Holds it) c.check_current.ensures.unwritten keeps);
-    })
-
-pub returns-in_err-check_current-clause-beside : goal.returns-in_err-check_current-clause-beside
-returns-in_err-check_current-clause-beside g c it others keeps found beside =
-    leaves_still g.S.Store (connection_of c.args.tables.now) (connection_of c.check_current.new.tables) (HoldsBeside others) c.check_current.ensures.unwritten beside
+pub returns-in_err-check_current-clause-finds : goal.returns-in_err-check_current-clause-finds
+returns-in_err-check_current-clause-finds g c = record {
+  ready = λ it keeps found. let p = err_from_is_err_and c.from_residual.result c.from_residual.ensures.1 in
+      let old = connection_of c.args.tables.now in
+      let mid = connection_of c.check_current.new.tables in
+      rw p.1 (record {
+        cause = λ clean. subst (λ (s : Stored). IsContentCause c.args.grow c.args.layout.now c.args.site (named c.args.group) s p.0) (found (c.check_current.ensures.honest clean))
+            (subst (IsContentCause c.args.grow c.args.layout.now c.args.site (named c.args.group) c.args.content.now) (sym p.2) (c.in_err-check_current.ensures.err c.args.grow));
+        left = kept_store g.S.Store mid c.args.layout.now it p.0 (leaves_still g.S.Store old mid (Holds it) c.check_current.ensures.unwritten keeps);
+      });
+  beside = λ it others keeps found beside. leaves_still g.S.Store (connection_of c.args.tables.now) (connection_of c.check_current.new.tables) (HoldsBeside others) c.check_current.ensures.unwritten beside;
+  honest = c.check_current.ensures.honest;
+}
 
 pub returns-in_err-check_current-clause-own : goal.returns-in_err-check_current-clause-own
 returns-in_err-check_current-clause-own g c taken =
@@ -62,23 +61,22 @@ returns-in_err-check_current-clause-current g c current = c.check_current.ensure
 
 -- ---- one that is not
 
-pub returns-clause-ready : goal.returns-clause-ready
-returns-clause-ready g c it keeps found =
-    c.take_content.ensures.ready it (leaves_still g.S.Store (connection_of c.args.tables.now) (connection_of c.check_current.new.tables) (Holds it) c.check_current.ensures.unwritten keeps)
-    (λ clean. found (c.check_current.ensures.honest clean))
-
-pub returns-clause-beside : goal.returns-clause-beside
-returns-clause-beside g c it others keeps found beside =
-    let old = connection_of c.args.tables.now in
-    let mid = connection_of c.check_current.new.tables in
-    c.take_content.ensures.beside it others (leaves_still g.S.Store old mid (Holds it) c.check_current.ensures.unwritten keeps) (λ clean. found (c.check_current.ensures.honest clean))
-    (leaves_still g.S.Store old mid (HoldsBeside others) c.check_current.ensures.unwritten beside)
+pub returns-clause-finds : goal.returns-clause-finds
+returns-clause-finds g c = record {
+  ready = λ it keeps found. c.take_content.ensures.finds.ready it (leaves_still g.S.Store (connection_of c.args.tables.now) (connection_of c.check_current.new.tables) (Holds it) c.check_current.ensures.unwritten keeps)
+      (λ clean. found (c.check_current.ensures.honest clean));
+  beside = λ it others keeps found beside. let old = connection_of c.args.tables.now in
+      let mid = connection_of c.check_current.new.tables in
+      c.take_content.ensures.finds.beside it others (leaves_still g.S.Store old mid (Holds it) c.check_current.ensures.unwritten keeps) (λ clean. found (c.check_current.ensures.honest clean))
+      (leaves_still g.S.Store old mid (HoldsBeside others) c.check_current.ensures.unwritten beside);
+  honest = λ clean. c.check_current.ensures.honest (c.take_content.ensures.finds.honest clean);
+}
 
 pub returns-clause-kind : goal.returns-clause-kind
 returns-clause-kind g c = if_err_from c.take_content.result (λ e is. inl (IfErr-at_err IsOpenRefusal is c.take_content.ensures.kind))
 
 pub returns-clause-marked : goal.returns-clause-marked
-returns-clause-marked g c it keeps mark = if_ok_from c.take_content.result (λ index is clean. c.in_ok-check_current.ensures.marked it keeps mark (c.take_content.ensures.honest clean))
+returns-clause-marked g c it keeps mark = if_ok_from c.take_content.result (λ index is clean. c.in_ok-check_current.ensures.marked it keeps mark (c.take_content.ensures.finds.honest clean))
 
 pub returns-clause-unmarked : goal.returns-clause-unmarked
 returns-clause-unmarked g c it keeps none =

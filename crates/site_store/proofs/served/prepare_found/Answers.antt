@@ -31,213 +31,138 @@ error e = Err e
 ok_is_none : {A E : Type 0} {x : A} {e : E} → ◌≡◌ {A = Result A E} (Ok x) (Err e) → ⊥
 ok_is_none is = absurd (cc)
 
--- ---- what was kept is found, or the tables are refused
-
-pub returns-in-Ok-None-clause-ready : goal.returns-in-Ok-None-clause-ready
-returns-in-Ok-None-clause-ready g c it keeps = record {
-  cause = λ clean. absurd (none-some it (sym c.in-Ok-None.field-0-is ∙ c.in-Ok-None.ensures.read it keeps clean));
-  left = kept_store g.S.Store (connection_of c.look.new.self) c.args.layout.now it served.BadStore (c.in-Ok-None.ensures.kept it keeps);
-}
-
-pub returns-clause-ready : goal.returns-clause-ready
-returns-clause-ready g c it keeps =
-    let conn = connection_of c.look.new.self in
-    let told = refused g.S.Store conn c.args.layout.now c.args.site (named c.args.group) it c.in-Err.error
-    (λ is clean content. c.in-Err.ensures.own it (in_range it content) keeps clean (ap error is)) (c.in-Err.ensures.kept it keeps) in
-    subst (IsUntaken g.S.Store c.args.grow c.args.layout.now c.args.site (named c.args.group) it conn) (sym c.from.ensures) (record {
-      cause = λ clean. content_cause c.args.grow c.args.layout.now c.args.site (named c.args.group) it (open_error c.in-Err.error) (told.cause clean);
-      left = left_store g.S.Store conn c.args.layout.now it (open_error c.in-Err.error) told.left;
-    })
-
-pub returns-in_err-line-clause-ready : goal.returns-in_err-line-clause-ready
-returns-in_err-line-clause-ready g c it keeps =
-    let p = err_from_is_err_and c.from_residual.result c.from_residual.ensures.1 in
-    rw p.1 (record {
-      cause = λ clean. subst (IsContentCause c.args.grow c.args.layout.now c.args.site (named c.args.group) it) (sym p.2) tt;
-      left = kept_store g.S.Store (connection_of c.args.tables.now) c.args.layout.now it p.0 keeps;
-    })
-
-pub returns-in-Ok-Some-clause-settles : goal.returns-in-Ok-Some-clause-settles
-returns-in-Ok-Some-clause-settles g c a b keeps =
-    settled_as g.S.Store (connection_of c.open_content.new.tables) c.args.grow c.args.layout.now c.args.site (named c.args.group) a b _ _ _ c.in-Ok-Some.field-0 (c.in-Ok-Some.ensures.settles a b keeps)
-    c.in-Ok-Some.content c.in-Ok-Some.field-0-is c.open_content.result
-    (λ kept same. c.open_content.ensures.ready a kept (λ clean. same clean)) (λ kept same. c.open_content.ensures.ready b kept (λ clean. same clean))
-
-pub returns-in-Ok-Some-clause-settles_or : goal.returns-in-Ok-Some-clause-settles_or
-returns-in-Ok-Some-clause-settles_or g c it keeps =
-    let layout = c.args.layout.now in
-    let conn = connection_of c.look.new.self in
-    let next = connection_of c.open_content.new.tables in
-    let found = c.in-Ok-Some.ensures.settles_or it keeps in
-    let t = c.in-Ok-Some.field-0 in
-    if_ok_from c.open_content.result (λ index is.
-    ready_honest g.S.Store next layout c.args.site (named c.args.group) it index (λ clean.
-    let early = c.open_content.ensures.honest clean in
-    let kept = some_kept g.S.Store conn it _ early t found c.in-Ok-Some.content c.in-Ok-Some.field-0-is in
-    let same = some_found g.S.Store conn it _ early t found c.in-Ok-Some.content c.in-Ok-Some.field-0-is in
-    (subst (λ (r : Result Index ServedError). Finds g.S.Store c.args.grow layout c.args.site (named c.args.group) it next r) is (c.open_content.ensures.ready it kept (λ _. same))).ready))
-
--- ---- a content that is taken is refused by the device alone
-
-pub returns-in-Ok-Some-clause-own : goal.returns-in-Ok-Some-clause-own
-returns-in-Ok-Some-clause-own g c a b first second keeps =
-    if_err_from c.open_content.result (λ e is clean.
-    either_taken g.S.Store (connection_of c.open_content.new.tables) c.args.grow c.args.layout.now c.args.site (named c.args.group) a b _ _ _ c.in-Ok-Some.field-0 (c.in-Ok-Some.ensures.settles a b keeps)
-    (c.open_content.ensures.honest clean) c.in-Ok-Some.content c.in-Ok-Some.field-0-is first second e (λ taken. IfErr-at_err IsDeviceOrMark is (c.open_content.ensures.own taken)))
-
-pub returns-in-Ok-None-clause-own : goal.returns-in-Ok-None-clause-own
-returns-in-Ok-None-clause-own g c a b first second keeps = λ clean.
-    absurd (not_found g.S.Store (connection_of c.look.new.self) c.args.grow c.args.layout.now c.args.site (named c.args.group) a b _ _ _ c.in-Ok-None.field-0 (c.in-Ok-None.ensures.settles a b keeps)
-    clean c.in-Ok-None.field-0-is)
-
-pub returns-clause-own : goal.returns-clause-own
-returns-clause-own g c a b first second keeps = λ clean.
-    inl (subst IsDevice (sym c.from.ensures) (device_of (open_error c.in-Err.error)
-    (table_cause c.in-Err.error (λ is. c.in-Err.ensures.good
-    (any_of_either g.S.Store (connection_of c.args.tables.now) IsInRange a b (in_range a first.own.content) (in_range b second.own.content) keeps) clean (ap error is)))))
-
-pub returns-in_err-line-clause-own : goal.returns-in_err-line-clause-own
-returns-in_err-line-clause-own g c a b first second keeps =
-    let p = err_from_is_err_and c.from_residual.result c.from_residual.ensures.1 in
-    rw p.1 (λ clean. inl (inr p.2))
-
--- ---- the kind of a refusal
-
-pub returns-in-Ok-None-clause-kind : goal.returns-in-Ok-None-clause-kind
-returns-in-Ok-None-clause-kind g c = inl (opening.BadStore, refl)
-
-pub returns-clause-kind : goal.returns-clause-kind
-returns-clause-kind g c = inl (open_error c.in-Err.error, c.from.ensures)
-
-pub returns-in_err-line-clause-kind : goal.returns-in_err-line-clause-kind
-returns-in_err-line-clause-kind g c =
-    let p = err_from_is_err_and c.from_residual.result c.from_residual.ensures.1 in
-    rw p.1 (inl (opening.Memory, p.2))
-
--- ---- when a fault comes
-
-pub returns-in-Ok-Some-clause-fault : goal.returns-in-Ok-Some-clause-fault
-returns-in-Ok-Some-clause-fault g c sound it keeps =
-    if_err_from c.open_content.result (λ e is fault clean.
-    let s0 = state g.S.Store (connection_of c.args.tables.now) in
-    let s1 = state g.S.Store (connection_of c.look.new.self) in
-    let s2 = state g.S.Store (connection_of c.open_content.new.tables) in
-    let early = c.open_content.ensures.honest clean in
-    let same = same_Some c.in-Ok-Some.content it (sym c.in-Ok-Some.field-0-is ∙ c.in-Ok-Some.ensures.read it keeps early) in
-    elim (IfErr-at_err (λ x. x ≡ served.StoreFault → HasCleanDisk s2 → (IsRefusal c.look.new.self c.open_content.new.tables × CommitsNothing c.look.new.self c.open_content.new.tables)
-    ⊎ IsDue c.args.layout.now c.args.site (named c.args.group) c.in-Ok-Some.content) is (c.open_content.ensures.fault (c.in-Ok-Some.ensures.sound ok_is_none) it (c.in-Ok-Some.ensures.kept it keeps)) fault clean) [
-      | inl why ↦ inl (refused_from s0 s1 s2 c.in-Ok-Some.ensures.unwritten early why.1 why.0)
-      | inr due ↦ inr (subst (IsDue c.args.layout.now c.args.site (named c.args.group)) same due)
-    ])
-
 bad_is_none : served.BadStore ≡ served.StoreFault → ⊥
 bad_is_none is = absurd (cc)
 
-pub returns-in-Ok-None-clause-fault : goal.returns-in-Ok-None-clause-fault
-returns-in-Ok-None-clause-fault g c sound it keeps = λ fault clean. absurd (bad_is_none fault)
+-- ---- the connection is opened for a content that was found, or not
 
-pub returns-clause-fault : goal.returns-clause-fault
-returns-clause-fault g c sound it keeps = λ fault clean.
-    inl (c.in-Err.ensures.refused sound (any_of g.S.Store (connection_of c.args.tables.now) (λ _. Unit {0}) it tt keeps) clean
-    (ap error (fault_of c.in-Err.error (fault_below (open_error c.in-Err.error) (sym c.from.ensures ∙ fault)))))
+pub returns-in-Ok-Some-clause-found : goal.returns-in-Ok-Some-clause-found
+returns-in-Ok-Some-clause-found g c = record {
+  ready = λ it keeps. c.open_content.ensures.finds.ready it (c.in-Ok-Some.ensures.keeps.kept it keeps) (λ clean. same_Some c.in-Ok-Some.content it (sym c.in-Ok-Some.field-0-is ∙ c.in-Ok-Some.ensures.looks.read it keeps clean));
+  settles = λ a b keeps. settled_as g.S.Store (connection_of c.open_content.new.tables) c.args.grow c.args.layout.now c.args.site (named c.args.group) a b _ _ _ c.in-Ok-Some.field-0 (c.in-Ok-Some.ensures.looks.settles a b keeps)
+      c.in-Ok-Some.content c.in-Ok-Some.field-0-is c.open_content.result
+      (λ kept same. c.open_content.ensures.finds.ready a kept (λ clean. same clean)) (λ kept same. c.open_content.ensures.finds.ready b kept (λ clean. same clean));
+  settles_or = λ it keeps. let layout = c.args.layout.now in
+      let conn = connection_of c.look.new.self in
+      let next = connection_of c.open_content.new.tables in
+      let found = c.in-Ok-Some.ensures.looks.settles_or it keeps in
+      let t = c.in-Ok-Some.field-0 in
+      if_ok_from c.open_content.result (λ index is.
+      ready_honest g.S.Store next layout c.args.site (named c.args.group) it index (λ clean.
+      let early = c.open_content.ensures.finds.honest clean in
+      let kept = some_kept g.S.Store conn it _ early t found c.in-Ok-Some.content c.in-Ok-Some.field-0-is in
+      let same = some_found g.S.Store conn it _ early t found c.in-Ok-Some.content c.in-Ok-Some.field-0-is in
+      (subst (λ (r : Result Index ServedError). Finds g.S.Store c.args.grow layout c.args.site (named c.args.group) it next r) is (c.open_content.ensures.finds.ready it kept (λ _. same))).ready));
+  own = λ a b first second keeps. if_err_from c.open_content.result (λ e is clean.
+      either_taken g.S.Store (connection_of c.open_content.new.tables) c.args.grow c.args.layout.now c.args.site (named c.args.group) a b _ _ _ c.in-Ok-Some.field-0 (c.in-Ok-Some.ensures.looks.settles a b keeps)
+      (c.open_content.ensures.finds.honest clean) c.in-Ok-Some.content c.in-Ok-Some.field-0-is first second e (λ taken. IfErr-at_err IsDeviceOrMark is (c.open_content.ensures.own taken)));
+  left = λ a b keeps. if_err_from c.open_content.result (λ e is.
+      left_as g.S.Store (connection_of c.open_content.new.tables) c.args.grow c.args.layout.now c.args.site (named c.args.group) a b _ _ _ c.in-Ok-Some.field-0 (c.in-Ok-Some.ensures.looks.settles a b keeps)
+      c.in-Ok-Some.content c.in-Ok-Some.field-0-is c.open_content.result e is (λ kept same. c.open_content.ensures.finds.ready a kept (λ clean. same clean)) (λ kept same. c.open_content.ensures.finds.ready b kept (λ clean. same clean)));
+  left_or = λ it keeps. if_err_from c.open_content.result (λ e is.
+      left_doubt_as g.S.Store (connection_of c.open_content.new.tables) c.args.grow c.args.layout.now c.args.site (named c.args.group) it _ _ _ c.in-Ok-Some.field-0 (c.in-Ok-Some.ensures.looks.settles_or it keeps)
+      c.open_content.ensures.finds.honest c.in-Ok-Some.content c.in-Ok-Some.field-0-is c.open_content.result e is (λ kept same. c.open_content.ensures.finds.ready it kept (λ clean. same clean)));
+  kind = c.open_content.ensures.kind;
+  marked = λ it keeps mark. c.open_content.ensures.marked it (c.in-Ok-Some.ensures.keeps.kept it keeps)
+      (leaves_still g.S.Store (connection_of c.args.tables.now) (connection_of c.look.new.self) HasOutdatedMark c.in-Ok-Some.ensures.looks.unwritten mark);
+  unmarked = λ it keeps none. c.open_content.ensures.unmarked it (c.in-Ok-Some.ensures.keeps.kept it keeps)
+      (leaves_still g.S.Store (connection_of c.args.tables.now) (connection_of c.look.new.self) (TellsOutdated false) c.in-Ok-Some.ensures.looks.unwritten none);
+  beside = λ a b others keeps beside. let still = c.in-Ok-Some.ensures.keeps.beside others beside in
+      beside_some g.S.Store (connection_of c.open_content.new.tables) a b _ _ _ others c.open_content.ensures.finds.honest c.in-Ok-Some.field-0 c.in-Ok-Some.content c.in-Ok-Some.field-0-is
+      (λ kept same. c.open_content.ensures.finds.beside a others kept same still) (λ kept same. c.open_content.ensures.finds.beside b others kept same still) (c.in-Ok-Some.ensures.looks.settles a b keeps);
+  fault = λ sound it keeps. if_err_from c.open_content.result (λ e is fault clean.
+      let s0 = state g.S.Store (connection_of c.args.tables.now) in
+      let s1 = state g.S.Store (connection_of c.look.new.self) in
+      let s2 = state g.S.Store (connection_of c.open_content.new.tables) in
+      let early = c.open_content.ensures.finds.honest clean in
+      let same = same_Some c.in-Ok-Some.content it (sym c.in-Ok-Some.field-0-is ∙ c.in-Ok-Some.ensures.looks.read it keeps early) in
+      elim (IfErr-at_err (λ x. x ≡ served.StoreFault → HasCleanDisk s2 → (IsRefusal c.look.new.self c.open_content.new.tables × CommitsNothing c.look.new.self c.open_content.new.tables)
+      ⊎ IsDue c.args.layout.now c.args.site (named c.args.group) c.in-Ok-Some.content) is (c.open_content.ensures.fault (c.in-Ok-Some.ensures.stops.sound ok_is_none) it (c.in-Ok-Some.ensures.keeps.kept it keeps)) fault clean) [
+        | inl why ↦ inl (refused_from s0 s1 s2 c.in-Ok-Some.ensures.looks.unwritten early why.1 why.0)
+        | inr due ↦ inr (subst (IsDue c.args.layout.now c.args.site (named c.args.group)) same due)
+      ]);
+  current = λ it current keeps clean. let early = c.open_content.ensures.finds.honest clean in
+      let found = same_Some c.in-Ok-Some.content it (sym c.in-Ok-Some.field-0-is ∙ c.in-Ok-Some.ensures.looks.read it keeps early) in
+      survives_more (state g.S.Store (connection_of c.args.tables.now)) (state g.S.Store (connection_of c.look.new.self)) (state g.S.Store (connection_of c.open_content.new.tables)) c.in-Ok-Some.ensures.looks.unwritten
+      (c.open_content.ensures.current (subst (IsCurrent c.args.layout.now) (sym found) current));
+}
 
-pub returns-in_err-line-clause-fault : goal.returns-in_err-line-clause-fault
-returns-in_err-line-clause-fault g c sound it keeps =
+pub returns-in-Ok-None-clause-found : goal.returns-in-Ok-None-clause-found
+returns-in-Ok-None-clause-found g c = record {
+  ready = λ it keeps. record {
+    cause = λ clean. absurd (none-some it (sym c.in-Ok-None.field-0-is ∙ c.in-Ok-None.ensures.looks.read it keeps clean));
+    left = kept_store g.S.Store (connection_of c.look.new.self) c.args.layout.now it served.BadStore (c.in-Ok-None.ensures.keeps.kept it keeps);
+  };
+  settles = λ a b keeps. tt;
+  settles_or = λ it keeps. tt;
+  own = λ a b first second keeps. λ clean.
+      absurd (not_found g.S.Store (connection_of c.look.new.self) c.args.grow c.args.layout.now c.args.site (named c.args.group) a b _ _ _ c.in-Ok-None.field-0 (c.in-Ok-None.ensures.looks.settles a b keeps)
+      clean c.in-Ok-None.field-0-is);
+  left = λ a b keeps. ∣ inl (c.in-Ok-None.ensures.keeps.either a b keeps) ∣₁;
+  left_or = λ it keeps. ∣ inl (c.in-Ok-None.ensures.keeps.bare_or it keeps) ∣₁;
+  kind = inl (opening.BadStore, refl);
+  marked = λ it keeps mark. tt;
+  unmarked = λ it keeps none. λ clean. bad_unmarked;
+  beside = λ a b others keeps beside. c.in-Ok-None.ensures.keeps.beside others beside;
+  fault = λ sound it keeps. λ fault clean. absurd (bad_is_none fault);
+  current = λ it current keeps clean. c.in-Ok-None.ensures.looks.unwritten;
+}
+
+pub returns-clause-found : goal.returns-clause-found
+returns-clause-found g c = record {
+  ready = λ it keeps. let conn = connection_of c.look.new.self in
+      let told = refused g.S.Store conn c.args.layout.now c.args.site (named c.args.group) it c.in-Err.error
+      (λ is clean content. c.in-Err.ensures.looks.own it (in_range it content) keeps clean (ap error is)) (c.in-Err.ensures.keeps.kept it keeps) in
+      subst (IsUntaken g.S.Store c.args.grow c.args.layout.now c.args.site (named c.args.group) it conn) (sym c.from.ensures) (record {
+        cause = λ clean. content_cause c.args.grow c.args.layout.now c.args.site (named c.args.group) it (open_error c.in-Err.error) (told.cause clean);
+        left = left_store g.S.Store conn c.args.layout.now it (open_error c.in-Err.error) told.left;
+      });
+  settles = λ a b keeps. tt;
+  settles_or = λ it keeps. tt;
+  own = λ a b first second keeps. λ clean.
+      inl (subst IsDevice (sym c.from.ensures) (device_of (open_error c.in-Err.error)
+      (table_cause c.in-Err.error (λ is. c.in-Err.ensures.looks.good
+      (any_of_either g.S.Store (connection_of c.args.tables.now) IsInRange a b (in_range a first.own.content) (in_range b second.own.content) keeps) clean (ap error is)))));
+  left = λ a b keeps. ∣ inl (c.in-Err.ensures.keeps.either a b keeps) ∣₁;
+  left_or = λ it keeps. ∣ inl (c.in-Err.ensures.keeps.bare_or it keeps) ∣₁;
+  kind = inl (open_error c.in-Err.error, c.from.ensures);
+  marked = λ it keeps mark. tt;
+  unmarked = λ it keeps none. λ clean is. not_marked (open_error c.in-Err.error) (sym c.from.ensures ∙ is);
+  beside = λ a b others keeps beside. c.in-Err.ensures.keeps.beside others beside;
+  fault = λ sound it keeps. λ fault clean.
+      inl ((c.in-Err.ensures.refused sound).any (any_of g.S.Store (connection_of c.args.tables.now) (λ _. Unit {0}) it tt keeps) clean
+      (ap error (fault_of c.in-Err.error (fault_below (open_error c.in-Err.error) (sym c.from.ensures ∙ fault)))));
+  current = λ it current keeps clean. c.in-Err.ensures.looks.unwritten;
+}
+
+pub returns-in_err-line-clause-found : goal.returns-in_err-line-clause-found
+returns-in_err-line-clause-found g c =
     let p = err_from_is_err_and c.from_residual.result c.from_residual.ensures.1 in
-    rw p.1 (λ fault clean. absurd (memory_is_none (sym p.2 ∙ fault)))
-
--- ---- what is committed
+    rw p.1 (record {
+      ready = λ it keeps. (record {
+        cause = λ clean. subst (IsContentCause c.args.grow c.args.layout.now c.args.site (named c.args.group) it) (sym p.2) tt;
+        left = kept_store g.S.Store (connection_of c.args.tables.now) c.args.layout.now it p.0 keeps;
+      });
+      settles = λ a b keeps. tt;
+      settles_or = λ it keeps. tt;
+      own = λ a b first second keeps. (λ clean. inl (inr p.2));
+      left = λ a b keeps. (∣ inl keeps ∣₁);
+      left_or = λ it keeps. (∣ inl keeps ∣₁);
+      kind = (inl (opening.Memory, p.2));
+      marked = λ it keeps mark. tt;
+      unmarked = λ it keeps none. (λ clean is. memory_unmarked (sym p.2 ∙ is));
+      beside = λ a b others keeps beside. beside;
+      fault = λ sound it keeps. (λ fault clean. absurd (memory_is_none (sym p.2 ∙ fault)));
+      current = λ it current keeps clean. survives_same _;
+    })
 
 pub returns-in-Ok-Some-clause-judged : goal.returns-in-Ok-Some-clause-judged
 returns-in-Ok-Some-clause-judged g c =
     if_err_from c.open_content.result (λ e is other room.
-    survives_more (state g.S.Store (connection_of c.args.tables.now)) (state g.S.Store (connection_of c.look.new.self)) (state g.S.Store (connection_of c.open_content.new.tables)) c.in-Ok-Some.ensures.unwritten
+    survives_more (state g.S.Store (connection_of c.args.tables.now)) (state g.S.Store (connection_of c.look.new.self)) (state g.S.Store (connection_of c.open_content.new.tables)) c.in-Ok-Some.ensures.looks.unwritten
     (IfErr-at_err (λ x. x ≢ served.StoreFault → x ≢ served.Memory → CommitsNothing c.look.new.self c.open_content.new.tables) is c.open_content.ensures.judged other room))
 
 pub returns-in_err-line-clause-judged : goal.returns-in_err-line-clause-judged
 returns-in_err-line-clause-judged g c =
     let p = err_from_is_err_and c.from_residual.result c.from_residual.ensures.1 in
     rw p.1 (λ other room. absurd (room p.2))
-
-pub returns-in-Ok-Some-clause-current : goal.returns-in-Ok-Some-clause-current
-returns-in-Ok-Some-clause-current g c it current keeps clean =
-    let early = c.open_content.ensures.honest clean in
-    let found = same_Some c.in-Ok-Some.content it (sym c.in-Ok-Some.field-0-is ∙ c.in-Ok-Some.ensures.read it keeps early) in
-    survives_more (state g.S.Store (connection_of c.args.tables.now)) (state g.S.Store (connection_of c.look.new.self)) (state g.S.Store (connection_of c.open_content.new.tables)) c.in-Ok-Some.ensures.unwritten
-    (c.open_content.ensures.current (subst (IsCurrent c.args.layout.now) (sym found) current))
-
-pub returns-in_err-line-clause-current : goal.returns-in_err-line-clause-current
-returns-in_err-line-clause-current g c it current keeps clean = survives_same _
-
--- ---- the other tables
-
-pub returns-in-Ok-Some-clause-beside : goal.returns-in-Ok-Some-clause-beside
-returns-in-Ok-Some-clause-beside g c a b others keeps beside =
-    let still = c.in-Ok-Some.ensures.beside others beside in
-    beside_some g.S.Store (connection_of c.open_content.new.tables) a b _ _ _ others c.open_content.ensures.honest c.in-Ok-Some.field-0 c.in-Ok-Some.content c.in-Ok-Some.field-0-is
-    (λ kept same. c.open_content.ensures.beside a others kept same still) (λ kept same. c.open_content.ensures.beside b others kept same still) (c.in-Ok-Some.ensures.settles a b keeps)
-
--- ---- what a refusal leaves
-
-pub returns-in-Ok-Some-clause-left : goal.returns-in-Ok-Some-clause-left
-returns-in-Ok-Some-clause-left g c a b keeps =
-    if_err_from c.open_content.result (λ e is.
-    left_as g.S.Store (connection_of c.open_content.new.tables) c.args.grow c.args.layout.now c.args.site (named c.args.group) a b _ _ _ c.in-Ok-Some.field-0 (c.in-Ok-Some.ensures.settles a b keeps)
-    c.in-Ok-Some.content c.in-Ok-Some.field-0-is c.open_content.result e is (λ kept same. c.open_content.ensures.ready a kept (λ clean. same clean)) (λ kept same. c.open_content.ensures.ready b kept (λ clean. same clean)))
-
-pub returns-in-Ok-None-clause-left : goal.returns-in-Ok-None-clause-left
-returns-in-Ok-None-clause-left g c a b keeps = ∣ inl (c.in-Ok-None.ensures.either a b keeps) ∣₁
-
-pub returns-clause-left : goal.returns-clause-left
-returns-clause-left g c a b keeps = ∣ inl (c.in-Err.ensures.either a b keeps) ∣₁
-
-pub returns-in_err-line-clause-left : goal.returns-in_err-line-clause-left
-returns-in_err-line-clause-left g c a b keeps =
-    let p = err_from_is_err_and c.from_residual.result c.from_residual.ensures.1 in
-    rw p.1 (∣ inl keeps ∣₁)
-
-pub returns-in-Ok-Some-clause-left_or : goal.returns-in-Ok-Some-clause-left_or
-returns-in-Ok-Some-clause-left_or g c it keeps =
-    if_err_from c.open_content.result (λ e is.
-    left_doubt_as g.S.Store (connection_of c.open_content.new.tables) c.args.grow c.args.layout.now c.args.site (named c.args.group) it _ _ _ c.in-Ok-Some.field-0 (c.in-Ok-Some.ensures.settles_or it keeps)
-    c.open_content.ensures.honest c.in-Ok-Some.content c.in-Ok-Some.field-0-is c.open_content.result e is (λ kept same. c.open_content.ensures.ready it kept (λ clean. same clean)))
-
-pub returns-in-Ok-None-clause-left_or : goal.returns-in-Ok-None-clause-left_or
-returns-in-Ok-None-clause-left_or g c it keeps = ∣ inl (c.in-Ok-None.ensures.bare_or it keeps) ∣₁
-
-pub returns-clause-left_or : goal.returns-clause-left_or
-returns-clause-left_or g c it keeps = ∣ inl (c.in-Err.ensures.bare_or it keeps) ∣₁
-
-pub returns-in_err-line-clause-left_or : goal.returns-in_err-line-clause-left_or
-returns-in_err-line-clause-left_or g c it keeps =
-    let p = err_from_is_err_and c.from_residual.result c.from_residual.ensures.1 in
-    rw p.1 (∣ inl keeps ∣₁)
-
--- ---- a content that was found is judged
-
-pub returns-in-Ok-Some-clause-ready : goal.returns-in-Ok-Some-clause-ready
-returns-in-Ok-Some-clause-ready g c it keeps =
-    c.open_content.ensures.ready it (c.in-Ok-Some.ensures.kept it keeps) (λ clean. same_Some c.in-Ok-Some.content it (sym c.in-Ok-Some.field-0-is ∙ c.in-Ok-Some.ensures.read it keeps clean))
-
--- ---- a store that is marked as outdated
-
-pub returns-in-Ok-Some-clause-marked : goal.returns-in-Ok-Some-clause-marked
-returns-in-Ok-Some-clause-marked g c it keeps mark =
-    c.open_content.ensures.marked it (c.in-Ok-Some.ensures.kept it keeps)
-    (leaves_still g.S.Store (connection_of c.args.tables.now) (connection_of c.look.new.self) HasOutdatedMark c.in-Ok-Some.ensures.unwritten mark)
-
-pub returns-in-Ok-Some-clause-unmarked : goal.returns-in-Ok-Some-clause-unmarked
-returns-in-Ok-Some-clause-unmarked g c it keeps none =
-    c.open_content.ensures.unmarked it (c.in-Ok-Some.ensures.kept it keeps)
-    (leaves_still g.S.Store (connection_of c.args.tables.now) (connection_of c.look.new.self) (TellsOutdated false) c.in-Ok-Some.ensures.unwritten none)
-
-pub returns-in-Ok-None-clause-unmarked : goal.returns-in-Ok-None-clause-unmarked
-returns-in-Ok-None-clause-unmarked g c it keeps none = λ clean. bad_unmarked
-
-pub returns-clause-unmarked : goal.returns-clause-unmarked
-returns-clause-unmarked g c it keeps none = λ clean is. not_marked (open_error c.in-Err.error) (sym c.from.ensures ∙ is)
-
-pub returns-in_err-line-clause-unmarked : goal.returns-in_err-line-clause-unmarked
-returns-in_err-line-clause-unmarked g c it keeps none =
-    let p = err_from_is_err_and c.from_residual.result c.from_residual.ensures.1 in
-    rw p.1 (λ clean is. memory_unmarked (sym p.2 ∙ is))

@@ -5,14 +5,10 @@ pub returns-then-permission-clause-found : goal.returns-then-permission-clause-f
 returns-then-permission-clause-found g c off = absurd (both_ways _ off c.if-permission.true)
 
 pub returns-then-permission-clause-made : goal.returns-then-permission-clause-made
-returns-then-permission-clause-made g c on =
-    let it = c.prepare_new.ensures in
-    record { ready = it.ready; device = it.device; left = it.left }
+returns-then-permission-clause-made g c on = c.prepare_new.ensures.made
 
 pub returns-clause-found : goal.returns-clause-found
-returns-clause-found g c off =
-    let it = c.prepare_found.ensures in
-    record { ready = it.ready; settles = it.settles; settles_or = it.settles_or; own = it.own; left = it.left; left_or = it.left_or; kind = it.kind; marked = it.marked; unmarked = it.unmarked; beside = it.beside; fault = it.fault; current = it.current }
+returns-clause-found g c off = c.prepare_found.ensures.found
 
 pub returns-clause-made : goal.returns-clause-made
 returns-clause-made g c on = absurd (both_ways _ c.if-permission.false on)

@@ -8,28 +8,37 @@ use Rattle.site_store.specs.Served.{IsContentCause, IsDeviceOrMark, IsOpenRefusa
 use Rattle.site_store.proofs.ServedLemmas.{content_cause, device_of, fault_below, kept_store, left_store, ready_as, taken_device}
 use Rattle.site_store.proofs.served.take_content.Goals as goal
 
-pub returns-in_err-check_growth-clause-ready : goal.returns-in_err-check_growth-clause-ready
-returns-in_err-check_growth-clause-ready g c it keeps found =
-    let p = err_from_is_err_and c.from_residual.result c.from_residual.ensures.1 in
-    rw p.1 (record {
-      cause = λ clean. subst (λ (s : Stored). IsContentCause c.args.grow c.args.layout.now c.args.site (named c.args.group) s p.0) (found clean)
-          (subst (IsContentCause c.args.grow c.args.layout.now c.args.site (named c.args.group) c.args.content.now) (sym p.2) c.in_err-check_growth.ensures.err.0);
-      left = kept_store g.S.Store (connection_of c.args.tables.now) c.args.layout.now it p.0 keeps;
-    })
+pub returns-in_err-check_growth-clause-finds : goal.returns-in_err-check_growth-clause-finds
+returns-in_err-check_growth-clause-finds g c = record {
+  ready = λ it keeps found. let p = err_from_is_err_and c.from_residual.result c.from_residual.ensures.1 in
+      rw p.1 (record {
+        cause = λ clean. subst (λ (s : Stored). IsContentCause c.args.grow c.args.layout.now c.args.site (named c.args.group) s p.0) (found clean)
+            (subst (IsContentCause c.args.grow c.args.layout.now c.args.site (named c.args.group) c.args.content.now) (sym p.2) c.in_err-check_growth.ensures.err.0);
+        left = kept_store g.S.Store (connection_of c.args.tables.now) c.args.layout.now it p.0 keeps;
+      });
+  beside = λ it others keeps found beside. beside;
+  honest = λ clean. clean;
+}
 
-pub returns-in-Ok-clause-ready : goal.returns-in-Ok-clause-ready
-returns-in-Ok-clause-ready g c it keeps found =
-    ready_as g.S.Store (connection_of c.open_found.new.tables) c.args.grow c.args.layout.now c.args.site (named c.args.group) it c.args.content.now c.in-Ok.index (λ clean. found (c.open_found.ensures.honest clean))
-    c.in_ok-check_growth.ensures.ok (c.in-Ok.ensures.ready it keeps found)
+pub returns-in-Ok-clause-finds : goal.returns-in-Ok-clause-finds
+returns-in-Ok-clause-finds g c = record {
+  ready = λ it keeps found. ready_as g.S.Store (connection_of c.open_found.new.tables) c.args.grow c.args.layout.now c.args.site (named c.args.group) it c.args.content.now c.in-Ok.index (λ clean. found (c.open_found.ensures.honest clean))
+      c.in_ok-check_growth.ensures.ok (c.in-Ok.ensures.ready it keeps found);
+  beside = c.open_found.ensures.beside;
+  honest = c.open_found.ensures.honest;
+}
 
-pub returns-in-Err-clause-ready : goal.returns-in-Err-clause-ready
-returns-in-Err-clause-ready g c it keeps found =
-    let conn = connection_of c.open_found.new.tables in
-    let refused = c.in-Err.ensures.ready it keeps found in
-    subst (IsUntaken g.S.Store c.args.grow c.args.layout.now c.args.site (named c.args.group) it conn) (sym c.from.ensures) (record {
-      cause = λ clean. content_cause c.args.grow c.args.layout.now c.args.site (named c.args.group) it c.in-Err.error (refused.cause clean);
-      left = left_store g.S.Store conn c.args.layout.now it c.in-Err.error refused.left;
-    })
+pub returns-in-Err-clause-finds : goal.returns-in-Err-clause-finds
+returns-in-Err-clause-finds g c = record {
+  ready = λ it keeps found. let conn = connection_of c.open_found.new.tables in
+      let refused = c.in-Err.ensures.ready it keeps found in
+      subst (IsUntaken g.S.Store c.args.grow c.args.layout.now c.args.site (named c.args.group) it conn) (sym c.from.ensures) (record {
+        cause = λ clean. content_cause c.args.grow c.args.layout.now c.args.site (named c.args.group) it c.in-Err.error (refused.cause clean);
+        left = left_store g.S.Store conn c.args.layout.now it c.in-Err.error refused.left;
+      });
+  beside = c.open_found.ensures.beside;
+  honest = c.open_found.ensures.honest;
+}
 
 pub returns-in_err-check_growth-clause-own : goal.returns-in_err-check_growth-clause-own
 returns-in_err-check_growth-clause-own g c taken =

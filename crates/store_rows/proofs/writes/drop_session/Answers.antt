@@ -1,31 +1,18 @@
-use Rattle.std.proofs.Common.{Err, pos, [], ◌∷◌, subst}
-use Rattle.std.proofs.lemmas.Result.{err_from_is_err_and}
+use Rattle.std.proofs.Common.{pos, [], ◌∷◌}
 use Rattle.sqlite_value.specs.declared.value.Value.TheVariants.{Int}
 use Rattle.sqlite.specs.Held.{state}
-use Rattle.sqlite.specs.State.{ExecutesInside}
+use Rattle.store_rows.specs.Steps.{Brings, Any, with_drop}
 use Rattle.store_rows.specs.Texts.{drop_session_text}
-use Rattle.store_rows.proofs.ChainLemmas.{told_error}
 use Rattle.store_rows.proofs.NeverSessionLemmas.{drop_stops, dropped_uses}
+use Rattle.store_rows.proofs.RunLemmas.{text_puts}
 use Rattle.store_rows.proofs.StepLemmas.{drop_goes}
 use Rattle.store_rows.proofs.writes.drop_session.Goals as goal
 
-pub returns-clause-goes : goal.returns-clause-goes
-returns-clause-goes g c clean inside =
-    let ran = c.in_ok-execute.ensures.runs clean inside in
-    let has = rw (c.number.ensures, c.number-2.ensures, c.from.ensures) at ran.0 in
-    record { inside = ran.1.mode; committed = ran.1.committed_is; effect = drop_goes (state g.S.Store c.args.tx.now.conn.now) (state g.S.Store c.execute.new.self.conn.now) c.args.r c.args.h c.in_ok-execute.field-0 has }
-
-pub returns-clause-uses : goal.returns-clause-uses
-returns-clause-uses g c clean inside =
-    let ran = c.in_ok-execute.ensures.runs clean inside in
-    let has = rw (c.number.ensures, c.number-2.ensures, c.from.ensures) at ran.0 in
-    dropped_uses (state g.S.Store c.args.tx.now.conn.now) (state g.S.Store c.execute.new.self.conn.now) c.args.r c.args.h c.in_ok-execute.field-0 has
-
-pub returns-in_err-execute-clause-refused : goal.returns-in_err-execute-clause-refused
-returns-in_err-execute-clause-refused g c clean inside e is =
+pub returns : goal.returns
+returns g c =
+    let r = c.args.r in
+    let h = c.args.h in
     let old = state g.S.Store c.args.tx.now.conn.now in
-    let new = state g.S.Store c.execute.new.self.conn.now in
-    let p = err_from_is_err_and c.from_residual.result c.from_residual.ensures.1 in
-    let ran = rw (c.number.ensures, c.number-2.ensures, c.from.ensures) at c.in_err-execute.ensures.runs clean inside in
-    drop_stops old new c.args.r c.args.h e
-    (subst (λ x. ExecutesInside 0 drop_session_text (Int (pos c.args.r) ∷ Int (pos c.args.h) ∷ []) old new (Err x)) (told_error c.from_residual.result p.0 c.in_err-execute.field-0.0 e p.1 p.2 is) ran)
+    let new = state g.S.Store c.run.new.tx.conn.now in
+    let ran = rw (c.number.ensures, c.number-2.ensures, c.from.ensures) at c.run.ensures in
+    text_puts c.run.result 0 Any (Brings Any (with_drop r h)) drop_session_text (Int (pos r) ∷ Int (pos h) ∷ []) ran (drop_goes old new r h) (dropped_uses old new r h) (drop_stops old new r h)

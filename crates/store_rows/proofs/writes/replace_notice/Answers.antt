@@ -1,30 +1,16 @@
-use Rattle.std.proofs.Common.{Err, subst}
-use Rattle.std.proofs.lemmas.Result.{err_from_is_err_and}
+use Rattle.std.proofs.Common.{[], ◌∷◌}
 use Rattle.sqlite.specs.Held.{state}
-use Rattle.sqlite.specs.State.{ExecutesInside}
 use Rattle.store_rows.specs.Rows.{notice_row}
+use Rattle.store_rows.specs.Steps.{Brings, Any, with_notices}
 use Rattle.store_rows.specs.Texts.{put_notice_text}
-use Rattle.store_rows.proofs.ChainLemmas.{told_error}
 use Rattle.store_rows.proofs.NeverLemmas.{notice_stops, notice_uses}
+use Rattle.store_rows.proofs.RunLemmas.{text_puts}
 use Rattle.store_rows.proofs.StepLemmas.{notice_goes}
 use Rattle.store_rows.proofs.writes.replace_notice.Goals as goal
 
-pub returns-clause-goes : goal.returns-clause-goes
-returns-clause-goes g c clean inside =
-    let ran = c.in_ok-execute.ensures.runs clean inside in
-    let has = rw c.notice_values.ensures at ran.0 in
-    record { inside = ran.1.mode; committed = ran.1.committed_is; effect = notice_goes (state g.S.Store c.args.tx.now.conn.now) (state g.S.Store c.execute.new.self.conn.now) c.args.notice c.in_ok-execute.field-0 has }
-
-pub returns-clause-uses : goal.returns-clause-uses
-returns-clause-uses g c clean inside =
-    let ran = c.in_ok-execute.ensures.runs clean inside in
-    let has = rw c.notice_values.ensures at ran.0 in
-    notice_uses (state g.S.Store c.args.tx.now.conn.now) (state g.S.Store c.execute.new.self.conn.now) c.args.notice c.in_ok-execute.field-0 has
-
-pub returns-in_err-execute-clause-refused : goal.returns-in_err-execute-clause-refused
-returns-in_err-execute-clause-refused g c clean inside e is =
+pub returns : goal.returns
+returns g c =
     let old = state g.S.Store c.args.tx.now.conn.now in
-    let new = state g.S.Store c.execute.new.self.conn.now in
-    let p = err_from_is_err_and c.from_residual.result c.from_residual.ensures.1 in
-    let ran = rw c.notice_values.ensures at c.in_err-execute.ensures.runs clean inside in
-    notice_stops old new c.args.notice e (subst (λ x. ExecutesInside 0 put_notice_text (notice_row c.args.notice) old new (Err x)) (told_error c.from_residual.result p.0 c.in_err-execute.field-0.0 e p.1 p.2 is) ran)
+    let new = state g.S.Store c.run.new.tx.conn.now in
+    text_puts c.run.result 1 Any (Brings Any (with_notices (c.args.notice ∷ []))) put_notice_text (notice_row c.args.notice) (rw c.notice_values.ensures at c.run.ensures) (notice_goes old new c.args.notice)
+    (notice_uses old new c.args.notice) (notice_stops old new c.args.notice)

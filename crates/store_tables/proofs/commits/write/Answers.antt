@@ -1,74 +1,17 @@
-use Rattle.std.proofs.Common.{◌≡◌, sym, subst, arith, rules}
-use Rattle.sqlite.specs.State.{HasCleanDisk, IsUnchanged, Survives}
-use Rattle.sqlite.specs.Held.{state}
-use Rattle.sqlite.proofs.StateLemmas.{survives_then}
-use Rattle.sqlite.proofs.Callers.{survives_begin}
-use Rattle.store_rows.specs.Changes.{changed}
-use Rattle.store_rows.specs.Steps.{Brings, HasFreePlace, with_cells, with_notices, with_edit}
-use Rattle.store_tables.specs.Transacts.{HasCommitted, MayCommit, Turns, Takes}
-use Rattle.store_tables.proofs.KeepLemmas.{undone_survives}
-use Rattle.store_tables.proofs.RefusalLemmas.{same_error}
-use Rattle.store_tables.proofs.TransactLemmas.{changes_turn, has_committed, survives_commit}
+use Rattle.std.proofs.Common.{rules}
+use Rattle.store_tables.proofs.TransactLemmas.{changes_turn, committed, refused, rolled_back}
 use Rattle.store_tables.proofs.commits.write.Goals as goal
 
-pub returns-in-Ok-clause-done : goal.returns-in-Ok-clause-done
-returns-in-Ok-clause-done g c clean =
-    let cells = c.args.cells.now in
-    let notices = c.args.notices.now in
-    let edit = c.args.edit in
-    let old = c.args.conn.now in
-    let mid = c.change.new.tx.conn.now in
-    let end = c.commit.new.self.0 in
-    let begun = c.transaction-tx.ensures.begun in
-    let same : end ≡ c.conn-2-1.given.0 = search rules in
-    let late : HasCleanDisk (state g.S.Store end) = subst (λ h. HasCleanDisk (state g.S.Store h)) (sym same) clean in
-    let early : HasCleanDisk (state g.S.Store mid) = omega (arith, c.commit.ensures.survives.clean, late) in
-    let goes = rw begun at (c.in_ok-change.ensures.goes early (rw begun)) in
-    let kept = rw begun at (c.in_ok-change.ensures.kept early (rw begun)) in
-    let out = has_committed g.S.Store old mid end (Brings (λ p. HasFreePlace edit p.sessions) (λ p. with_edit edit (with_notices notices (with_cells cells p)))) (Turns (Takes edit) (changed cells notices edit)) (λ a b. changes_turn a b cells notices edit) goes kept (c.in-Ok.ensures.ok late).1 in
-    subst (λ h. HasCommitted (state g.S.Store old) (state g.S.Store h) (Turns (Takes edit) (changed cells notices edit))) same out
+pub returns-in-Ok : goal.returns-in-Ok
+returns-in-Ok g c =
+    committed (λ a b. changes_turn a b c.args.cells.now c.args.notices.now c.args.edit) c.args.conn.now c.commit.new.self.0 c.transaction-tx.result c.change.new.tx c.transaction-tx.ensures.begun c.in_ok-change.ensures c.commit.ensures.survives (λ clean. (c.in-Ok.ensures.ok clean).1) c.commit.ensures.ended
+    (search rules)
 
-pub returns-in-Ok-clause-survives : goal.returns-in-Ok-clause-survives
-returns-in-Ok-clause-survives g c =
-    let cells = c.args.cells.now in
-    let notices = c.args.notices.now in
-    let edit = c.args.edit in
-    let old = c.args.conn.now in
-    let mid = c.change.new.tx.conn.now in
-    let end = c.commit.new.self.0 in
-    let begun = c.transaction-tx.ensures.begun in
-    let same : end ≡ c.conn-2-1.given.0 = search rules in
-    let whole = survives_commit g.S.Store old mid end (Brings (λ p. HasFreePlace edit p.sessions) (λ p. with_edit edit (with_notices notices (with_cells cells p)))) (Turns (Takes edit) (changed cells notices edit)) (λ a b. changes_turn a b cells notices edit) (λ early. rw begun at (c.in_ok-change.ensures.opened early)) (λ early. rw begun at (c.in_ok-change.ensures.goes early (rw begun)))
-    (rw begun at c.change.ensures.survives) c.commit.ensures.survives in
-    subst (λ h. Survives (state g.S.Store old) (state g.S.Store h) (MayCommit (state g.S.Store old) (Turns (Takes edit) (changed cells notices edit)))) same whole
+pub returns-in-Err : goal.returns-in-Err
+returns-in-Err g c =
+    refused (λ a b. changes_turn a b c.args.cells.now c.args.notices.now c.args.edit) c.args.conn.now c.commit.new.self.0 c.conn-2-1.given.0 c.refusal_of.new.conn c.transaction-tx.result c.change.new.tx g.met.S.Store.settled g.met.S.Store.stays c.in-Err.error c.refusal_of.result c.transaction-tx.ensures.begun c.in_ok-change.ensures
+    c.commit.ensures.survives (λ clean. c.in-Err.ensures.err clean) (search rules) c.refusal_of.ensures.idle c.refusal_of.ensures.kind c.refusal_of.ensures.settled c.refusal_of.ensures.survives
 
-pub returns-in-Err-clause-survives : goal.returns-in-Err-clause-survives
-returns-in-Err-clause-survives g c =
-    let cells = c.args.cells.now in
-    let notices = c.args.notices.now in
-    let edit = c.args.edit in
-    let old = c.args.conn.now in
-    let mid = c.change.new.tx.conn.now in
-    let end = c.commit.new.self.0 in
-    let new = c.refusal_of.new.conn in
-    let begun = c.transaction-tx.ensures.begun in
-    let same : end ≡ c.conn-2-1.given.0 = search rules in
-    let whole = survives_commit g.S.Store old mid end (Brings (λ p. HasFreePlace edit p.sessions) (λ p. with_edit edit (with_notices notices (with_cells cells p)))) (Turns (Takes edit) (changed cells notices edit)) (λ a b. changes_turn a b cells notices edit) (λ early. rw begun at (c.in_ok-change.ensures.opened early)) (λ early. rw begun at (c.in_ok-change.ensures.goes early (rw begun)))
-    (rw begun at c.change.ensures.survives) c.commit.ensures.survives in
-    let probe = subst (λ h. Survives (state g.S.Store h) (state g.S.Store new) (λ _. ⊥)) (sym same) c.refusal_of.ensures.survives in
-    survives_then (state g.S.Store old) (state g.S.Store end) (state g.S.Store new) (MayCommit (state g.S.Store old) (Turns (Takes edit) (changed cells notices edit))) (λ _. ⊥) (MayCommit (state g.S.Store old) (Turns (Takes edit) (changed cells notices edit))) (λ _ db h. h) (λ _ db h. absurd h) whole probe
-
-pub returns-in-Err-clause-undone : goal.returns-in-Err-clause-undone
-returns-in-Err-clause-undone g c memory =
-    let old = c.args.conn.now in
-    let mid = c.change.new.tx.conn.now in
-    let end = c.commit.new.self.0 in
-    let new = c.refusal_of.new.conn in
-    let begun = c.transaction-tx.ensures.begun in
-    let same : end ≡ c.conn-2-1.given.0 = search rules in
-    let probe = subst (λ h. Survives (state g.S.Store h) (state g.S.Store new) (λ _. ⊥)) (sym same) c.refusal_of.ensures.survives in
-    let still = subst (λ h. HasCleanDisk (state g.S.Store new) → IsUnchanged (state g.S.Store h) (state g.S.Store new)) (sym same) (λ clean. c.refusal_of.ensures.settled clean (same_error memory)) in
-    let one = survives_begin g.S.Store old (state g.S.Store mid) (λ _. ⊥) (rw begun at c.change.ensures.survives) in
-    undone_survives g.S.Store g.met.S.Store.settled g.met.S.Store.stays old mid end new (λ _. ⊥) (λ db. db ≡ (state g.S.Store mid).now.trees) c.in-Err.error one c.commit.ensures.survives probe
-    (λ early. let kept = rw begun at (c.in_ok-change.ensures.kept early (rw begun)) in record { was_open = kept.was_open; committed = kept.committed })
-    (λ late. c.in-Err.ensures.err late) still
+pub returns-in_err-change : goal.returns-in_err-change
+returns-in_err-change g c =
+    rolled_back c.from_residual.result c.args.conn.now c.drop-tx.new.self.0 c.transaction-tx.result c.change.new.tx c.transaction-tx.ensures.begun c.in_err-change.ensures c.from_residual.ensures.1 c.drop-tx.ensures.survives c.drop-tx.ensures.ended (search rules)

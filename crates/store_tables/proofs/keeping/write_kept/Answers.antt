@@ -1,30 +1,9 @@
-use Rattle.std.proofs.Common.{arith}
 use Rattle.store_rows.specs.Changes.{changed}
-use Rattle.store_rows.specs.Holding.{Holds, HoldsBeside}
-use Rattle.store_tables.specs.Transacts.{Takes, Turns}
-use Rattle.store_tables.proofs.KeepLemmas.{HoldsBoth, turned, turned_beside, leaves_beside, leaves_both, leaves_done, leaves_either, leaves_still, on_ok_under}
+use Rattle.store_tables.specs.Transacts.{Takes}
+use Rattle.store_tables.proofs.KeepChangeLemmas.{changes_store}
 use Rattle.store_tables.proofs.keeping.write_kept.Goals as goal
 
-pub returns-clause-done : goal.returns-clause-done
-returns-clause-done g c it fits keeps =
+pub returns : goal.returns
+returns g c =
     let idle = c.is_autocommit-is_idle.ensures.settled (rw (c.is_autocommit-is_idle.ensures.value, c.requires.idle)) in
-    on_ok_under c.write.result
-    (leaves_done g.S.Store g.met.S.Store.settled g.met.S.Store.stays c.args.conn.now c.write.new.conn (Holds it) (Holds ((changed c.args.cells.now c.args.notices.now c.args.edit) it)) (Turns (Takes c.args.edit) (changed c.args.cells.now c.args.notices.now c.args.edit)) (turned (Takes c.args.edit) (changed c.args.cells.now c.args.notices.now c.args.edit) it fits) keeps
-    c.schema-schema.ensures.live idle c.write.ensures.survives)
-    c.write.ensures.done
-
-pub returns-clause-either : goal.returns-clause-either
-returns-clause-either g c it fits keeps =
-    let idle = c.is_autocommit-is_idle.ensures.settled (rw (c.is_autocommit-is_idle.ensures.value, c.requires.idle)) in
-    leaves_either g.S.Store g.met.S.Store.settled g.met.S.Store.stays c.args.conn.now c.write.new.conn (Holds it) (Holds ((changed c.args.cells.now c.args.notices.now c.args.edit) it)) (Turns (Takes c.args.edit) (changed c.args.cells.now c.args.notices.now c.args.edit)) (turned (Takes c.args.edit) (changed c.args.cells.now c.args.notices.now c.args.edit) it fits) keeps
-    c.schema-schema.ensures.live idle c.write.ensures.survives
-
-pub returns-clause-beside : goal.returns-clause-beside
-returns-clause-beside g c it others fits keeps beside =
-    let idle = c.is_autocommit-is_idle.ensures.settled (rw (c.is_autocommit-is_idle.ensures.value, c.requires.idle)) in
-    leaves_beside g.S.Store c.write.new.conn it others
-    (leaves_either g.S.Store g.met.S.Store.settled g.met.S.Store.stays c.args.conn.now c.write.new.conn (HoldsBoth it others) (HoldsBeside others) (Turns (Takes c.args.edit) (changed c.args.cells.now c.args.notices.now c.args.edit)) (turned_beside (Takes c.args.edit) (changed c.args.cells.now c.args.notices.now c.args.edit) it others fits)
-    (leaves_both g.S.Store c.args.conn.now (Holds it) (HoldsBeside others) keeps beside) c.schema-schema.ensures.live idle c.write.ensures.survives)
-
-pub returns-clause-memory : goal.returns-clause-memory
-returns-clause-memory g c it keeps memory = leaves_still g.S.Store c.args.conn.now c.write.new.conn (Holds it) (c.write.ensures.undone memory) keeps
+    changes_store g.S.Store g.met.S.Store.settled g.met.S.Store.stays c.args.conn.now c.write.new.conn c.write.result c.schema-schema.ensures.live idle (Takes c.args.edit) (changed c.args.cells.now c.args.notices.now c.args.edit) c.write.ensures

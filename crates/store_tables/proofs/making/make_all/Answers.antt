@@ -1,28 +1,19 @@
-use Rattle.std.proofs.Common.{◌∙◌, arith}
-use Rattle.sqlite.specs.State.{HasCleanDisk}
+use Rattle.std.proofs.Common.{Ok}
 use Rattle.sqlite.specs.Held.{state}
-use Rattle.store_rows.proofs.StepLemmas.{on_ok, all_ok}
-use Rattle.store_tables.specs.Transacts.{BecomesStore}
-use Rattle.store_tables.proofs.TransactLemmas.{goes_from}
+use Rattle.store_rows.proofs.RunLemmas.{runs_stopped, runs_then}
 use Rattle.store_tables.proofs.MakeLemmas.{empty_then}
+use Rattle.store_tables.proofs.TransactLemmas.{checked, open_failed, open_refused, open_then}
 use Rattle.store_tables.proofs.making.make_all.Goals as goal
 
-pub returns-clause-goes : goal.returns-clause-goes
-returns-clause-goes g c clean inside =
-    let start = state g.S.Store c.args.tx.now.conn.now in
-    let s0 = state g.S.Store c.check_open.new.tx.conn.now in
-    let s1 = state g.S.Store c.create_tables.new.tx.conn.now in
-    let s2 = state g.S.Store c.put_marks.new.tx.conn.now in
-    let early : HasCleanDisk s1 = omega (arith, c.put_marks.ensures.survives.clean) in
-    let clean0 : HasCleanDisk s0 = omega (arith, c.create_tables.ensures.survives.clean) in
-    let same = c.in_ok-check_open.ensures.open clean0 in
-    let one = c.in_ok-create_tables.ensures.goes early (same.0.mode ∙ inside) in
-    on_ok c.put_marks.result
-    (λ two. goes_from start s0 s2 (BecomesStore c.args.site.now c.args.layout.now) same (record { inside = two.inside; committed = two.committed ∙ one.committed; effect = empty_then s0.now s1.now s2.now c.args.site.now c.args.layout.now one.effect two.effect }))
-    (c.put_marks.ensures.goes clean one.inside)
+pub returns : goal.returns
+returns g c =
+    let d0 = (state g.S.Store c.check_open.new.tx.conn.now).now in
+    let d1 = (state g.S.Store c.create_tables.new.tx.conn.now).now in
+    let d2 = (state g.S.Store c.put_marks.new.tx.conn.now).now in
+    open_then c.put_marks.result c.check_open.ensures.same_reference c.in_ok-check_open.ensures.open c.check_open.ensures.kept c.check_open.ensures.survives (runs_then c.put_marks.result c.in_ok-create_tables.ensures c.put_marks.ensures (λ _. empty_then d0 d1 d2 c.args.site.now c.args.layout.now))
 
-pub returns-clause-opened : goal.returns-clause-opened
-returns-clause-opened g c clean =
-    let early : HasCleanDisk (state g.S.Store c.create_tables.new.tx.conn.now) = omega (arith, c.put_marks.ensures.survives.clean) in
-    let clean0 : HasCleanDisk (state g.S.Store c.check_open.new.tx.conn.now) = omega (arith, c.create_tables.ensures.survives.clean) in
-    on_ok c.put_marks.result (λ _. (c.in_ok-check_open.ensures.open clean0).0.was_open) (all_ok c.put_marks.result)
+pub returns-in_err-check_open : goal.returns-in_err-check_open
+returns-in_err-check_open g c = open_refused c.in_err-check_open.field-0.0 c.from_residual.result c.from_residual.ensures.1 c.check_open.ensures.same_reference c.check_open.ensures.kept c.check_open.ensures.survives
+
+pub returns-in_err-create_tables : goal.returns-in_err-create_tables
+returns-in_err-create_tables g c = open_failed c.from_residual-in_err-create_tables.result c.from_residual-in_err-create_tables.ensures.1 (runs_stopped (checked (Ok (tt {0})) c.check_open.ensures.same_reference c.in_ok-check_open.ensures.open c.check_open.ensures.kept c.check_open.ensures.survives) c.in_err-create_tables.ensures)

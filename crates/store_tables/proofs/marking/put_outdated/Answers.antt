@@ -1,24 +1,11 @@
-use Rattle.std.proofs.Common.{◌∙◌, arith}
-use Rattle.sqlite.specs.State.{HasCleanDisk}
 use Rattle.sqlite.specs.Held.{state}
-use Rattle.store_rows.proofs.StepLemmas.{on_ok, all_ok}
-use Rattle.store_tables.specs.Marking.{MarksOutdated}
+use Rattle.store_rows.proofs.RunLemmas.{runs_as}
 use Rattle.store_tables.proofs.MarkingLemmas.{marked}
-use Rattle.store_tables.proofs.TransactLemmas.{goes_from}
+use Rattle.store_tables.proofs.TransactLemmas.{open_refused, open_then}
 use Rattle.store_tables.proofs.marking.put_outdated.Goals as goal
 
-pub returns-clause-goes : goal.returns-clause-goes
-returns-clause-goes g c clean inside =
-    let start = state g.S.Store c.args.tx.now.conn.now in
-    let s0 = state g.S.Store c.check_open.new.tx.conn.now in
-    let s1 = state g.S.Store c.put_mark.new.tx.conn.now in
-    let clean0 : HasCleanDisk s0 = omega (arith, c.put_mark.ensures.survives.clean) in
-    let same = c.in_ok-check_open.ensures.open clean0 in
-    on_ok c.put_mark.result
-    (λ one. goes_from start s0 s1 MarksOutdated same (record { inside = one.inside; committed = one.committed; effect = marked s0.now s1.now one.effect }))
-    (c.put_mark.ensures.goes clean (same.0.mode ∙ inside))
+pub returns : goal.returns
+returns g c = open_then c.put_mark.result c.check_open.ensures.same_reference c.in_ok-check_open.ensures.open c.check_open.ensures.kept c.check_open.ensures.survives (runs_as c.put_mark.result (λ _. marked (state g.S.Store c.check_open.new.tx.conn.now).now (state g.S.Store c.put_mark.new.tx.conn.now).now) c.put_mark.ensures)
 
-pub returns-clause-opened : goal.returns-clause-opened
-returns-clause-opened g c clean =
-    let clean0 : HasCleanDisk (state g.S.Store c.check_open.new.tx.conn.now) = omega (arith, c.put_mark.ensures.survives.clean) in
-    on_ok c.put_mark.result (λ _. (c.in_ok-check_open.ensures.open clean0).0.was_open) (all_ok c.put_mark.result)
+pub returns-in_err-check_open : goal.returns-in_err-check_open
+returns-in_err-check_open g c = open_refused c.in_err-check_open.field-0.0 c.from_residual.result c.from_residual.ensures.1 c.check_open.ensures.same_reference c.check_open.ensures.kept c.check_open.ensures.survives

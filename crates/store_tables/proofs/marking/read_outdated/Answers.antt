@@ -1,40 +1,29 @@
-use Rattle.std.proofs.Common.{◌≡◌, List, refl, sym, subst, arith, rules}
-use Rattle.std.proofs.lemmas.Result.{err_from_is_err_and}
+use Rattle.std.proofs.Common.{◌≡◌, List, Ok, Err, ap, refl, subst}
 use Rattle.sqlite_value.specs.declared.value.Value.TheVariants.{Text}
 use Rattle.sqlite_value.specs.Order.{Row, column}
 use Rattle.sqlite_rules.specs.Lists.{Has}
-use Rattle.sqlite.specs.Effect.{Database}
-use Rattle.sqlite.specs.State.{HasCleanDisk}
 use Rattle.sqlite.specs.Held.{state}
-use Rattle.store_schema.specs.Tables.{IsSchemaOf}
-use Rattle.store_tables.specs.Marking.{TellsOutdated, outdated_name}
+use Rattle.store_tables.specs.Marking.{outdated_name}
 use Rattle.store_tables.proofs.MarkingLemmas.{tells_names}
-use Rattle.store_tables.proofs.RefusalLemmas.{not_memory, one_error, refused_since}
+use Rattle.store_tables.proofs.FoundLemmas.{outdated_passed, outdated_refused, outdated_then}
+use Rattle.store_tables.proofs.RefusalLemmas.{same_error}
 use Rattle.store_tables.proofs.marking.read_outdated.Goals as goal
 
-pub returns-clause-told : goal.returns-clause-told
-returns-clause-told g c clean v has =
-    let s0 = state g.S.Store c.args.tx.now.conn.now in
-    let s1 = state g.S.Store c.check_open.new.tx.conn.now in
-    let clean1 : HasCleanDisk s1 = omega (arith, c.read_marks.ensures.survives.clean) in
-    let same : s1.now ≡ s0.now = (c.in_ok-check_open.ensures.open clean1).0.now_is in
-    let shows = c.in_ok-rows.ensures.shown clean v (subst (λ (d : Database). IsSchemaOf v d.schema) (sym same) has) in
-    subst (λ (d : Database). TellsOutdated c.has_name.result d.trees) same
-    (tells_names s1.now.trees c.in_ok-rows.rows.items c.has_name.result shows
+pub returns-clause-reads : goal.returns-clause-reads
+returns-clause-reads g c =
+    outdated_then (Ok c.has_name.result) (state g.S.Store c.args.tx.now.conn.now) (state g.S.Store c.check_open.new.tx.conn.now) (state g.S.Store c.read_marks.new.tx.conn.now) c.in_ok-check_open.ensures.open c.check_open.ensures.survives c.read_marks.ensures.survives
+    (λ clean v has.
+    tells_names (state g.S.Store c.check_open.new.tx.conn.now).now.trees c.in_ok-rows.rows.items c.has_name.result (c.in_ok-rows.ensures.shown clean v has)
     (λ is. subst (λ (rows : List Row). (r : Row) × Has rows r × (column r 0 ≡ Text outdated_name)) c.as_slice.ensures.value (c.has_name.ensures.found is))
     (λ is. subst (λ (rows : List Row). (r : Row) → Has rows r → column r 0 ≡ Text outdated_name → ⊥) c.as_slice.ensures.value (c.has_name.ensures.none is)))
+    (λ bad. cc) (λ clean v has failed. absurd (cc))
 
-pub returns-in_err-check_open-clause-refused : goal.returns-in_err-check_open-clause-refused
-returns-in_err-check_open-clause-refused g c clean v has failed =
-    let p = err_from_is_err_and c.from_residual.result c.from_residual.ensures.1 in
-    c.in_err-check_open.ensures.refused clean _ refl (not_memory p.0 _ p.2.0 (one_error _ p.0 _ p.1 failed))
+pub returns-in_err-check_open-clause-reads : goal.returns-in_err-check_open-clause-reads
+returns-in_err-check_open-clause-reads g c =
+    outdated_refused c.from_residual.result c.in_err-check_open.field-0.0 (state g.S.Store c.args.tx.now.conn.now) (state g.S.Store c.check_open.new.tx.conn.now) c.from_residual.ensures.1 (λ clean other. c.in_err-check_open.ensures.refused clean _ refl other) c.check_open.ensures.survives
 
-pub returns-in_err-rows-clause-refused : goal.returns-in_err-rows-clause-refused
-returns-in_err-rows-clause-refused g c clean v has failed =
-    let s0 = state g.S.Store c.args.tx.now.conn.now in
-    let s1 = state g.S.Store c.check_open.new.tx.conn.now in
-    let s2 = state g.S.Store c.read_marks.new.tx.conn.now in
-    let clean1 : HasCleanDisk s1 = omega (arith, c.read_marks.ensures.survives.clean) in
-    let same : s1.now ≡ s0.now = (c.in_ok-check_open.ensures.open clean1).0.now_is in
-    let why = c.in_err-rows.ensures.refused clean v (subst (λ (d : Database). IsSchemaOf v d.schema) (sym same) has) in
-    refused_since s0 s1 s2 c.check_open.ensures.survives clean1 c.read_marks.ensures.survives.counts (why (search rules))
+pub returns-in_err-rows-clause-reads : goal.returns-in_err-rows-clause-reads
+returns-in_err-rows-clause-reads g c =
+    outdated_passed c.from_residual-in_err-rows.result c.from_residual-in_err-rows.ensures.1
+    (outdated_then (Err c.in_err-rows.field-0.0) (state g.S.Store c.args.tx.now.conn.now) (state g.S.Store c.check_open.new.tx.conn.now) (state g.S.Store c.read_marks.new.tx.conn.now) c.in_ok-check_open.ensures.open c.check_open.ensures.survives c.read_marks.ensures.survives
+    (λ clean v has. tt) (λ bad. c.in_err-rows.ensures.own (ap Err (same_error bad))) (λ clean v has failed. c.in_err-rows.ensures.refused clean v has (ap Err (same_error failed))))

@@ -1,4 +1,4 @@
-use Rattle.std.proofs.Common.{◌≡◌, ◌∙◌, List, ℕ, Some, Result, Err, ap, sym, arith}
+use Rattle.std.proofs.Common.{◌≡◌, List, ℕ, Some, Result, Err, ap, sym, arith}
 use Rattle.store_rows.specs.Holding.{Holds}
 use Rattle.store_tables.proofs.KeepLemmas.{leaves_first}
 use Rattle.store_tables.specs.declared.error.TableError.{TableError}
@@ -33,7 +33,7 @@ pub returns-in-Ok-clause-ok : goal.returns-in-Ok-clause-ok
 returns-in-Ok-clause-ok g c d keeps = λ clean.
     let k = c.args.self.now in
     let to = site_text k.site (Some c.args.group.now) in
-    let found = keeps (c.set_site.ensures.honest clean) in
+    let found = keeps (c.set_site.ensures.stops.honest clean) in
     let written : c.as_str.result.now ≡ to = grind (arith, c.as_str.ensures.value, c.in_ok-row.ensures) in
     let own = ap (λ (n : List ℕ). site_text k.site (Some n)) (sym c.in_ok-name.ensures.ok) in (
       with_site to found.0,
