@@ -1,6 +1,6 @@
-ghost use Rattle.std.specs.Prelude.{◌≡◌, ◌≤◌, ◌++◌, codes, false, length, map, IfOk, OnOk, IsOk, option_map, string_bytes};
-ghost use Rattle.clap.specs.Words.{App, FailsBy, Rule, app_of, found_of, new_app, rows_of, rule_of, subcommand_rows_of, with_rule, with_subcommand};
-ghost use Rattle.command_arguments.specs.Arguments.{IsOption, Offers, ask_command, asked_command, asked_cut, asked_group, asked_layout, asked_log, asked_logs, asked_lost, asked_out, asked_store, asked_words, bare_program, command_in, command_of, flag, flag_in, first_word, join_command, judge_command, logs_at, logs_in, logs_option, lost_at, lost_in, lost_option, needed_group, none_said, number_option, play_command, program, rebuild_command, regroup_command, run_command, serve_command, serving_command, serving_in, site_command, site_in, site_of, sites_of, site_option, store_option, text_option, together_in, together_option, turns_in, turns_option, usage_errors, value_in, wait_in, word, words_at, words_in, words_of};
+ghost use Rattle.std.specs.Prelude.{◌≡◌, ◌≤◌, ◌++◌, codes, false, length, map, IfOk, OnOk, IsOk, option_and_then, option_map, string_bytes};
+ghost use Rattle.clap.specs.Words.{App, FailsBy, Rule, app_of, found_of, new_app, one_of, rows_of, rule_of, subcommand_rows_of, with_rule, with_subcommand};
+ghost use Rattle.command_arguments.specs.Arguments.{IsOption, Offers, ask_command, asked_command, asked_cut, asked_group, asked_layout, asked_log, asked_logs, asked_lost, asked_out, asked_store, asked_words, bare_program, command_in, command_of, flag, flag_in, first_word, join_command, judge_command, logs_at, logs_in, logs_option, lost_at, lost_in, lost_option, needed_group, none_said, number_option, play_command, program, rebuild_command, regroup_command, run_command, serve_command, serving_command, serving_in, short_number, site_command, site_in, site_of, sites_of, site_option, store_option, text_option, together_in, together_option, turns_in, turns_option, usage_errors, value_in, wait_in, word, words_at, words_in, words_of};
 
 use crate::help;
 use clap::builder::ValueParser;
@@ -259,7 +259,7 @@ fn command_of(name: &str, found: &ArgMatches) -> Command
     if name == "play" {
         return Command::Play {
             tables: flag_in(found, "tables"),
-            first: found.get_one::<u16>("from"),
+            first: number_in(found, "from"),
         };
     }
     if name == "site" {
@@ -298,7 +298,7 @@ fn command_of(name: &str, found: &ArgMatches) -> Command
 fn site_in(found: &ArgMatches) -> u16
     ensures { result ≡ site_in (rows_of (found_of found.now)) }
 {
-    found.get_one::<u16>("site").unwrap_or(0)
+    number_in(found, "site").unwrap_or(0)
 }
 
 // How a site is served at once.
@@ -315,6 +315,13 @@ fn serving_in(found: &ArgMatches) -> Serving
     }
 }
 
+// The number of 16 bits that an option names, if it names one.
+fn number_in(found: &ArgMatches, name: &str) -> Option<u16>
+    ensures { result ≡ option_and_then short_number (one_of name.now (rows_of (found_of found.now))) }
+{
+    found.get_one::<u16>(name)
+}
+
 // Whether a flag is there.
 fn flag_in(found: &ArgMatches, name: &str) -> bool
     ensures { result ≡ flag_in name.now (rows_of (found_of found.now)) }
@@ -326,21 +333,21 @@ fn flag_in(found: &ArgMatches, name: &str) -> bool
 fn wait_in(found: &ArgMatches) -> u16
     ensures { result ≡ wait_in (rows_of (found_of found.now)) }
 {
-    found.get_one::<u16>("wait").unwrap_or(0)
+    number_in(found, "wait").unwrap_or(0)
 }
 
 // How many calls are committed together at most: 1 where no number is named.
 fn together_in(found: &ArgMatches) -> u16
     ensures { result ≡ together_in (rows_of (found_of found.now)) }
 {
-    found.get_one::<u16>("together").unwrap_or(1)
+    number_in(found, "together").unwrap_or(1)
 }
 
 // How many turns links have: 100 where no number is named.
 fn turns_in(found: &ArgMatches) -> u16
     ensures { result ≡ turns_in (rows_of (found_of found.now)) }
 {
-    found.get_one::<u16>("turns").unwrap_or(100)
+    number_in(found, "turns").unwrap_or(100)
 }
 
 // The program as clap is told of it.

@@ -1,4 +1,4 @@
-use Rattle.std.proofs.Common.{◌≡◌, None, sym, ap, ◌∙◌}
+use Rattle.std.proofs.Common.{◌≡◌, None, sym, ap, ◌∙◌, rules}
 use Rattle.admission_model.specs.declared.ask.Call.TheVariants.{Ask as AskCall}
 use Rattle.admission_model.specs.View.{View}
 use Rattle.admission_model.specs.Serving.{reason, operation_of}
@@ -34,3 +34,6 @@ returns c =
     let it : IsOperationOf new c.args.ask c.operation_of-operation.result = record { accepted = free_there; is = c.operation_of-operation.ensures ∙ ap (λ (v : View). operation_of v c.args.ask) views } in
     served_answered old new c.carry_out.new.self (AskCall c.args.ask) c.answer-answer.result c.reserve_for.ensures.content free c.answer-answer.ensures
     (λ a stands. c.carry_out.ensures c.args.ask it a stands)
+
+pub carry_out-requires-clause-place : goal.carry_out-requires-clause-place
+carry_out-requires-clause-place c = search rules

@@ -1,4 +1,5 @@
 use Rattle.std.proofs.Common.{◌≡◌, ◌≤◌, length, ap, sym, ◌∙◌, arith}
+use Rattle.std.proofs.lemmas.Grind.{common_steps}
 use Rattle.grow_counters.proofs.CountsLemmas.{rise_count_le}
 use Rattle.writer_notices.specs.Notices.{NoticeState}
 use Rattle.writer_notices.proofs.NoticeLemmas.{IsNotices-joined}
@@ -19,3 +20,6 @@ invariant_of-self c =
 
 pub returns-clause-valid : goal.returns-clause-valid
 returns-clause-valid c = invariant_of-self c
+
+pub returns-clause-notices : goal.returns-clause-notices
+returns-clause-notices c = grind (arith, common_steps)
