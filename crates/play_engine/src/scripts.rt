@@ -100,24 +100,9 @@ fn push_tables(
     if !tables {
         return Ok(());
     }
-    push_seats(alloc, text, world)?;
-    push_sessions(alloc, text, world)
-}
-
-// Writes the table of seats.
-fn push_seats(alloc: Global, text: &mut String, world: &World) -> Result<(), AllocError>
-    ensures { IfOk result (λ _. (m : ModelWorld) → StandsForWorld m world.now
-        → string_bytes text.new ≡ string_bytes text.old ++ seat_table m) }
-{
     let seats = seat_table(alloc, world)?;
-    text.push_str(seats.as_str())
-}
-
-// Writes the table of sessions.
-fn push_sessions(alloc: Global, text: &mut String, world: &World) -> Result<(), AllocError>
-    ensures { IfOk result (λ _. (m : ModelWorld) → StandsForWorld m world.now
-        → string_bytes text.new ≡ string_bytes text.old ++ session_table m) }
-{
     let sessions = session_table(alloc, world)?;
-    text.push_str(sessions.as_str())
+    text.push_str(seats.as_str())?;
+    text.push_str(sessions.as_str())?;
+    Ok(())
 }
