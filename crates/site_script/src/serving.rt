@@ -3,7 +3,6 @@ ghost use Rattle.std.specs.Prelude.{◌≡◌, ◌++◌, ℕ, Bool, List, [], �
 ghost use Rattle.admission_model.specs.Account.{Account};
 ghost use Rattle.admission_core.specs.Core.{is_memory};
 ghost use Rattle.text_input.specs.Lines.{lines_of};
-ghost use Rattle.script_text.specs.Replies.{reply_text};
 ghost use Rattle.desk_log.specs.Desk.{account_of, account_if_kept, is_frozen};
 ghost use Rattle.site_script.specs.declared.lines.Said.{Said as SaidThere};
 ghost use Rattle.site_script.specs.declared.lines.Said.TheVariants.{Asked};
@@ -112,19 +111,12 @@ fn answer_call<K: Keeper>(
         → LosesCall (AnsweredFrom was a left desk.old) (AnsweredFrom was a left desk.new) call.now (string_bytes text.old)) }
 {
     let reply = desk.serve(pass, call);
-    push_answer(text, &reply)
-}
-
-// Writes a reply and LF. Where the reply tells of a want of memory, so is the answer.
-fn push_answer(text: &mut String, reply: &Reply) -> Result<(), AllocError>
-    ensures { IfOk result (λ _. (is_memory reply.now ≡ false)
-        × (string_bytes text.new ≡ (string_bytes text.old ++ reply_text reply.now) ++ codes "\n")) }
-{
-    if is_memory(reply) {
+    if is_memory(&reply) {
         return Err(AllocError);
     }
-    push_reply(text, reply)?;
-    text.push_str("\n")
+    push_reply(text, &reply)?;
+    text.push_str("\n")?;
+    Ok(())
 }
 
 /// Writes the answer to a text that is no delta's, as a line.

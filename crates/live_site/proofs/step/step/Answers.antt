@@ -124,3 +124,9 @@ returns-clause-idle g c = λ a stands current empty.
     subst₂ (λ (r : Reply) (x : ChangeState). is_outdated r ≡ false → x.cells ≡ [] → x.session ≡ None → l ≡ k) c.reply-5.ensures c.change.ensures c.keep_call.ensures.idle in
     left_alone old c.prepare-prepared.new.self c.args.call.now p c.requires.core e.content e.ready e.change k l there
     (idle (ap is_outdated (e.reply there a stands) ∙ current)) a stands empty
+
+pub returns-in-Err-clause-idle : goal.returns-in-Err-clause-idle
+returns-in-Err-clause-idle g c = search rules
+
+pub keep_call-requires-clause-no_fault : goal.keep_call-requires-clause-no_fault
+keep_call-requires-clause-no_fault g c = search rules
