@@ -31,6 +31,7 @@ pub(crate) fn is_fault(reply: &Reply) -> bool
 }
 
 // Whether a reply is the one that a core gave, unless that is want of memory.
+#[inline(always)]
 fn is_same(reply: &Reply, given: Reply) -> Result<bool, AllocError>
     ensures { IfOk result (λ ok. (IsTrue ok ↔ (reply.now ≡ given)) × (is_memory given ≡ false)) }
 {

@@ -292,6 +292,7 @@ impl SiteReplay {
     }
 
     // Takes the own rows, where the cut is here.
+    #[inline(always)]
     fn mark_cut(&mut self, alloc: Global) -> Result<(), AllocError>
         requires { (layout : LayoutState) × (i : ℕ) × (runs : List RunThere) × (e : EntryThere) × (more : List EntryThere) × (later : List RunThere)
             × IsReplaying layout i runs (e ∷ more) later self.old }

@@ -19,6 +19,7 @@ use text_parts::{Unread, after, is_same, short_at};
 
 // The pass of an entry, and the bytes from its reply on.
 #[tactic(auto, unfolding(crate::specs::Readers::pass_behind))]
+#[inline(always)]
 pub(crate) fn pass_behind(bytes: &[u8]) -> Result<(u16, &[u8]), Unread>
     ensures { Gives (λ x. (x.0, x.1.now)) result (pass_behind bytes.now) }
 {
