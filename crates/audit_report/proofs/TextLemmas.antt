@@ -1,7 +1,5 @@
 -- Texts that grow piece by piece.
-use Rattle.std.proofs.Common.{◌≡◌, ℕ, zero, suc, ◌+◌, ◌<◌, List, [], ◌++◌, length, get_or, set, map, refl, sym, ap, ◌∙◌, arith, add-one, Ok, Err}
-use Rattle.std.specs.Prelude.{IfOk, Result, is_ok, if◌then◌else◌}
-use Rattle.std.specs.declared.alloc.AllocError.{AllocError}
+use Rattle.std.proofs.Common.{◌≡◌, ℕ, zero, suc, ◌+◌, ◌<◌, List, [], ◌++◌, length, get_or, set, map, refl, sym, ap, ◌∙◌, arith, add-one}
 use Rattle.std.proofs.lemmas.List.{append_assoc, get_or-map, length-map, map-set}
 use Rattle.audit_report.specs.Lines.{texts_below}
 
@@ -30,9 +28,3 @@ view_with f xs view i j x y more same at is below grown =
     ∙ (ap (λ (ys : List (List ℕ)). set ys j (f y)) same
     ∙ (ap (λ (n : ℕ). set view n (f y)) at
     ∙ ap (set view i) (grown ∙ ap (λ (t : List ℕ). t ++ more) (in_view f xs view j x same is there ∙ ap (λ (n : ℕ). get_or view n []) at))))
-
--- a text that got five pieces
-pub five_pieces : (answer : Result (Unit {0}) AllocError) (old t1 t2 t3 t4 new a b c d e : List ℕ) → t1 ≡ old ++ a → t2 ≡ t1 ++ b → t3 ≡ t2 ++ c → t4 ≡ t3 ++ d
-    → new ≡ (if is_ok answer then t4 ++ e else t4) → IfOk answer (λ _. new ≡ old ++ (a ++ (b ++ (c ++ (d ++ e)))))
-five_pieces (Ok x) old t1 t2 t3 t4 new a b c d e is1 is2 is3 is4 is5 = rw (is5, is4, is3, is2, is1) (simp append_assoc)
-five_pieces (Err x) old t1 t2 t3 t4 new a b c d e is1 is2 is3 is4 is5 = tt

@@ -1,7 +1,4 @@
 ghost use Rattle.std.specs.Prelude.{◌≡◌, ℕ, ◌<◌, ◌++◌, length, string_bytes, IfOk};
-ghost use Rattle.merge_core.specs.Seats.{seat_rights, inside_of, HasSeatRights};
-ghost use Rattle.merge_core.specs.Notices.{open_count};
-ghost use Rattle.merge_core.specs.Book.{seats_at, notices_at};
 ghost use Rattle.multi_site_world.specs.World.{World as ModelWorld};
 ghost use Rattle.multi_site_world.specs.Worlds.{StandsForWorld};
 ghost use Rattle.audit_report.specs.Lines.{texts_below};
@@ -9,7 +6,6 @@ ghost use Rattle.audit_report.specs.Tables.{seat_row, seat_table, session_table}
 
 use crate::lines::{SeatCounts, push_seat_line};
 use crate::sessions::session_lines;
-use merge_core::Book;
 use multi_site_world::World;
 use std::alloc::{AllocError, Global};
 
@@ -50,23 +46,12 @@ fn push_seat_row(text: &mut String, world: &World, r: u16, i: u16) -> Result<(),
 {
     let name = world.layout().records()[usize::from(r)].name.as_str();
     let book = world.core(i).book();
-    push_seat_line(text, name, i, counts_of(book, r, i))
-}
-
-/// What a book counts of a record's seats at a site.
-fn counts_of(book: &Book, r: u16, i: u16) -> SeatCounts
-    requires record { r < length book.now.records }
-    requires site { i < book.now.sites }
-    requires enough { HasSeatRights (seats_at book.now r) i }
-    ensures rights { result.rights ≡ seat_rights (seats_at book.now r) i }
-    ensures inside { result.inside ≡ inside_of (seats_at book.now r) i }
-    ensures unfinished { result.unfinished ≡ open_count (notices_at book.now r) i }
-{
-    SeatCounts {
+    let counts = SeatCounts {
         rights: book.rights(r, i),
         inside: book.inside(r, i),
         unfinished: book.open_at(r, i),
-    }
+    };
+    push_seat_line(text, name, i, counts)
 }
 
 /// Who is at each record and site.
