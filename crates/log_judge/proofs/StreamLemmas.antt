@@ -471,7 +471,6 @@ module _ (layout : LayoutState) (ts : List Transcript) (cut : List ℕ) (i : ℕ
               subst (λ (n : ℕ). AreKept A lists (min n c) new) (sym bound)
               (subst (AreKept A lists (min old.replay.at c)) (sym (unchanged wanted (subst (TakesBack keeping mid new old.replay.at wanted) is_back takes))) (before going guess))
 
-
   -- An entry that is answered by the core's own snapshot brought no rows.
   pub log_shown : (keeping : Keeping) (e : Entry) (more : List Entry) (later : List Run) (old new : SiteLog) (core : Core) → IsLog layout ts cut i keeping (e ∷ more) later old → IsClear core old.replay.stage → IsShownBy core e
       → IsReplaying layout i (runs_at ts i) more later new.replay → new.taken ≡ old.taken → new.dropped ≡ old.dropped → new.replay.stage ≡ old.replay.stage

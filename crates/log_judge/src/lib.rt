@@ -16,3 +16,4 @@ pub mod laws;
 mod stream;
 mod table;
 mod verdict;
+mod wanted;

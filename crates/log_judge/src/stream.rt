@@ -1,8 +1,6 @@
 //! The closed logs of all sites, judged entry by entry as they come.
-ghost use Rattle.std.specs.Prelude.{◌≡◌, ◌≢◌, ◌+◌, ◌<◌, ◌↔◌, ◌∷◌, [], ◌≤◌, ℕ, List, IfOk, IsSome, IsTrue, MatchOption, None, Some, false, true, length, slice_index, string_bytes};
-ghost use Rattle.merge_core.specs.declared.cell.Cell.{Cell as CellThere};
+ghost use Rattle.std.specs.Prelude.{◌≡◌, ◌≢◌, ◌<◌, ◌↔◌, ◌∷◌, [], ℕ, List, IfOk, IsSome, IsTrue, MatchOption, None, Some, false, true, length, slice_index, string_bytes};
 ghost use Rattle.merge_core.specs.Layout.{LayoutState};
-ghost use Rattle.merge_core.specs.Rows.{counter_in, counters_of};
 ghost use Rattle.merge_core.specs.declared.delta.Row.{Row as RowThere};
 ghost use Rattle.admission_model.specs.Account.{Account as AccountThere, own};
 ghost use Rattle.desk_log.specs.declared.entry.Entry.{Entry as EntryThere};
@@ -16,16 +14,17 @@ ghost use Rattle.log_judge.specs.Verdict.{AreOfSites, IsCut, IsVerdict};
 ghost use Rattle.log_judge.specs.Excess.{IsFoundAt};
 ghost use Rattle.log_judge.specs.declared.keeping.Keeping.{Keeping as KeepingThere};
 ghost use Rattle.log_judge.specs.declared.keeping.Keeping.TheVariants.{All as KeepsAll};
-ghost use Rattle.log_judge.specs.Stream.{AreAllLogs, AreDone, AreLogs, AreNotAhead, AreOfSome, AreTables, AreTaken, AtTheirCut, HasNoFault, IsClearAt, IsGuess, IsLog, IsOpen, IsUntold, Keeps, KeepsWithin, Pushes, Takes, TakesBack, TakesKept, TellAll, no_entries};
+ghost use Rattle.log_judge.specs.Stream.{AreAllLogs, AreDone, AreLogs, AreNotAhead, AreOfSome, AreTaken, HasNoFault, IsClearAt, IsGuess, IsLog, IsOpen, IsUntold, Keeps, KeepsWithin, Pushes, Takes, TakesBack, TakesKept, TellAll, no_entries};
 
-use crate::excess::{Place, first_ahead, is_accepted};
+use crate::excess::{Place, first_ahead};
 use crate::keeping::Keeping;
 use crate::table::{push_counts, table_header};
 use crate::verdict::Verdict;
+use crate::wanted::is_wanted;
 use admission_core::{Call, Durable, SiteCore};
 use desk_log::Entry;
 use log_replay::{LogFault, OwnRows, SiteReplay};
-use merge_core::{Delta, Layout, Row};
+use merge_core::{Delta, Layout};
 use std::alloc::{AllocError, Global};
 
 /// A merge that was carried out before the cut and may tell more than its sites had done: the number of its entry, and its
@@ -50,61 +49,6 @@ pub struct SiteLog {
 pub struct Logs {
     pub sites: Vec<SiteLog>,
     pub keeping: Keeping,
-}
-
-// Whether a row may tell more than its site has done at the cut, by what was seen of its log.
-fn is_open(row: &Row, logs: &Logs) -> bool
-    requires { AreOfSome logs.now }
-    ensures { result ≡ false → AtTheirCut logs.now (λ accounts. (cell : CellThere) → counter_in (counters_of row.now) cell ≤ own (accounts row.now.s) row.now.r cell) }
-{
-    let s = usize::from(row.s);
-    if s >= logs.sites.len() {
-        return true;
-    }
-    let log = &logs.sites[s];
-    !log.replay.has_done(row)
-}
-
-// Whether some row does.
-fn some_open(rows: &[Row], logs: &Logs) -> bool
-    requires { AreOfSome logs.now }
-    ensures { result ≡ false → AtTheirCut logs.now (λ accounts. AreDone accounts rows.now) }
-{
-    let mut rest = rows;
-    'rows: while let [row, later @ ..] = rest {
-        if is_open(row, logs) {
-            return true;
-        }
-        rest = later;
-    }
-    false
-}
-
-// Whether an entry is a merge that was carried out, of which some row does.
-fn is_open_merge(entry: &Entry, logs: &Logs) -> bool
-    requires { AreOfSome logs.now }
-    ensures done { result ≡ false → AtTheirCut logs.now (λ accounts. AreDone accounts (rows_brought false entry.now)) }
-    ensures merged { result ≡ true → is_accepted false entry.now.reply ≡ true }
-{
-    if !is_accepted(false, &entry.reply) {
-        return false;
-    }
-    match &entry.call {
-        Call::Merge(delta) => some_open(delta.rows(), logs),
-        _ => false,
-    }
-}
-
-// Whether an entry is a merge that was carried out and may have to be kept. By own rows at the cut that is told later.
-fn is_wanted(entry: &Entry, logs: &Logs) -> bool
-    requires { AreOfSome logs.now }
-    ensures done { result ≡ false → AtTheirCut logs.now (λ accounts. AreDone accounts (rows_brought false entry.now)) }
-    ensures merged { result ≡ true → is_accepted false entry.now.reply ≡ true }
-{
-    match &logs.keeping {
-        Keeping::Above(_) => is_accepted(false, &entry.reply),
-        _ => is_open_merge(entry, logs),
-    }
 }
 
 // Whether an entry of this number is before the cut.

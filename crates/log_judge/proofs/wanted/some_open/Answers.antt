@@ -3,7 +3,7 @@ use Rattle.multi_site_world.specs.Laws.{StandsIn}
 use Rattle.log_replay.proofs.ListLemmas.{parts, none_left}
 use Rattle.log_judge.specs.Cut.{cut_account}
 use Rattle.log_judge.proofs.StreamLemmas.{done_cons}
-use Rattle.log_judge.proofs.stream.some_open.Goals as goal
+use Rattle.log_judge.proofs.wanted.some_open.Goals as goal
 
 pub rows-preserved : goal.rows-preserved
 rows-preserved c = λ layout ts cut more later all done.

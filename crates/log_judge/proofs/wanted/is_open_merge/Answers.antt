@@ -3,7 +3,7 @@ use Rattle.log_judge.specs.Cut.{cut_account}
 use Rattle.log_judge.specs.Stream.{AreDone}
 use Rattle.log_judge.proofs.ExcessLemmas.{brought_merge}
 use Rattle.std.proofs.Common.{false}
-use Rattle.log_judge.proofs.stream.is_open_merge.Goals as goal
+use Rattle.log_judge.proofs.wanted.is_open_merge.Goals as goal
 
 pub returns-in-Merge-clause-done : goal.returns-in-Merge-clause-done
 returns-in-Merge-clause-done c = λ off layout ts cut more later all.

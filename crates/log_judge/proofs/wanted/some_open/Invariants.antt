@@ -5,7 +5,7 @@ use Rattle.desk_log.specs.declared.transcript.Run.{Run}
 use Rattle.desk_log.specs.declared.transcript.Transcript.{Transcript}
 use Rattle.log_judge.specs.Cut.{cut_account}
 use Rattle.log_judge.specs.Stream.{AreDone, AreLogs}
-use Rattle.log_judge.proofs.stream.some_open.Given as goal
+use Rattle.log_judge.proofs.wanted.some_open.Given as goal
 
 abbrev pub invariant-rows : goal.invariant-rows
 invariant-rows l = (layout : LayoutState) (ts : List Transcript) (cut : List ℕ) (more : ℕ → List Entry) (later : ℕ → List Run) → AreLogs layout ts cut more later l.logs
