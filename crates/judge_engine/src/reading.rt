@@ -112,12 +112,7 @@ fn is_snapshot_line(logs: &Logs, site: u16, line: &[u8]) -> bool
 }
 
 // Whether a line is seen to be such an entry, which the last run has more then.
-fn add_snapshot(
-    alloc: Global,
-    logs: &mut Logs,
-    site: u16,
-    line: &[u8],
-) -> Result<bool, AllocError>
+fn add_snapshot(alloc: Global, logs: &mut Logs, site: u16, line: &[u8]) -> Result<bool, AllocError>
     requires { (layout : LayoutState) × (cut : Option (List ℕ)) × (keeping : KeepingThere) × (earlier : List SiteRunThere) × (front : List (List ℕ))
         × Knows layout cut keeping earlier front (Some site) logs.old }
     ensures added { IfOk result (λ added. added ≡ true → (layout : LayoutState) (cut : Option (List ℕ)) (keeping : KeepingThere) (earlier : List SiteRunThere) (front : List (List ℕ))

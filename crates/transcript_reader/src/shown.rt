@@ -104,12 +104,7 @@ fn behind_site<'a>(
 }
 
 // The same of all rows of record `r`.
-fn behind_record<'a>(
-    book: &Book,
-    r: u16,
-    first: bool,
-    bytes: &'a [u8],
-) -> Option<(bool, &'a [u8])>
+fn behind_record<'a>(book: &Book, r: u16, first: bool, bytes: &'a [u8]) -> Option<(bool, &'a [u8])>
     requires { r < length book.now.records }
     ensures { MatchOption result (Unit {0})
         (λ x. BeginsWithRows first (moved_rows (book_shape book.now) (counter_of book.now) r book.now.sites) bytes.now x.0 x.1.now) }
