@@ -1,31 +1,8 @@
--- Literals: what a comparison of the front says, and that a literal is taken exactly where it stands.
-use Rattle.std.proofs.Common.{◌≡◌, ℕ, ◌<◌, Bool, true, false, cond, eqb, nat_eq, List, [], ◌∷◌, ◌++◌, length, take, drop, Option, Some, None, refl, inl, inr, arith}
-use lib.Pointwise.{pointwise}
-use Rattle.std.proofs.lemmas.Bool.{and_parts, and_cases, eqb-true, eq-eqb}
+-- Literals: one is taken exactly where it stands.
+use Rattle.std.proofs.Common.{◌≡◌, ℕ, ◌<◌, Bool, true, false, cond, eqb, List, [], ◌∷◌, ◌++◌, length, Option, Some, None, refl, arith}
+use Rattle.std.proofs.lemmas.Bool.{eqb-true, eq-eqb}
 use Rattle.std.proofs.lemmas.Option.{none-some}
 use Rattle.text_parts.specs.Readers.{◌>>=◌, after}
-
--- the literal stands at the front
-pub after_same : (literal bytes : List ℕ) → pointwise nat_eq (take (length literal) bytes) literal ≡ true → after literal bytes ≡ Some (drop (length literal) bytes)
-after_same [] bytes same = refl
-after_same (c ∷ cs) [] same = absurd (cc)
-after_same (c ∷ cs) (b ∷ bs) same =
-    let parts = and_parts (nat_eq b c) _ same in
-    rw parts.0 (after_same cs bs parts.1)
-
--- another front
-pub after_other : (literal bytes : List ℕ) → pointwise nat_eq (take (length literal) bytes) literal ≡ false → after literal bytes ≡ None
-after_other [] bytes other = absurd (cc)
-after_other (c ∷ cs) [] other = refl
-after_other (c ∷ cs) (b ∷ bs) other =
-    elim (and_cases (nat_eq b c) _ other) [
-      | inl first ↦ rw first refl
-      | inr rest ↦ cases (eqb b c) (after_other cs bs rest)
-    ]
-  where
-    cases : (same : Bool) → after cs bs ≡ None → cond same (after cs bs) None ≡ None
-    cases true none = none
-    cases false none = refl
 
 -- too few bytes
 pub after_short : (literal bytes : List ℕ) → length bytes < length literal → after literal bytes ≡ None
@@ -36,16 +13,6 @@ after_short (c ∷ cs) (b ∷ bs) few = either (eqb b c) (after_short cs bs (ome
     either : (same : Bool) → after cs bs ≡ None → cond same (after cs bs) None ≡ None
     either true none = none
     either false none = refl
-
--- a literal of two parts is taken part by part
-pub after_parts : (front back bytes : List ℕ) → after (front ++ back) bytes ≡ (after front bytes >>= after back)
-after_parts [] back bytes = refl
-after_parts (c ∷ cs) back [] = refl
-after_parts (c ∷ cs) back (b ∷ bs) = both (eqb b c) (after_parts cs back bs)
-  where
-    both : (same : Bool) → after (cs ++ back) bs ≡ (after cs bs >>= after back) → cond same (after (cs ++ back) bs) None ≡ (cond same (after cs bs) None >>= after back)
-    both true e = e
-    both false e = refl
 
 -- a test that did not fail
 pub cond_taken : {A : Type 0} (b : Bool) (o : Option A) (x : A) → cond b o None ≡ Some x → (b ≡ true) × (o ≡ Some x)
