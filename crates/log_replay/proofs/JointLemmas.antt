@@ -1,10 +1,10 @@
 -- The joint between two runs.
 use Rattle.std.proofs.Common.{◌≡◌, ℕ, ◌≤◌, ◌⊎◌, inl, inr, Bool, true, false, List, [], ◌∷◌, Some, None, refl, sym, ap, subst, ◌∙◌, arith}
 use Rattle.std.specs.Prelude.{◌↔◌, IsTrue}
-use Rattle.std.proofs.lemmas.Bool.{cases_Bool, cond-false, cond_both}
+use Rattle.std.proofs.lemmas.Bool.{cases_Bool, cond-false, cond-true, cond_both}
 use Rattle.merge_core.specs.Layout.{LayoutState, at_sites}
 use Rattle.admission_model.specs.Account.{Account, Origin}
-use Rattle.admission_model.specs.Knowledge.{grown}
+use Rattle.admission_model.specs.Knowledge.{grown, restarted}
 use Rattle.admission_model.specs.Reached.{IsReached}
 use Rattle.admission_model.proofs.ServingLemmas.{origin_after, sites_after}
 use Rattle.admission_core.specs.Core.{Core, Stands}
@@ -105,3 +105,25 @@ module _ (b : Account) (left : List Entry) (run : Run) where
         same_test kept run.first (durable_of (tried_at b left)) tells,
         subst (λ (n : ℕ). Stands (grown n a) c) number begun,
       )
+
+-- a run behind one without a call in doubt, at as many sites, begins with what the site leaves, and the site was started again
+pub joint_restarted : (b : Account) (run : Run) (layout : LayoutState) (core c : Core) → Stands b core → FitsNext layout core run.sites → core.layout.sites ≡ run.sites
+    → run.first ≡ durable_of b → Stands (restarted b) c → IsJoint layout core.site b b run (Some (c, true))
+joint_restarted b run layout core c stands next number first again =
+    let same : is_same_part run.first (durable_of b) ≡ true = part_same run.first (durable_of b) first in
+    let here : settled b b run ≡ b = cond-true (is_same_part run.first (durable_of b)) b b same in
+    let knew : core.layout.sites ≡ b.sites = ap (λ (l : LayoutState). l.sites) stands.shows.layout in
+    let fits = next.fits in
+    let begins : Begins layout core.site b run = record {
+      site_there = fits.site_there;
+      no_fewer = omega (arith, knew, next.no_fewer);
+      no_more = fits.no_more;
+      records_fit = fits.records_fit;
+      first_part = first;
+    } in
+    let begun : Stands (grown run.sites b) c = subst (λ (n : ℕ). Stands (grown n b) c) (sym knew ∙ number) again in
+    subst (λ (x : Account). Begins layout core.site x run × (true ≡ is_same_part run.first (durable_of b)) × Stands (grown run.sites x) c) (sym here) (begins, sym same, begun)
+
+-- it begins with another part
+pub joint_unlike : (b : Account) (run : Run) (layout : LayoutState) (i : ℕ) → (¬ (run.first ≡ durable_of b)) → IsJoint layout i b b run None
+joint_unlike b run layout i other = none_first b [] run layout i (other, other)

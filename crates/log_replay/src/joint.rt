@@ -1,6 +1,6 @@
 //! The joint between two runs: whether the later one begins with what the earlier one left.
 ghost use Rattle.std.specs.Prelude.{◌≡◌, ◌↔◌, ◌<◌, ◌≤◌, IfOk, IsTrue, MatchOption, [], List};
-ghost use Rattle.merge_core.specs.Layout.{at_sites};
+ghost use Rattle.merge_core.specs.Layout.{LayoutState, at_sites};
 ghost use Rattle.admission_model.specs.Account.{Account};
 ghost use Rattle.admission_model.specs.Serving.{after};
 ghost use Rattle.admission_core.specs.Core.{Stands};
@@ -88,6 +88,22 @@ fn kept_by(core: SiteCore, left: &[Entry], first: &Durable) -> Result<Option<boo
     Ok(None)
 }
 
+// The core of a run at as many sites as before, behind a run without a call in doubt, if it begins where the site was: it is
+// started again where it is.
+fn restarted_core(core: SiteCore, run: &Run) -> Result<Option<(SiteCore, bool)>, AllocError>
+    requires { core.layout.sites ≡ run.now.sites }
+    ensures { IfOk result (λ found. (layout : LayoutState) (a : Account) → Stands a core → core.layout.records ≡ layout.records → FitsNext layout core run.now.sites
+        → IsJoint layout core.site a a run.now found) }
+{
+    let part = core.durable()?;
+    if !same_durable(&run.first, &part) {
+        return Ok(None);
+    }
+    let mut core = core;
+    core.restart();
+    Ok(Some((core, true)))
+}
+
 /// The core of a run that begins where the site was, and whether the call in doubt was carried out.
 pub(crate) fn begun_core(
     alloc: Global,
@@ -103,6 +119,9 @@ pub(crate) fn begun_core(
     let Some(under) = layout_of_next(alloc, layout, &core, run.sites)? else {
         return Ok(None);
     };
+    if left.is_empty() && core.layout().sites() == run.sites {
+        return restarted_core(core, run);
+    }
     let Some(kept) = kept_by(core, left, &run.first)? else {
         return Ok(None);
     };
