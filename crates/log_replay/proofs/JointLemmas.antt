@@ -123,7 +123,3 @@ joint_restarted b run layout core c stands next number first again =
     } in
     let begun : Stands (grown run.sites b) c = subst (λ (n : ℕ). Stands (grown n b) c) (sym knew ∙ number) again in
     subst (λ (x : Account). Begins layout core.site x run × (true ≡ is_same_part run.first (durable_of b)) × Stands (grown run.sites x) c) (sym here) (begins, sym same, begun)
-
--- it begins with another part
-pub joint_unlike : (b : Account) (run : Run) (layout : LayoutState) (i : ℕ) → (¬ (run.first ≡ durable_of b)) → IsJoint layout i b b run None
-joint_unlike b run layout i other = none_first b [] run layout i (other, other)
