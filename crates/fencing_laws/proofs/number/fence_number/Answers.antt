@@ -1,4 +1,4 @@
-use Rattle.std.proofs.Common.{◌∙◌, ap, ℕ, arith}
+use Rattle.std.proofs.Common.{◌∙◌, ap, ℕ, arith, rules}
 use Rattle.merge_core.specs.declared.cell.Cell.TheVariants.{Fin}
 use Rattle.merge_core.specs.Book.{counter_of}
 use Rattle.merge_core.specs.Layout.{LayoutState}
@@ -12,3 +12,6 @@ returns-clause-world c = λ w reached i below stands.
     c.loop-s.invariant.so_far
     ∙ (ap (λ (n : ℕ). total n (λ k. counter_of core.book c.args.r k Fin)) (omega (arith, ap (λ (l : LayoutState). l.sites) c.layout.ensures))
     ∙ number_in_world core w reached i c.args.r below stands)
+
+pub loop-s-preserved : goal.loop-s-preserved
+loop-s-preserved c = search rules

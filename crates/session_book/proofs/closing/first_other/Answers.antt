@@ -1,5 +1,6 @@
-use Rattle.std.proofs.Common.{rules, ◌≡◌, ℕ, List, length, take, ap, sym, ◌∙◌, subst}
+use Rattle.std.proofs.Common.{rules, arith, ◌≡◌, ℕ, List, length, take, ap, sym, ◌∙◌, subst}
 use Rattle.std.proofs.Math.Seq.{take-length}
+use Rattle.std.proofs.lemmas.Grind.{common_steps}
 use Rattle.session_book.specs.declared.pass.Receipt.{Receipt}
 use Rattle.session_book.specs.Passes.{receipts_of, IsFirstOther}
 use Rattle.session_book.proofs.PassLemmas.{receipts_more, other_receipts, log_first, front_first}
@@ -32,3 +33,6 @@ returns-then-next-receipts-clause-first c =
     ∙ ap (λ (k : ℕ). receipts_of c.args.number (take k c.args.entries.now)) (sym ended)
     ∙ c.entries.invariant.same in
     subst (λ (qs : List Receipt). IsFirstOther qs c.args.receipts.now c.entries.next) (sym all) (front_first c.entries.next c.args.receipts.now c.entries.invariant.within)
+
+pub returns-clause-none : goal.returns-clause-none
+returns-clause-none c = grind (arith, common_steps)

@@ -1,4 +1,4 @@
-use Rattle.std.proofs.Common.{◌≡◌, ◌∷◌, ◌++◌, [], ℕ, ◌+◌, List, Some, subst, map, string_bytes, ap, ◌∙◌, sym, String, Global}
+use Rattle.std.proofs.Common.{◌≡◌, ◌∷◌, ◌++◌, [], ℕ, ◌+◌, List, Some, subst, map, string_bytes, ap, ◌∙◌, sym, String, Global, rules}
 use Rattle.std.proofs.lemmas.List.{map-append}
 use Rattle.ordered_link.specs.Ends.{PutterState}
 use Rattle.exchange_threads.specs.Outbox.{shown_receipt}
@@ -24,3 +24,9 @@ returns-clause-put g c = λ rs n last d right at is.
       c.if-not-put.ensures.finished ∙ unfinished,
       c.if-not-put.ensures.late unfinished ∙ (ap (λ (p : PutterState). p.late) c.in-Ok.ensures.putter ∙ right.3),
     )
+
+pub returns-in_default-clause-memory : goal.returns-in_default-clause-memory
+returns-in_default-clause-memory g c = search rules
+
+pub returns-in_default-clause-kept : goal.returns-in_default-clause-kept
+returns-in_default-clause-kept g c = search rules
