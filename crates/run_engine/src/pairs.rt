@@ -7,7 +7,8 @@ ghost use Rattle.session_book.specs.Sites.{new_passes};
 ghost use Rattle.ordered_link.specs.Rule.{link_capacity};
 ghost use Rattle.run_engine.specs.Rounds.{HasHelped, HaveRounds};
 ghost use Rattle.run_engine.specs.Tasks.{HasCalled};
-ghost use Rattle.run_engine.specs.Runs.{AreSiteRuns, IsClosedWith};
+ghost use Rattle.run_engine.specs.Runs.{AreSiteRuns, IsClosedWith, IsOpenedFor};
+ghost use Rattle.run_engine.specs.Scripts.{asks_of};
 
 use crate::callers::is_logged;
 use crate::script::Asked;
@@ -36,6 +37,13 @@ const ROUND_TURNS: u64 = 15;
 pub struct Work<L: Ledger> {
     caller: Caller<L>,
     end: RuledEnd<L, AlwaysOpen>,
+}
+
+// A site that is open, and what works at it.
+#[derive(Drop)]
+struct Side<L: Opening> {
+    site: Site<MemoryKeeper, L>,
+    work: Work<L>,
 }
 
 /// As [`crate::sites::run_sites`] does, at the two sites of a layout. What arrives at one is a prefix of what the other sent.
@@ -77,31 +85,56 @@ fn run_two_over<L: Opening + Send + Sync, M: Opening + Send + Sync, R: Threads +
     requires few { turns ≤ 1000000000 }
     ensures { IfOk result (λ transcripts. AreSiteRuns layout.now asked.now transcripts.items) }
 {
-    let (site, passes) = opened::<L>(alloc, one, layout.try_copy(alloc)?, 0, PASSES)?;
-    let mut work = work_of(passes, asks_of(alloc, 0, asked)?)?;
-    let (peer, passes) = opened::<M>(alloc, other, layout.try_copy(alloc)?, 1, PASSES)?;
-    let mut peer_work = work_of(passes, asks_of(alloc, 1, asked)?)?;
-    work_both(rt, alloc, &site, &peer, &mut work, &mut peer_work, turns)?;
-    let first = close_work(rt, alloc, site, work)?;
-    let second = close_work(rt, alloc, peer, peer_work)?;
-    let mut transcripts = Vec::new(alloc);
-    transcripts.push(first)?;
-    transcripts.push(second)?;
+    let mut side = side_of::<L>(alloc, one, layout, 0, asked)?;
+    let mut peer = side_of::<M>(alloc, other, layout, 1, asked)?;
+    work_both(
+        rt,
+        alloc,
+        &side.site,
+        &peer.site,
+        &mut side.work,
+        &mut peer.work,
+        turns,
+    )?;
+    let first = close_side(rt, alloc, side)?;
+    let second = close_side(rt, alloc, peer)?;
+    let transcripts = vec![in alloc; first, second]?;
     Ok(transcripts)
 }
 
+// One of two sites: it is open, and its caller is to ask of it what the script does.
+fn side_of<L: Opening>(
+    alloc: Global,
+    blank: Blank,
+    layout: &Layout,
+    number: u16,
+    asked: &[Asked],
+) -> Result<Side<L>, AllocError>
+    requires name { blank.name ≡ L.name }
+    requires parts { blank.parts ≡ L.parts }
+    requires unknown { (d : DurableState) → ¬ L.kept d }
+    requires one_each { blank.parts ≡ 3 }
+    ensures opened { IfOk result (λ side. IsOpenedFor layout.now number 3 side.site (new_passes 3)) }
+    ensures pass { IfOk result (λ side. side.work.caller.pass ≡ new_pass 0) }
+    ensures asks { IfOk result (λ side. side.work.caller.asks.items ≡ asks_of number asked.now) }
+{
+    let (site, passes) = opened::<L>(alloc, blank, layout.try_copy(alloc)?, number, PASSES)?;
+    let asks = asks_of(alloc, number, asked)?;
+    let work = work_of(passes, asks);
+    Ok(Side { site, work })
+}
+
 // What is to work with the passes of a site: its caller with pass 0, and the ends of its links.
-fn work_of<L: Opening>(passes: Vec<Pass<L>>, asks: Vec<Ask>) -> Result<Work<L>, AllocError>
+fn work_of<L: Opening>(passes: Vec<Pass<L>>, asks: Vec<Ask>) -> Work<L>
     requires { passes.items ≡ new_passes 3 }
-    ensures pass { IfOk result (λ work. work.caller.pass ≡ new_pass 0) }
-    ensures asks { IfOk result (λ work. work.caller.asks ≡ asks) }
+    ensures pass { result.caller.pass ≡ new_pass 0 }
+    ensures asks { result.caller.asks ≡ asks }
 {
     let mut passes = passes;
-    let (Some(in_pass), Some(out_pass), Some(pass)) = (passes.pop(), passes.pop(), passes.pop())
-    else {
-        return Err(AllocError);
-    };
-    Ok(Work {
+    let in_pass = passes.pop().unwrap();
+    let out_pass = passes.pop().unwrap();
+    let pass = passes.pop().unwrap();
+    Work {
         caller: Caller {
             pass,
             asks,
@@ -112,7 +145,7 @@ fn work_of<L: Opening>(passes: Vec<Pass<L>>, asks: Vec<Ask>) -> Result<Work<L>, 
             in_pass,
             gate: AlwaysOpen,
         },
-    })
+    }
 }
 
 // Runs the callers of both sites and both links, a thread for each. `Err` where memory was refused for a link.
@@ -250,23 +283,20 @@ fn call_both<
 }
 
 // Closes a site, where each of its caller's replies was logged: what it leaves.
-fn close_work<L: Opening, R: Wait>(
+fn close_side<L: Opening, R: Wait>(
     rt: &R,
     alloc: Global,
-    site: Site<MemoryKeeper, L>,
-    work: Work<L>,
+    side: Side<L>,
 ) -> Result<Transcript, AllocError>
-    ensures closed { IfOk result (IsClosedWith site work.caller.pass) }
-    ensures answered { OnOk result (work.caller.answered ≡ true) }
+    ensures closed { IfOk result (IsClosedWith side.site side.work.caller.pass) }
+    ensures answered { OnOk result (side.work.caller.answered ≡ true) }
 {
+    let Side { site, work } = side;
     let Work { caller, end } = work;
     if !caller.answered {
         return Err(AllocError);
     }
-    let mut passes = Vec::with_capacity(alloc, 3)?;
-    passes.push(end.out_pass)?;
-    passes.push(end.in_pass)?;
-    passes.push(caller.pass)?;
+    let passes = vec![in alloc; end.out_pass, end.in_pass, caller.pass]?;
     match site.close(rt, passes) {
         Ok((transcript, _keeper)) => Ok(transcript),
         Err(_) => Err(AllocError),

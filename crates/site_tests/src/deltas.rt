@@ -71,25 +71,38 @@ fn changed(alloc: Global, text: &str, old: &str, new: &str) -> Result<String, Al
     Ok(all)
 }
 
-fn small(value: Option<&Value>) -> Option<u16> {
-    u16::try_from(value?.as_u64()?).ok()
+// The number under a name.
+fn number(value: &Value, name: &str) -> Option<u64> {
+    value.get(name)?.as_u64()
 }
 
-fn counters_of(alloc: Global, value: &Value) -> Option<Vec<u64>> {
+fn small(value: &Value, name: &str) -> Option<u16> {
+    u16::try_from(number(value, name)?).ok()
+}
+
+// The counters under the name `out`.
+fn counters_of(alloc: Global, value: &Value) -> Option<Counts> {
     let mut counters = Vec::new(alloc);
-    for counter in value.as_array()? {
+    for counter in value.get("out")?.as_array()? {
         counters.push(counter.as_u64()?).ok()?;
     }
-    Some(counters)
+    Some(Counts::from_vec(counters))
+}
+
+// The numbers under these names.
+fn numbers(value: &Value) -> Option<[u64; 3]> {
+    Some([
+        number(value, "taken")?,
+        number(value, "ann")?,
+        number(value, "fin")?,
+    ])
 }
 
 fn row_of(alloc: Global, value: &Value) -> Option<Row> {
-    let r = small(value.get("r"))?;
-    let s = small(value.get("s"))?;
-    let taken = value.get("taken")?.as_u64()?;
-    let ann = value.get("ann")?.as_u64()?;
-    let fin = value.get("fin")?.as_u64()?;
-    let out = Counts::from_vec(counters_of(alloc, value.get("out")?)?);
+    let r = small(value, "r")?;
+    let s = small(value, "s")?;
+    let [taken, ann, fin] = numbers(value)?;
+    let out = counters_of(alloc, value)?;
     Some(Row {
         r,
         s,
@@ -101,7 +114,7 @@ fn row_of(alloc: Global, value: &Value) -> Option<Row> {
 }
 
 fn delta_of(alloc: Global, value: &Value) -> Option<Delta> {
-    let from = small(value.get("from"))?;
+    let from = small(value, "from")?;
     let mut rows = Vec::new(alloc);
     for row in value.get("rows")?.as_array()? {
         rows.push(row_of(alloc, row)?).ok()?;
