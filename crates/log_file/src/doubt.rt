@@ -4,7 +4,7 @@ ghost use Rattle.desk_log.specs.declared.entry.Entry.{Entry as EntryThere};
 ghost use Rattle.log_file.specs.Runs.{EndsWith, HasNoLast, in_doubt};
 ghost use Rattle.log_file.specs.Mending.{entry_line};
 
-use admission_core::{Refusal, Reply};
+use admission_core::{Call, Refusal, Reply};
 use desk_log::{Entry, Run};
 use merge_core::Layout;
 use std::alloc::{AllocError, Global};
@@ -23,13 +23,9 @@ pub(crate) fn doubted_line(
     let Some(last) = last_entry(runs) else {
         return Ok(None);
     };
-    let entry = Entry {
-        pass: last.pass,
-        call: last.call.try_copy(alloc)?,
-        reply: Reply::Refused(Refusal::StoreFault),
-    };
+    let doubted = Reply::Refused(Refusal::StoreFault);
     let mut text = String::new(alloc);
-    push_line(alloc, &mut text, layout, &entry)?;
+    push_line(alloc, &mut text, layout, last.pass, &last.call, &doubted)?;
     Ok(Some(text))
 }
 
@@ -42,15 +38,18 @@ fn last_entry(runs: &[Run]) -> Option<&Entry>
     Some(entry)
 }
 
-/// Writes the line of an entry, with its LF.
+/// Writes the line of an entry, which is this pass with its call and the reply, with its LF.
 pub(crate) fn push_line(
     alloc: Global,
     text: &mut String,
     layout: &Layout,
-    entry: &Entry,
+    pass: u16,
+    call: &Call,
+    reply: &Reply,
 ) -> Result<(), AllocError>
-    ensures { IfOk result (λ _. string_bytes text.new ≡ string_bytes text.old ++ entry_line layout.now entry.now) }
+    ensures { IfOk result (λ _. string_bytes text.new ≡ string_bytes text.old ++ entry_line layout.now
+        (record { pass = pass; call = call.now; reply = reply.now })) }
 {
-    push_entry(alloc, text, layout, entry)?;
+    push_entry(alloc, text, layout, pass, call, reply)?;
     text.push_str("\n")
 }

@@ -6,7 +6,6 @@ ghost use Rattle.log_file.specs.Mending.{entry_line};
 use crate::doubt::push_line;
 use crate::file::LogFile;
 use admission_core::{Call, Reply};
-use desk_log::Entry;
 use live_site::{CallLog, LogFault};
 use merge_core::Layout;
 use std::alloc::{AllocError, Global};
@@ -79,7 +78,7 @@ impl<F: LogFile> FileLog<F> {
     }
 }
 
-// Has a text be the line of a call and its reply. Copies both for the time of the call.
+// Has a text be the line of a call and its reply, of which neither is copied.
 fn write_line(
     alloc: Global,
     line: &mut String,
@@ -89,13 +88,8 @@ fn write_line(
 ) -> Result<(), AllocError>
     ensures { IfOk result (λ _. string_bytes line.new ≡ entry_line layout.now (entry_of call.now reply.now)) }
 {
-    let entry = Entry {
-        pass: 0,
-        call: call.try_copy(alloc)?,
-        reply: reply.try_copy(alloc)?,
-    };
     line.clear();
-    push_line(alloc, line, layout, &entry)
+    push_line(alloc, line, layout, 0, call, reply)
 }
 
 impl<F: LogFile> CallLog for FileLog<F> {

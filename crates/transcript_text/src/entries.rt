@@ -4,6 +4,7 @@ ghost use Rattle.transcript_text.specs.Texts.{entry_text, entries_text};
 
 use crate::asks::push_call;
 use crate::quoted::push_escaped;
+use admission_core::{Call, Reply};
 use desk_log::Entry;
 use merge_core::Layout;
 use script_text::push_reply;
@@ -30,18 +31,21 @@ impl Parts {
     }
 }
 
-/// Writes the line of an entry, without its LF. Linear in its text. Where memory for the text of its call or of its reply
-/// runs out, nothing is written.
+/// Writes the line of an entry, which is this pass with its call and the reply, without its LF. Linear in its text. Where
+/// memory for the text of the call or of the reply runs out, nothing is written.
 pub fn push_entry(
     alloc: Global,
     text: &mut String,
     layout: &Layout,
-    entry: &Entry,
+    pass: u16,
+    call: &Call,
+    reply: &Reply,
 ) -> Result<(), AllocError>
-    ensures { IfOk result (λ _. string_bytes text.new ≡ string_bytes text.old ++ entry_text layout.now.records entry.now) }
+    ensures { IfOk result (λ _. string_bytes text.new ≡ string_bytes text.old ++ entry_text layout.now.records
+        (record { pass = pass; call = call.now; reply = reply.now })) }
 {
     let mut parts = Parts::new(alloc);
-    push_through(&mut parts, text, layout, entry)
+    push_through(&mut parts, text, layout, pass, call, reply)
 }
 
 // The same: the call and the reply are first written into `parts`.
@@ -49,17 +53,20 @@ fn push_through(
     parts: &mut Parts,
     text: &mut String,
     layout: &Layout,
-    entry: &Entry,
+    pass: u16,
+    call: &Call,
+    reply: &Reply,
 ) -> Result<(), AllocError>
-    ensures { IfOk result (λ _. string_bytes text.new ≡ string_bytes text.old ++ entry_text layout.now.records entry.now) }
+    ensures { IfOk result (λ _. string_bytes text.new ≡ string_bytes text.old ++ entry_text layout.now.records
+        (record { pass = pass; call = call.now; reply = reply.now })) }
 {
     parts.call.clear();
-    push_call(&mut parts.call, layout, &entry.call)?;
+    push_call(&mut parts.call, layout, call)?;
     parts.reply.clear();
-    push_reply(&mut parts.reply, &entry.reply)?;
+    push_reply(&mut parts.reply, reply)?;
     text.push_str("{\"call\":\"")?;
     push_escaped(text, parts.call.as_str())?;
-    push_field(text, "\",\"pass\":", u64::from(entry.pass))?;
+    push_field(text, "\",\"pass\":", u64::from(pass))?;
     text.push_str(",\"reply\":\"")?;
     push_escaped(text, parts.reply.as_str())?;
     text.push_str("\"}")?;
@@ -75,7 +82,7 @@ fn push_line(
 ) -> Result<(), AllocError>
     ensures { IfOk result (λ _. string_bytes text.new ≡ string_bytes text.old ++ (entry_text layout.now.records entry.now ++ codes "\n")) }
 {
-    push_through(parts, text, layout, entry)?;
+    push_through(parts, text, layout, entry.pass, &entry.call, &entry.reply)?;
     text.push_str("\n")
 }
 
