@@ -23,13 +23,13 @@ use Rattle.admission_model.proofs.LeastLemmas.{least_below-none, least_below-som
 use Rattle.admission_core.proofs.JoiningLemmas.{reason-accepted}
 use Rattle.multi_site_world.specs.declared.event.Event.{Event}
 use Rattle.multi_site_world.specs.declared.event.Event.TheVariants.{Take, Thin}
-use Rattle.multi_site_world.specs.Laws.{IsReachedWorld}
 use Rattle.multi_site_world.specs.World.{World, account_at, happens, place_of, thin_message, with_account, world_here, world_taken}
-use Rattle.multi_site_world.proofs.EventLemmas.{sound_happens, sound_reached as sound_world_reached}
+use Rattle.multi_site_world.proofs.EventLemmas.{sound_happens}
 use Rattle.multi_site_world.proofs.FamilyLemmas.{conserved, same_seats, same_shown}
 use Rattle.multi_site_world.proofs.LawLemmas.{sent_before}
-use Rattle.multi_site_world.proofs.ReachedLemmas.{all_reached}
 use Rattle.multi_site_world.proofs.WorldLemmas.{IsSoundWorld, same_account}
+use Rattle.rebuild_laws.specs.Groups.{IsRebuiltWorld}
+use Rattle.rebuild_laws.proofs.RebuildLaw.{rebuilt_reached, sound_rebuilt_world}
 use Rattle.live_site.specs.Overfull.{Fits, given, gives_too_much, lacking}
 
 -- a delta that nothing refuses, at an account that steps lead to
@@ -138,20 +138,20 @@ fits_sound w i delta sound below reached next free = none_below (length a.origin
         (omega (arith, kept, mine, here, seats, rights_after (account_at w i) reached delta free r there))
 
 -- the same of an event that brings the delta
-fits_event : (w : World) (i : ℕ) (delta : DeltaState) (event : Event) → IsReachedWorld w → i < w.layout.sites → place_of event ≡ i
+fits_event : (w : World) (i : ℕ) (delta : DeltaState) (event : Event) → IsRebuiltWorld w → i < w.layout.sites → place_of event ≡ i
     → world_here w event ≡ world_taken w i (Some delta) → Fits (account_at w i) (Merge delta)
 fits_event w i delta event is below place here =
-    let sound = sound_world_reached w is in
+    let sound = sound_rebuilt_world w is in
     let lower : place_of event < length w.sites = omega (arith, sound.number, below, place) in
     let taken : happens w event ≡ world_taken w i (Some delta) = cond-true (ltb (place_of event) (length w.sites)) (world_here w event) w (lt_ltb lower) ∙ here in
-    fits_sound w i delta sound below (all_reached w is i below) (subst IsSoundWorld taken (sound_happens w event sound))
+    fits_sound w i delta sound below (rebuilt_reached w is i below) (subst IsSoundWorld taken (sound_happens w event sound))
   where
     lt_ltb : place_of event < length w.sites → ltb (place_of event) (length w.sites) ≡ true
     lt_ltb lower = lt-ltb (place_of event) (length w.sites) lower
 
-pub fits_message : (w : World) → IsReachedWorld w → (i k : ℕ) → i < w.layout.sites → (delta : DeltaState) → slice_get w.sent k ≡ Some delta → Fits (account_at w i) (Merge delta)
+pub fits_message : (w : World) → IsRebuiltWorld w → (i k : ℕ) → i < w.layout.sites → (delta : DeltaState) → slice_get w.sent k ≡ Some delta → Fits (account_at w i) (Merge delta)
 fits_message w is i k below delta there = fits_event w i delta (Take i k) is below refl (ap (world_taken w i) there)
 
-pub fits_thin : (w : World) → IsReachedWorld w → (i k l : ℕ) → i < w.layout.sites → (delta : DeltaState) → thin_message (slice_get w.sent k) (slice_get w.sent l) ≡ Some delta
+pub fits_thin : (w : World) → IsRebuiltWorld w → (i k l : ℕ) → i < w.layout.sites → (delta : DeltaState) → thin_message (slice_get w.sent k) (slice_get w.sent l) ≡ Some delta
     → Fits (account_at w i) (Merge delta)
 fits_thin w is i k l below delta there = fits_event w i delta (Thin i k l) is below refl (ap (world_taken w i) there)

@@ -6,8 +6,8 @@ ghost use Rattle.admission_model.specs.Account.{Account};
 ghost use Rattle.admission_model.specs.Reached.{IsReached};
 ghost use Rattle.admission_model.specs.Serving.{after, reason};
 ghost use Rattle.admission_model.specs.View.{rights_of, view_of};
-ghost use Rattle.multi_site_world.specs.Laws.{IsReachedWorld};
 ghost use Rattle.multi_site_world.specs.World.{World, account_at, thin_message};
+ghost use Rattle.rebuild_laws.specs.Groups.{IsRebuiltWorld};
 ghost use Rattle.live_site.specs.Overfull.{Fits, given};
 
 /// A delta that is merged adds to the site's rights what it is said to give.
@@ -17,10 +17,10 @@ pub fn given_law()
 {}
 
 /// In a world of sites that tell what they did, no message gives a site more rights to a record than the record has
-/// seats, whole or thin: there a delta is never refused for that.
+/// seats, whole or thin, also where sites were lost and built again: there a delta is never refused for that.
 pub fn fitting_law()
-    ensures message { (w : World) → IsReachedWorld w → (i k : ℕ) → i < w.layout.sites → (delta : DeltaState)
+    ensures message { (w : World) → IsRebuiltWorld w → (i k : ℕ) → i < w.layout.sites → (delta : DeltaState)
         → slice_get w.sent k ≡ Some delta → Fits (account_at w i) (Merge delta) }
-    ensures thin { (w : World) → IsReachedWorld w → (i k l : ℕ) → i < w.layout.sites → (delta : DeltaState)
+    ensures thin { (w : World) → IsRebuiltWorld w → (i k l : ℕ) → i < w.layout.sites → (delta : DeltaState)
         → thin_message (slice_get w.sent k) (slice_get w.sent l) ≡ Some delta → Fits (account_at w i) (Merge delta) }
 {}
