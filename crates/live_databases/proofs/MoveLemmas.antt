@@ -59,20 +59,20 @@ module _ {S : Type 0} (g : Device S) (layout : LayoutState) (i : ℕ) (name : Li
   -- the move was refused
   pub refused_move : (j : ℕ) (error : KeeperError) (ended : ServiceEnd) → j ≡ i → ended ≡ unloaded_end error
       → ((it : Stored) → KeepsContent k it → KeepsContent l it)
-      → (error ≡ keeping.StoreFault → faults_of m ≡ 1)
+      → (error ≡ keeping.StoreFault → faults_of m ≡ 1) → (error ≡ keeping.Memory → faults_of m ≡ 0)
       → ((it : Stored) → KeepsContent l it → error ≡ keeping.Memory → KeepsContent m it)
       → ((it : Stored) → KeepsContent l it → error ≡ keeping.StoreFault → KeepsEither g (below m) it (with_site (site_text j (Some name)) it))
       → ((others : Database) → KeepsBeside g (below k) others → KeepsBeside g (below l) others)
       → ((it : Stored) (others : Database) → KeepsContent l it → KeepsBeside g (below l) others → KeepsBeside g (below m) others)
       → MovesNot layout i name k m ended
-  refused_move j keeping.Memory ended same is content fault memory doubt beside next_beside = record {
-    why = inl (record { error = keeping.Memory; is_ended = is; fault = fault });
+  refused_move j keeping.Memory ended same is content fault no_fault memory doubt beside next_beside = record {
+    why = inl (record { error = keeping.Memory; is_ended = is; fault = fault; no_fault = no_fault });
     content = λ it keeps none. memory it (content it keeps) refl;
     either = λ it keeps. kept_either it (moved_content i name it) (memory it (content it keeps) refl);
     beside = λ it others keeps there. next_beside it others (content it keeps) (beside others there);
   }
-  refused_move j keeping.StoreFault ended same is content fault memory doubt beside next_beside = record {
-    why = inl (record { error = keeping.StoreFault; is_ended = is; fault = fault });
+  refused_move j keeping.StoreFault ended same is content fault no_fault memory doubt beside next_beside = record {
+    why = inl (record { error = keeping.StoreFault; is_ended = is; fault = fault; no_fault = no_fault });
     content = λ it keeps none. let one = fault refl in absurd (omega (arith, one, none));
     either = λ it keeps. either_at j it same (doubt it (content it keeps) refl);
     beside = λ it others keeps there. next_beside it others (content it keeps) (beside others there);
@@ -91,6 +91,10 @@ module _ {S : Type 0} (g : Device S) (layout : LayoutState) (i : ℕ) (name : Li
 -- want of memory is no fault
 pub memory_is_none : {P : Type 0} → keeping.Memory ≡ keeping.StoreFault → P
 memory_is_none is = cc
+
+-- .. nor is a refusal for it one for a fault
+pub memory_no_fault : {A P : Type 0} (r : Result A KeeperError) → r ≡ Err keeping.Memory → r ≡ Err keeping.StoreFault → P
+memory_no_fault r is same = cc
 
 -- an answer that went well is no refusal
 pub ok_is_none : {A E P : Type 0} (x : A) (e : E) → Ok x ≡ Err e → P

@@ -91,6 +91,7 @@ module _ {S : Type 0} {g : Device S} where
     pub error : KeeperError
     pub is_ended : ended ≡ unloaded_end error
     pub fault : error ≡ keeping.StoreFault → faults_of m ≡ 1
+    pub no_fault : error ≡ keeping.Memory → faults_of m ≡ 0
 
   -- .. or what it gave back begins no site
   pub record BeginsNone (layout : LayoutState) (i : ℕ) (k m : SqlKeeper S g) (ended : ServiceEnd) : Type 0 where

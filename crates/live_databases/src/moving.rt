@@ -14,13 +14,13 @@ ghost use Rattle.site_store.specs.Sql.{KeepsContent, KeepsPart, below, site_of};
 ghost use Rattle.live_databases.specs.Moves.{EndsForeign, EndsRefused, HasMoved, IsNotMoved, Moves, MovesNot, TellsNone, TellsWhole, foreign_end, unfit_end};
 
 use crate::service_end::{Absence, ServiceEnd};
-use crate::serving::{refused_store, unloaded};
+use crate::serving::{Service, open_keeper, refused_store, unloaded};
 use admission_core::{RestoreError, SiteCore};
 use exit_status::{Status, StoreRefusal};
 use group_names::{is_group_name, next_name};
 use layout_file::LayoutFault;
 use merge_core::Layout;
-use serve_engine::moved_text;
+use serve_engine::{Marking, moved_text};
 use site_store::{Permission, ServedError, SqlKeeper, is_ungrouped};
 use sqlite::{Alter, Connection};
 use std::alloc::{AllocError, Global};
@@ -50,18 +50,16 @@ pub fn regroup_over<S: Alter + Drop>(
         Ok(None) => return (Err(ServiceEnd::Absent(Absence::LastGeneration)), connection),
         Err(AllocError) => return (Err(ServiceEnd::Ended(Status::Memory)), connection),
     };
-    let permission = Permission {
-        create: false,
-        grow: false,
-    };
-    let (mut keeper, _made) = match SqlKeeper::open_served(
-        alloc,
-        connection,
-        &layout,
+    let service = Service {
         site,
-        Some(group),
-        permission,
-    ) {
+        group: Some(group),
+        marking: Marking::Marked,
+        permission: Permission {
+            create: false,
+            grow: false,
+        },
+    };
+    let (mut keeper, _made) = match open_keeper(alloc, connection, &layout, service) {
         Ok(opened) => opened,
         Err((error, connection)) => {
             let (ended, connection) = end_refused(alloc, error, connection, site);

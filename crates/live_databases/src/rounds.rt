@@ -7,7 +7,7 @@ ghost use Rattle.live_databases.specs.Services.{served_by};
 use crate::databases::{Beginning, Opening, open_in_time};
 use crate::places::StoreFile;
 use crate::service_end::ServiceEnd;
-use crate::serving::{Service, refused_store};
+use crate::serving::{Service, open_keeper, refused_store};
 use line_conversation::RoundConversation;
 use live_site::StorePlace;
 use merge_core::Layout;
@@ -31,15 +31,7 @@ pub fn serve_rounds_over<S: Alter + Drop, C: RoundConversation, P: StorePlace>(
     ensures { RoundsOver S.Store ⟦<SqlKeeper<S> as Keeper>⟧ C.Conversation most layout (served_by service.entry) connection result.1
         conversation.old conversation.new result.0 }
 {
-    let Service {
-        site,
-        group,
-        marking,
-        permission,
-    } = service;
-    let (keeper, _made) = match SqlKeeper::open_served(
-        alloc, connection, &layout, site, group, permission,
-    ) {
+    let (keeper, _made) = match open_keeper(alloc, connection, &layout, service) {
         Ok(opened) => opened,
         Err((error, connection)) => return (refused_store(error), connection),
     };
@@ -47,9 +39,9 @@ pub fn serve_rounds_over<S: Alter + Drop, C: RoundConversation, P: StorePlace>(
         alloc,
         keeper,
         layout,
-        site,
-        group,
-        marking,
+        service.site,
+        service.group,
+        service.marking,
         most as usize,
         conversation,
         place,

@@ -1,6 +1,8 @@
 //! A service over a database, whatever this lies on.
-ghost use Rattle.std.specs.Prelude.{◌≡◌, false};
+ghost use Rattle.std.specs.Prelude.{◌≡◌, false, option_copied, IfErr, IfOk};
+ghost use Rattle.site_store.specs.Opened.{IsKeeperOf};
 ghost use Rattle.live_databases.specs.Services.{served_by};
+ghost use Rattle.live_databases.specs.ServedStores.{OpensServed};
 ghost use Rattle.live_databases.specs.LiveStores.{ServesOver, LogsOver, unloaded_end, unlogged_end};
 ghost use Rattle.live_databases.specs.Endings.{refused_store};
 
@@ -30,6 +32,29 @@ pub struct Service<'a> {
     pub permission: Permission,
 }
 
+/// Opens the store of a site for a service, in a database in which no transaction is open, and tells whether this call made
+/// it. A refusal hands the database back.
+pub(crate) fn open_keeper<S: Alter>(
+    alloc: Global,
+    connection: Connection<S>,
+    layout: &Layout,
+    service: Service<'_>,
+) -> Result<(SqlKeeper<S>, bool), (ServedError, Connection<S>)>
+    requires { connection.in_transaction ≡ false }
+    ensures keeper { IfOk result (λ x. IsKeeperOf layout.now service.entry.site (option_copied service.entry.group) x.0) }
+    ensures opened { OpensServed S.Store layout.now (served_by service.entry) connection result }
+    ensures idle { IfErr result (λ x. x.1.in_transaction ≡ false) }
+{
+    SqlKeeper::open_served(
+        alloc,
+        connection,
+        layout,
+        service.site,
+        service.group,
+        service.permission,
+    )
+}
+
 /// Serves a site over a database in which no transaction is open, and hands the database back. The place is where the
 /// database lies.
 pub fn serve_live_over<S: Alter + Drop, C: Conversation, L: CallLog, P: StorePlace>(
@@ -45,15 +70,7 @@ pub fn serve_live_over<S: Alter + Drop, C: Conversation, L: CallLog, P: StorePla
     ensures { ServesOver S.Store ⟦<SqlKeeper<S> as Keeper>⟧ C.Conversation L.CallLog layout (served_by service.entry) connection result.1
         conversation.old conversation.new log.old log.new result.0 }
 {
-    let Service {
-        site,
-        group,
-        marking,
-        permission,
-    } = service;
-    let (keeper, _made) = match SqlKeeper::open_served(
-        alloc, connection, &layout, site, group, permission,
-    ) {
+    let (keeper, _made) = match open_keeper(alloc, connection, &layout, service) {
         Ok(opened) => opened,
         Err((error, connection)) => return (refused_store(error), connection),
     };
@@ -61,9 +78,9 @@ pub fn serve_live_over<S: Alter + Drop, C: Conversation, L: CallLog, P: StorePla
         alloc,
         keeper,
         layout,
-        site,
-        group,
-        marking,
+        service.site,
+        service.group,
+        service.marking,
         conversation,
         log,
         place,
@@ -111,16 +128,8 @@ pub fn serve_logged_over<
     ensures { LogsOver S.Store ⟦<SqlKeeper<S> as Keeper>⟧ R.File.ExclusiveFile R.File.Read.remaining R.File.Write.contents C.Conversation ⟦<FileLog<SystemFile<R::File>> as CallLog>⟧ layout
         (served_by service.entry) connection result.2 conversation.old conversation.new result.1 result.0 }
 {
-    let Service {
-        site,
-        group,
-        marking,
-        permission,
-    } = service;
     let alloc = rt.alloc();
-    let (mut keeper, made) = match SqlKeeper::open_served(
-        alloc, connection, &layout, site, group, permission,
-    ) {
+    let (mut keeper, made) = match open_keeper(alloc, connection, &layout, service) {
         Ok(opened) => opened,
         Err((error, connection)) => return (refused_store(error), false, connection),
     };
@@ -128,7 +137,7 @@ pub fn serve_logged_over<
         Ok(first) => first,
         Err(error) => return (unloaded(error), made, keeper.into_connection()),
     };
-    let mut log = match open_log(rt, path, &layout, site, &first) {
+    let mut log = match open_log(rt, path, &layout, service.site, &first) {
         Ok(log) => log,
         Err(error) => return (unlogged(error), made, keeper.into_connection()),
     };
@@ -136,9 +145,9 @@ pub fn serve_logged_over<
         alloc,
         keeper,
         layout,
-        site,
-        group,
-        marking,
+        service.site,
+        service.group,
+        service.marking,
         conversation,
         &mut log,
         place,

@@ -1,7 +1,7 @@
 use Rattle.std.proofs.Common.{◌≡◌, Result, Err, ap, ◌∙◌}
 use Rattle.durable_keeper.specs.declared.error.KeeperError.{KeeperError}
 use Rattle.site_store.specs.Sql.{faults_of}
-use Rattle.live_databases.proofs.MoveLemmas.{has_moved, ok_is_none, refused_move, untold_move}
+use Rattle.live_databases.proofs.MoveLemmas.{has_moved, memory_no_fault, ok_is_none, refused_move, untold_move}
 use Rattle.live_databases.proofs.moving.move_told.Goals as goal
 
 abbrev error : KeeperError → Result (Unit {0}) KeeperError
@@ -25,6 +25,7 @@ returns-in-Err-move_to_group g c =
     refused_move g.S.Store c.args.layout c.args.site c.args.name.now c.args.keeper.now c.whole_text.new.keeper c.move_to_group.new.self _ c.in-Err-move_to_group.error _
     (wrote.same_site ∙ c.requires.its_site) c.unloaded.ensures wrote.content
     (λ is. c.in-Err-move_to_group.ensures.told (ap error is))
+    (λ is. c.in-Err-move_to_group.ensures.sound (λ same. memory_no_fault (error c.in-Err-move_to_group.error) (ap error is) same))
     (λ it keeps is. c.in-Err-move_to_group.ensures.memory it keeps (ap error is))
     (λ it keeps is. c.in-Err-move_to_group.ensures.doubt it keeps (ap error is))
     wrote.beside c.move_to_group.ensures.beside

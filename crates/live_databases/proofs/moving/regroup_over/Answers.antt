@@ -4,8 +4,7 @@ use Rattle.group_names.specs.Names.{next_name}
 use Rattle.live_databases.specs.declared.service_end.ServiceEnd.{ServiceEnd}
 use Rattle.admission_core.specs.Kept.{DurableState}
 use Rattle.site_store.specs.Content.{durable_in}
-use Rattle.live_databases.specs.Moves.{HasMoved, IsNotMoved, Moves, MovesNot, moving, whole_text}
-use Rattle.live_databases.specs.ServedStores.{OpensServed}
+use Rattle.live_databases.specs.Moves.{HasMoved, IsNotMoved, Moves, MovesNot, whole_text}
 use Rattle.live_databases.proofs.MoveLemmas.{matched}
 use Rattle.live_databases.proofs.moving.regroup_over.Goals as goal
 
@@ -17,27 +16,11 @@ returns-in-Ok-None g c =
 pub returns-in-Err : goal.returns-in-Err
 returns-in-Err g c = inl (refl, inr (inr refl))
 
-pub returns-in-Err-open_served : goal.returns-in-Err-open_served
-returns-in-Err-open_served g c = inr (inl (record {
-  error = c.in-Err-open_served.error;
-  left = c.in-Err-open_served.connection;
-  opened = record {
-    stored = c.in-Err-open_served.ensures.store;
-    blank = c.in-Err-open_served.ensures.blank;
-    by_schema = c.in-Err-open_served.ensures.schema;
-    created = c.in-Err-open_served.ensures.created;
-    judged = c.in-Err-open_served.ensures.judged;
-    marked = c.in-Err-open_served.ensures.marked;
-    unmarked = c.in-Err-open_served.ensures.unmarked;
-    settles = c.in-Err-open_served.ensures.settles;
-    own = c.in-Err-open_served.ensures.own;
-    settles_or = c.in-Err-open_served.ensures.settles_or;
-    left = c.in-Err-open_served.ensures.left;
-    left_or = c.in-Err-open_served.ensures.left_or;
-    fault = c.in-Err-open_served.ensures.fault;
-    current = c.in-Err-open_served.ensures.current;
-    beside = c.in-Err-open_served.ensures.beside;
-  };
+pub returns-in-Err-open_keeper : goal.returns-in-Err-open_keeper
+returns-in-Err-open_keeper g c = inr (inl (record {
+  error = c.in-Err-open_keeper.error;
+  left = c.in-Err-open_keeper.connection;
+  opened = c.in-Err-open_keeper.ensures.opened;
   ends = c.end_refused-ended.ensures;
 }))
 
@@ -51,23 +34,6 @@ returns g c =
     sym c.in-Ok-Some.ensures ∙ ap (option_map string_bytes) c.in-Ok-Some.field-0-is ∙ ap (λ (n : List ℕ). Some n) (sym c.as_str.ensures.value) in
     let keeper = c.in-Ok.opened.0 in
     let left = c.move_told-told.new.keeper in
-    let opened : OpensServed g.S.Store c.args.layout (moving c.args.site c.args.group.now) c.args.connection (Ok (keeper, c.in-Ok.opened.1)) = record {
-      stored = c.in-Ok.ensures.store;
-      blank = c.in-Ok.ensures.blank;
-      by_schema = c.in-Ok.ensures.schema;
-      created = c.in-Ok.ensures.created;
-      judged = c.in-Ok.ensures.judged;
-      marked = c.in-Ok.ensures.marked;
-      unmarked = c.in-Ok.ensures.unmarked;
-      settles = c.in-Ok.ensures.settles;
-      own = c.in-Ok.ensures.own;
-      settles_or = c.in-Ok.ensures.settles_or;
-      left = c.in-Ok.ensures.left;
-      left_or = c.in-Ok.ensures.left_or;
-      fault = c.in-Ok.ensures.fault;
-      current = c.in-Ok.ensures.current;
-      beside = c.in-Ok.ensures.beside;
-    } in
     matched _ _ _ _ c.move_told-told.result
     (λ text moves. record {
       is_name = search rules;
@@ -75,20 +41,20 @@ returns g c =
       is_next = is_next;
       keeper = keeper;
       made = c.in-Ok.opened.1;
-      opened = opened;
+      opened = c.in-Ok.ensures.opened;
       moved = left;
       moves = moves;
       handed = c.into_connection.ensures;
       told = λ it keeps honest.
-          moves.tells.is_text ∙ ap (λ (d : DurableState). whole_text c.args.layout c.args.site name d) (moves.tells.given (durable_in it) (c.in-Ok.ensures.store it keeps).1 honest);
-      kept = λ it keeps. moves.part (durable_in it) (c.in-Ok.ensures.store it keeps).1;
+          moves.tells.is_text ∙ ap (λ (d : DurableState). whole_text c.args.layout c.args.site name d) (moves.tells.given (durable_in it) (c.in-Ok.ensures.opened.stored it keeps).1 honest);
+      kept = λ it keeps. moves.part (durable_in it) (c.in-Ok.ensures.opened.stored it keeps).1;
     })
     (λ ended not_moved. inr (inr (record {
       name = name;
       is_next = is_next;
       keeper = keeper;
       made = c.in-Ok.opened.1;
-      opened = opened;
+      opened = c.in-Ok.ensures.opened;
       left = left;
       moves_not = not_moved;
       handed = c.into_connection.ensures;

@@ -4,14 +4,19 @@ use Rattle.durable_keeper.specs.declared.error.KeeperError.{KeeperError}
 use Rattle.durable_keeper.specs.declared.error.KeeperError.TheVariants.{Memory}
 use Rattle.desk_log.specs.Log.{begun}
 use Rattle.live_databases.proofs.LiveLemmas.{found_one}
-use Rattle.live_databases.proofs.MoveLemmas.{memory_is_none}
+use Rattle.live_databases.proofs.MoveLemmas.{memory_is_none, memory_no_fault, ok_is_none}
 use Rattle.live_databases.proofs.moving.whole_text.Goals as goal
 
 abbrev error : KeeperError → Result DurableState KeeperError
 error e = Err e
 
 pub returns-in-Err-clause-told : goal.returns-in-Err-clause-told
-returns-in-Err-clause-told g c = inl (record { error = c.in-Err.error; is_ended = c.unloaded.ensures; fault = λ is. c.in-Err.ensures.told (ap error is) })
+returns-in-Err-clause-told g c = inl (record {
+  error = c.in-Err.error;
+  is_ended = c.unloaded.ensures;
+  fault = λ is. c.in-Err.ensures.told (ap error is);
+  no_fault = λ is. c.in-Err.ensures.sound (λ same. memory_no_fault (error c.in-Err.error) (ap error is) same);
+})
 
 pub returns-in-Err-restore-clause-told : goal.returns-in-Err-restore-clause-told
 returns-in-Err-restore-clause-told g c = inr (record {
@@ -23,7 +28,7 @@ returns-in-Err-restore-clause-told g c = inr (record {
 })
 
 pub returns-clause-told : goal.returns-clause-told
-returns-clause-told g c = inl (record { error = Memory; is_ended = refl; fault = memory_is_none })
+returns-clause-told g c = inl (record { error = Memory; is_ended = refl; fault = memory_is_none; no_fault = λ _. c.in-Ok.ensures.sound (λ same. ok_is_none _ _ same) })
 
 pub returns-in-Ok-core_text-clause-told : goal.returns-in-Ok-core_text-clause-told
 returns-in-Ok-core_text-clause-told g c =
