@@ -1,5 +1,6 @@
 pub mod CutLemmas
 pub mod ExcessLemmas
+pub mod BroughtLemmas
 pub mod StreamLemmas
 pub mod KeepingLemmas
 pub mod LogsLemmas

@@ -32,7 +32,8 @@ use Rattle.log_judge.specs.Excess.{IsFirstAhead, IsFoundAt, NoneAhead}
 use Rattle.log_judge.specs.Judging.{AreHistories}
 use Rattle.log_judge.specs.Verdict.{AreLegalSites, AreOfSites, IsCut, IsVerdict}
 use Rattle.log_judge.specs.Stream.{AllDone, AreAhead, AreAllLogs, AreDone, AreKept, AreLogs, AreNotAhead, AreTables, AreTaken, AreTakenTo, FitsKeeping, HasNoFault, IsGuess, IsLog, IsOpen, IsUntold, TellAll, no_entries, settled_in}
-use Rattle.log_judge.proofs.StreamLemmas.{ahead_done, bound_done, run_brought, doubt_lost, none_done}
+use Rattle.log_judge.proofs.BroughtLemmas.{run_brought, doubt_lost}
+use Rattle.log_judge.proofs.StreamLemmas.{ahead_done, bound_done, none_done}
 use Rattle.log_judge.proofs.TellsLemmas.{tells_all}
 use Rattle.log_judge.proofs.VerdictLemmas.{none_exceeds, least_exceeds}
 

@@ -1,17 +1,15 @@
--- The logs of all sites as their entries come: what each entry brought, and which of it is kept.
-use Rattle.std.proofs.Common.{◌≡◌, ℕ, zero, suc, ◌+◌, ◌-◌, ◌<◌, ◌≤◌, ◌⊎◌, inl, inr, Bool, true, false, cond, List, [], ◌∷◌, ◌++◌, length, map, drop, get_or, Option, None, Some, refl, sym, ap, subst, ◌∙◌, arith}
-use Rattle.std.specs.Prelude.{min, ◌||◌, ◌&&◌, MatchOption, IsSome, Vec}
+-- The logs of all sites as their entries come: which rows of them are kept.
+use Rattle.std.proofs.Common.{◌≡◌, ℕ, ◌+◌, ◌-◌, ◌<◌, ◌≤◌, ◌⊎◌, inl, inr, Bool, true, false, cond, List, [], ◌∷◌, ◌++◌, length, get_or, Option, None, Some, refl, sym, ap, subst, ◌∙◌, arith}
+use Rattle.std.specs.Prelude.{min, MatchOption, IsSome, Vec}
 use Rattle.std.specs.Global.{Global}
-use Rattle.std.proofs.lemmas.Bool.{cases_lt, cases_eq, cond-true, cond-false, false≢true}
-use Rattle.std.proofs.lemmas.List.{get_or_append_left, get_or-append-add, length-map, length_push}
+use Rattle.std.proofs.lemmas.Bool.{cases_lt, cases_eq, false≢true}
+use Rattle.std.proofs.lemmas.List.{length_push}
 use Rattle.merge_core.specs.declared.cell.Cell.{Cell}
 use Rattle.merge_core.specs.declared.delta.Row.{Row}
 use Rattle.merge_core.specs.Layout.{LayoutState}
 use Rattle.merge_core.specs.Rows.{counter_in, counters_of}
 use Rattle.admission_model.specs.declared.ask.Call.{Call}
 use Rattle.admission_model.specs.declared.ask.Call.TheVariants.{Snapshot}
-use Rattle.admission_model.specs.declared.reply.Reply.{Reply}
-use Rattle.admission_model.specs.declared.reply.Reply.TheVariants as reply
 use Rattle.admission_model.specs.Account.{Account, own}
 use Rattle.admission_core.specs.Core.{Core}
 use Rattle.desk_log.specs.declared.entry.Entry.{Entry}
@@ -19,123 +17,21 @@ use Rattle.desk_log.specs.declared.transcript.Run.{Run}
 use Rattle.desk_log.specs.declared.transcript.Transcript.{Transcript}
 use Rattle.desk_log.specs.Log.{is_fault}
 use Rattle.multi_site_world.specs.Laws.{StandsIn}
-use Rattle.log_replay.specs.Legal.{started, was_kept, after_run, start_account}
-use Rattle.log_replay.specs.Replay.{IsPath, IsWay, IsEnd}
+use Rattle.log_replay.specs.Legal.{was_kept}
+use Rattle.log_replay.specs.Replay.{IsEnd}
 use Rattle.log_replay.specs.declared.stream.Stage.{Stage}
 use Rattle.log_replay.specs.declared.stream.Stage.TheVariants.{Fresh, Open, Ended}
 use Rattle.log_replay.specs.declared.stream.SiteReplay.{SiteReplay}
 use Rattle.log_replay.specs.Stream.{HasEnded, IsClear, IsHandedBack, IsInRun, IsReplaying, IsSettled, IsShownBy, IsStage, count_of, left_of, length_by}
 use Rattle.log_replay.proofs.StreamLemmas.{clear_left, shown_on}
-use Rattle.log_replay.proofs.WayLemmas.{way_drop, way_length}
 use Rattle.log_judge.specs.declared.stream.Taken.{Taken}
 use Rattle.log_judge.specs.declared.stream.SiteLog.{SiteLog}
 use Rattle.log_judge.specs.declared.keeping.Keeping.{Keeping}
 use Rattle.log_judge.specs.declared.keeping.Keeping.TheVariants as way
-use Rattle.log_judge.specs.Cut.{brought, cut_account, is_accepted, is_merged, merge_rows, rows_brought, runs_at, site_brought}
+use Rattle.log_judge.specs.Cut.{brought, cut_account, is_accepted, merge_rows, rows_brought, runs_at, site_brought}
 use Rattle.log_judge.specs.Excess.{NoneAhead}
 use Rattle.log_judge.specs.Stream.{AreAhead, AreDone, AreKept, AreTaken, AreTakenTo, FitsKeeping, IsFitting, IsGuess, IsLog, Keeps, KeepsWithin, Pushes, Takes, TakesBack, TakesKept, TellAll, settled_in}
-
--- ---- what an entry brought
-
-pub path_brought : (layout : LayoutState) (i : ℕ) (a : Account) (runs : List Run) (flags : List Bool) (at : ℕ) (b : Account) (rest : List Run) (m k : ℕ) → k ≡ at + m → IsPath layout i a runs flags at b rest → get_or (brought a runs) k [] ≡ get_or (brought b rest) m []
-path_brought layout i a runs [] at b rest m k sum path =
-    let none : at ≡ 0 = path.0 in
-    let same : k ≡ m = omega (arith, none, sum) in
-    ap (λ (n : ℕ). get_or (brought a runs) n []) same ∙ (ap (λ (x : Account). get_or (brought x runs) m []) (sym path.1) ∙ ap (λ (rs : List Run). get_or (brought b rs) m []) (sym path.2))
-path_brought layout i a [] (f ∷ fs) at b rest m k sum path = absurd path
-path_brought layout i a (r ∷ rs) (f ∷ fs) at b rest m k sum path =
-    let n = path.1.1.1.0 in
-    let parts : at ≡ length r.entries + n = path.1.1.1.1.0 in
-    let rows = map (rows_brought (was_kept a r rs)) r.entries in
-    let size : length rows ≡ length r.entries = length-map r.entries (rows_brought (was_kept a r rs)) in
-    let place : k ≡ length rows + (n + m) = omega (arith, sum, parts, size) in
-    ap (λ (x : ℕ). get_or (brought a (r ∷ rs)) x []) place
-    ∙ (get_or-append-add rows (brought (after_run a r rs) rs) (n + m) []
-    ∙ path_brought layout i (after_run a r rs) rs fs n b rest m (n + m) refl path.1.1.1.1.1)
-
-some_there : (xs : List Entry) (e : Entry) (more : List Entry) → xs ++ e ∷ more ≡ [] → ⊥
-some_there xs e more none = longer xs (ap (λ (ys : List Entry). length ys) none)
-  where
-    longer : (ys : List Entry) → length (ys ++ e ∷ more) ≡ 0 → ⊥
-    longer [] size = omega (arith, size)
-    longer (y ∷ ys) size = omega (arith, size)
-
--- the entry at a place of a run
-drop_at : (f : Entry → List Row) (n k : ℕ) (es more : List Entry) (e : Entry) (front : List Entry) → front ++ e ∷ more ≡ drop n es → k ≡ n + length front → get_or (map f es) k [] ≡ f e
-drop_at f zero k es more e [] split sum =
-    let at : k ≡ 0 = sum in
-    ap (λ (n : ℕ). get_or (map f es) n []) at ∙ ap (λ (xs : List Entry). get_or (map f xs) 0 []) (sym split)
-drop_at f zero k [] more e (d ∷ front) split sum = absurd (some_there (d ∷ front) e more split)
-drop_at f zero k (x ∷ es) more e (d ∷ front) split sum =
-    let below : k ≡ suc (k - 1) = omega (arith, sum) in
-    ap (λ (n : ℕ). get_or (map f (x ∷ es)) n []) below ∙ drop_at f zero (k - 1) es more e front (ap (λ (xs : List Entry). drop 1 xs) split) (omega (arith, sum))
-drop_at f (suc n) k [] more e front split sum = absurd (longer front (ap (λ (xs : List Entry). length xs) split))
-  where
-    longer : (xs : List Entry) → length (xs ++ e ∷ more) ≡ 0 → ⊥
-    longer [] size = omega (arith, size)
-    longer (x ∷ xs) size = omega (arith, size)
-drop_at f (suc n) k (x ∷ es) more e front split sum =
-    let below : k ≡ suc (k - 1) = omega (arith, sum) in
-    ap (λ (m : ℕ). get_or (map f (x ∷ es)) m []) below ∙ drop_at f n (k - 1) es more e front split (omega (arith, sum))
-
-pub run_brought : (layout : LayoutState) (i : ℕ) (runs : List Run) (flags : List Bool) (before n at : ℕ) (a b : Account) (run : Run) (later : List Run) (front : List Entry) (e : Entry) (more : List Entry) → IsPath layout i (start_account layout i runs) runs flags before a (run ∷ later)
-    → IsWay (started a run) run.entries n b (front ++ e ∷ more) → at ≡ (before + n) + length front → get_or (brought (start_account layout i runs) runs) at [] ≡ rows_brought (was_kept a run later) e
-run_brought layout i runs flags before n at a b run later front e more path way number =
-    let f = rows_brought (was_kept a run later) in
-    let rows = map f run.entries in
-    let size : length rows ≡ length run.entries = length-map run.entries f in
-    let whole = way_length (started a run) run.entries n b (front ++ e ∷ more) way in
-    let some = longer front in
-    path_brought layout i (start_account layout i runs) runs flags before a (run ∷ later) (n + length front) at (omega (arith, number)) path
-    ∙ (get_or_append_left rows (brought (after_run a run later) later) [] (n + length front) (omega (arith, size, whole, some))
-    ∙ drop_at f n (n + length front) run.entries more e front (way_drop (started a run) run.entries n b (front ++ e ∷ more) way) refl)
-  where
-    longer : (xs : List Entry) → length xs + 1 ≤ length (xs ++ e ∷ more)
-    longer [] = omega arith
-    longer (x ∷ xs) = omega (arith, longer xs)
-
--- an entry that is not the store's fault brought what it says, and one that is what it says if it was kept
-plain_reply : (kept : Bool) (e : Entry) → is_fault e.reply ≡ false → rows_brought kept e ≡ rows_brought false e
-plain_reply false e plain = refl
-plain_reply true e plain =
-    ap (λ (b : Bool). cond b (merge_rows e.call) []) (either (is_merged e.reply) (is_fault e.reply) plain)
-  where
-    either : (b c : Bool) → c ≡ false → (b || (true && c)) ≡ (b || (false && c))
-    either true c is = refl
-    either false c is = is
-
-fault_merged : (r : Reply) → is_fault r ≡ true → is_merged r ≡ false
-fault_merged r fault = at r fault
-  where
-    at : (x : Reply) → is_fault x ≡ true → is_merged x ≡ false
-    at (reply.Merged n) is = let wrong : false ≡ true = is in absurd cc
-    at reply.Admitted is = refl
-    at (reply.Announced n) is = refl
-    at (reply.Left p) is = refl
-    at reply.Given is = refl
-    at (reply.Gave t n) is = refl
-    at (reply.Snapshot d) is = refl
-    at (reply.Refused r) is = refl
-
-doubt_kept : (e : Entry) → is_fault e.reply ≡ true → rows_brought true e ≡ merge_rows e.call
-doubt_kept e fault = cond-true (is_accepted true e.reply) (merge_rows e.call) [] (either (is_merged e.reply) (is_fault e.reply) fault)
-  where
-    either : (b c : Bool) → c ≡ true → (b || (true && c)) ≡ true
-    either true c is = refl
-    either false c is = is
-
-pub doubt_lost : (e : Entry) → is_fault e.reply ≡ true → rows_brought false e ≡ []
-doubt_lost e fault = cond-false (is_accepted false e.reply) (merge_rows e.call) [] (either (is_merged e.reply) (is_fault e.reply) (fault_merged e.reply fault))
-  where
-    either : (b c : Bool) → b ≡ false → (b || (false && c)) ≡ false
-    either true c is = is
-    either false c is = refl
-
-pub merge_kept : (e : Entry) → is_accepted false e.reply ≡ true → rows_brought false e ≡ merge_rows e.call
-merge_kept e accepted = cond-true (is_accepted false e.reply) (merge_rows e.call) [] accepted
-
-pub merge_lost : (e : Entry) → is_accepted false e.reply ≡ false → rows_brought false e ≡ []
-merge_lost e other = cond-false (is_accepted false e.reply) (merge_rows e.call) [] other
+use Rattle.log_judge.proofs.BroughtLemmas.{run_brought, plain_reply, doubt_kept, doubt_lost, merge_kept}
 
 -- ---- which rows are kept
 

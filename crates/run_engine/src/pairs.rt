@@ -1,5 +1,5 @@
 //! Two sites at work with links that keep their order between them: one function opens, runs and closes both.
-ghost use Rattle.std.specs.Prelude.{◌≡◌, ◌<◌, ◌≤◌, ◌+◌, true, [], ◌∷◌, IfOk, OnOk, List, length};
+ghost use Rattle.std.specs.Prelude.{◌≡◌, ◌<◌, ◌≤◌, ◌+◌, true, ◌⊎◌, [], ◌∷◌, IfOk, OnOk, List, length};
 ghost use denote.Param.Send.{IsSend, IsSync};
 ghost use Rattle.admission_core.specs.Kept.{DurableState};
 ghost use Rattle.session_book.specs.Passes.{new_pass};
@@ -124,10 +124,11 @@ fn side_of<L: Opening>(
     Ok(Side { site, work })
 }
 
-// What is to work with the passes of a site: its caller with pass 0, and the ends of its links.
+// What is to work with the passes of a site: its caller with pass 0, and the ends of its links with 1, for what it sends, and 2.
 fn work_of<L: Opening>(passes: Vec<Pass<L>>, asks: Vec<Ask>) -> Work<L>
     requires { passes.items ≡ new_passes 3 }
     ensures pass { result.caller.pass ≡ new_pass 0 }
+    ensures ends { (result.end.out_pass ≡ new_pass 1) × (result.end.in_pass ≡ new_pass 2) }
     ensures asks { result.caller.asks ≡ asks }
 {
     let mut passes = passes;
@@ -195,6 +196,7 @@ fn work_both<
 // The turns of the next round, of so many that are left.
 fn round_of(left: u64) -> u64
     ensures room { result + 1 ≤ link_capacity }
+    ensures full { (result ≡ left) ⊎ (result + 1 ≡ link_capacity) }
     ensures some { 0 < left → 0 < result }
     ensures within { result ≤ left }
 {

@@ -34,6 +34,10 @@ const OUTDATED: &[&[u8]] = &[
     b"read a 7\ntake {\"from\":1,\"rows\":[{\"ann\":0,\"fin\":0,\"out\":[2,0],\"r\":0,\"s\":0,\"taken\":2}],\"v\":1}\ntake {\"from\":1,\"rows\":[{\"ann\":0,\"fin\":0,\"out\":[2,0],\"r\":0,\"s\":0,\"taken\":2}],\"v\":1}\nleave a 7\n",
 ];
 
+const OUTDATED_AT_ONCE: &[&[u8]] = &[
+    b"show a\ntake {\"from\":1,\"rows\":[{\"ann\":0,\"fin\":0,\"out\":[2,0],\"r\":0,\"s\":0,\"taken\":2}],\"v\":1}\nleave a 7\n",
+];
+
 // What others have taken is no part of what is kept.
 const TAKEN_BY_OTHERS: &[&[u8]] = &[
     b"take {\"from\":1,\"rows\":[{\"ann\":0,\"fin\":0,\"out\":[0,0],\"r\":0,\"s\":1,\"taken\":1}],\"v\":1}\n",
@@ -59,7 +63,7 @@ type Row = (
     u64,
 );
 
-static ROWS: [Row; 22] = [
+static ROWS: [Row; 23] = [
     // each call needs those before it, in its round or not
     (
         1,
@@ -252,6 +256,17 @@ static ROWS: [Row; 22] = [
         Status::Fault,
         "admitted\nrefused OwnRowAhead 0\nrefused Frozen\nrefused Frozen\n",
         2,
+        1,
+    ),
+    (
+        256,
+        OUTDATED_AT_ONCE,
+        9,
+        Refusal::Fault,
+        99,
+        Status::Fault,
+        "rights 2 inside 0 unfinished 0\nrefused OwnRowAhead 0\nrefused Frozen\n",
+        1,
         1,
     ),
     (
