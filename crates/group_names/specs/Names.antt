@@ -1,7 +1,7 @@
 -- The name of a group of sites (the project's own). Who begins a group names it: 1 to 32 bytes, a letter from a to z first,
 -- and then such letters, digits and `-`; and no word that begins a reply, since the name stands in front of the deltas that
 -- are sent. Sites that are moved to the group's next generation get the name with a dot and the generation's number behind
--- it, from 2 on: so no name that anyone gives is one that a move made.
+-- it, from 2 on: so no name without a dot is one that a move made.
 use Rattle.std.specs.Prelude.{ℕ, ◌+◌, ◌==◌, ◌&&◌, ◌||◌, not, nat_le, nat_lt, bytes_eq, Bool, false, List, [], ◌∷◌, ◌++◌, length, codes, decimal, if◌then◌else◌, Option, Some, None, is_some}
 use Rattle.std.specs.List.{list_all}
 use Rattle.text_parts.specs.Readers.{number_at}

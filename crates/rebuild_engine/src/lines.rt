@@ -7,7 +7,7 @@ ghost use Rattle.rebuild_engine.specs.Lines.{AreRead, IsLineOf, StopsAt, is_from
 ghost use Rattle.rebuild_engine.specs.Steps.{IsOneStop};
 
 use merge_core::{Delta, Layout};
-use serve_engine::{TextFault, TextStop, told_delta};
+use serve_engine::{TextFault, TextStop, read_delta};
 use std::alloc::{AllocError, Global};
 use text_input::cut_line;
 
@@ -88,7 +88,7 @@ fn read_line(
         (λ _. (d : DeltaState) × IsLineOf layout.now.records name.now alone line.now d × (is_from_one_of deltas.old.items d ≡ false) × (deltas.new.items ≡ deltas.old.items ++ d ∷ []))
         (λ stop. IsOneStop layout.now.records name.now alone deltas.old.items line.now stop) }
 {
-    let delta = match told_delta(alloc, layout, name, alone, line) {
+    let delta = match read_delta(alloc, layout, name, alone, line) {
         Ok(delta) => delta,
         Err(TextStop::NoRoom) => return Err(OneStop::NoRoom),
         Err(TextStop::Refused(fault)) => return Err(OneStop::Refused(LineFault::Text(fault))),

@@ -91,9 +91,8 @@ SameLines [] (y ∷ ys) = ⊥
 SameLines (x ∷ xs) [] = ⊥
 SameLines (x ∷ xs) (y ∷ ys) = (x.line ≡ y.line) × SameLines xs ys
 
--- Exchanges of which the last ones are those of a round that was not kept: each line from its first one with a change on
--- was told a fault, whatever its reply. Either nothing of it is kept; or it is not known whether the whole round is, whose
--- true answers were not told.
+-- Exchanges of which the last ones, at least one, are those of a round that was not kept: each was told a fault, whatever
+-- its reply. Either nothing of it is kept; or it is not known whether the whole round is, whose true answers were not told.
 pub record FailsTogether (most : ℕ) (terms : Terms) (a : Account) (xs : List Exchange) (fault : Bool) (b tried : Account) : Type 0 where
   pub before : List Exchange
   pub failed : List Exchange

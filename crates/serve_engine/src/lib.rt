@@ -5,7 +5,7 @@
 pub use digests::digest_digits;
 pub use engine::{LINE_LIMIT, line_limit, serve_engine};
 pub use marks::{MarkFault, Marking};
-pub use moved_texts::{TextFault, TextStop, moved_text, told_delta};
+pub use moved_texts::{TextFault, TextStop, moved_text, read_delta};
 pub use request::Request;
 pub use rounds::serve_together;
 pub use showing::push_counts;

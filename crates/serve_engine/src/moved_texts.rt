@@ -75,7 +75,7 @@ pub enum TextStop {
 /// The delta of a line of which a lost site is built again, in the group of this name: one behind the mark of a move to the
 /// group; or, where the site is lost alone, behind that of a text that a site of the group sends. Linear in the line and in the
 /// layout.
-pub fn told_delta(
+pub fn read_delta(
     alloc: Global,
     layout: &Layout,
     name: &str,

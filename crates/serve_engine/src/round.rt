@@ -26,7 +26,7 @@ impl Model for Round {
 }
 
 impl Round {
-    ghost use Rattle.std.specs.Prelude.{◌≡◌, ◌+◌, ◌<◌, ◌++◌, ◌∷◌, [], length, slice_index_or, nat_lt, ◌||◌, string_bytes, IsErr, OnOk};
+    ghost use Rattle.std.specs.Prelude.{◌≡◌, ◌+◌, ◌<◌, ◌^◌, ◌++◌, ◌∷◌, [], length, slice_index_or, nat_lt, ◌||◌, string_bytes, IsErr, OnOk};
     ghost use Rattle.serve_engine.specs.Filling.{empty_round, with_answer};
 
     /// A round without lines. Takes no memory.
@@ -88,7 +88,9 @@ impl Round {
     }
 
     /// How many bytes the answers have.
-    pub(crate) fn bytes(&self) -> usize {
+    pub(crate) fn bytes(&self) -> usize
+        ensures { length self.now.sure + length self.now.waiting < 2 ^ 64 → result ≡ length self.now.sure + length self.now.waiting }
+    {
         self.sure.len().saturating_add(self.waiting.len())
     }
 

@@ -1,7 +1,7 @@
 use Rattle.std.proofs.Common.{rules, List, ℕ, subst}
 use Rattle.serve_engine.specs.Moved.{IsTold}
 use Rattle.serve_engine.proofs.MovedLemmas.{stop_told}
-use Rattle.serve_engine.proofs.moved_texts.told_delta.Goals as goal
+use Rattle.serve_engine.proofs.moved_texts.read_delta.Goals as goal
 
 pub returns-in-Err : goal.returns-in-Err
 returns-in-Err c = stop_told c.args.layout.now.records c.args.name.now c.args.alone c.args.line.now c.in-Err.stop c.in-Err.ensures
