@@ -1,2 +1,3 @@
+pub mod TalkLemmas
 mod RefusalLemmas
 mod ShellLemmas

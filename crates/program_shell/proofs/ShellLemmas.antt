@@ -6,8 +6,8 @@ use Rattle.text_input.specs.Source.{SourceState}
 use Rattle.text_input.specs.Sink.{SinkState}
 use Rattle.line_conversation.specs.Stream.{StreamState}
 use Rattle.line_conversation.specs.declared.conversation.Conversation.{Ghosts}
-use Rattle.service_talk.specs.Notes.{NotedState}
-use Rattle.service_talk.specs.OneLine.{OneLineState}
+use Rattle.program_shell.specs.Notes.{NotedState}
+use Rattle.program_shell.specs.OneLine.{OneLineState}
 use Rattle.command_arguments.specs.declared.arguments.Command.{Command}
 use Rattle.serve_engine.specs.declared.marks.Marking.{Marking}
 use Rattle.program_shell.specs.Services.{EndsAsk, EndsServe}

@@ -56,7 +56,8 @@ TellsFiles paths (Err files.Memory) sink sink_after errors errors_after code = (
 TellsFiles paths (Err files.Unwritten) sink sink_after errors errors_after code = (sink_after ≡ sink) × EndsWith Io errors errors_after code
 
 -- files were judged, which were opened at these paths, and that was told
-pub record EndsFilesAt {F : Type 0} (remaining : F → Option (List ℕ)) (paths : List Text) (cut : Option (List ℕ)) (layout : LayoutState) (sink sink_after errors errors_after : SinkState) (code : ℕ) : Type 0 where
+pub record EndsFilesAt {F : Type 0} (remaining : F → Option (List ℕ)) (paths : List Text) (cut : Option (List ℕ)) (layout : LayoutState)
+    (sink sink_after errors errors_after : SinkState) (code : ℕ) : Type 0 where
   pub judged : Result (Unit {0}) FilesError
   pub sink_between : SinkState
   pub ended : EndsFiles layout cut (opened_with remaining) any_fault (length paths) sink sink_between judged

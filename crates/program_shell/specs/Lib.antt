@@ -1,3 +1,6 @@
+pub mod Notes
+pub mod OneLine
+pub mod Begins
 pub mod Groups
 pub mod Refusals
 pub mod Runs

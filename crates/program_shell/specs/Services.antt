@@ -1,5 +1,5 @@
 -- What the commands that serve a site at once do (the project's own).
-use Rattle.std.specs.Prelude.{◌≡◌, ◌==◌, ◌&&◌, ◌⊎◌, ℕ, nat_lt, Bool, true, false, List, [], ◌∷◌, ◌++◌, Option, Some, None, unwrap_or, if◌then◌else◌}
+use Rattle.std.specs.Prelude.{◌≡◌, ◌==◌, ◌&&◌, ◌⊎◌, ℕ, nat_lt, Bool, true, false, List, [], ◌∷◌, ◌++◌, Option, Some, None, option_copied, option_map, unwrap_or, if◌then◌else◌}
 use Rattle.clap.specs.Words.{Text}
 use Rattle.merge_core.specs.Layout.{LayoutState}
 use Rattle.text_input.specs.Source.{SourceState}
@@ -11,8 +11,9 @@ use Rattle.line_conversation.specs.declared.conversation.Conversation.{Ghosts}
 use Rattle.serve_engine.specs.declared.marks.Marking.{Marking}
 use Rattle.serve_engine.specs.declared.marks.Marking.TheVariants.{Marked, Plain}
 use Rattle.serve_engine.specs.Requests.{line_limit}
-use Rattle.service_talk.specs.Notes.{NotedState}
-use Rattle.service_talk.specs.OneLine.{OneLineState}
+use Rattle.program_shell.specs.Notes.{NotedState}
+use Rattle.program_shell.specs.OneLine.{OneLineState}
+use Rattle.live_databases.specs.declared.databases.Opening.{Opening}
 use Rattle.live_databases.specs.declared.service_end.ServiceEnd.{ServiceEnd}
 use Rattle.live_databases.specs.Endings.{EndsServiceWith, service_code, service_line, with_note}
 use Rattle.live_databases.specs.LiveDatabases.{EndsLive}
@@ -37,8 +38,8 @@ EndsLines t false most layout i group marking log talk talk_after ended = EndsLi
 EndsLines t true most layout i group marking log talk talk_after ended = EndsLiveRounds t most layout i group marking talk talk_after ended
 
 -- `serve` answered the lines of a source into a sink
-pub record ServesLines (t : Ghosts (NotedState StreamState)) (together : ℕ) (layout : LayoutState) (i : ℕ) (group : Option Text) (marking : Marking) (log : Option Text) (source source_after : SourceState)
-    (sink sink_after errors errors_after : SinkState) (code : ℕ) : Type 0 where
+pub record ServesLines (t : Ghosts (NotedState StreamState)) (together : ℕ) (layout : LayoutState) (i : ℕ) (group : Option Text) (marking : Marking)
+    (log : Option Text) (source source_after : SourceState) (sink sink_after errors errors_after : SinkState) (code : ℕ) : Type 0 where
   pub after : NotedState StreamState
   pub ended : ServiceEnd
   pub served : EndsLines t (nat_lt 1 together) together layout i group marking log (stream_between group marking source sink) after ended
@@ -53,10 +54,22 @@ pub record ServesNone (source source_after : SourceState) (sink sink_after error
   pub told : EndsWith Memory errors errors_after code
 
 -- the command `serve`
-abbrev pub EndsServe : Ghosts (NotedState StreamState) → ℕ → LayoutState → ℕ → Option Text → Marking → Option Text → SourceState → SourceState → SinkState → SinkState → SinkState → SinkState → ℕ → Type 0
+abbrev pub EndsServe : Ghosts (NotedState StreamState) → ℕ → LayoutState → ℕ → Option Text → Marking → Option Text → SourceState → SourceState
+    → SinkState → SinkState → SinkState → SinkState → ℕ → Type 0
 EndsServe t together layout i group marking log source source_after sink sink_after errors errors_after code =
     ServesLines t together layout i group marking log source source_after sink sink_after errors errors_after code
     ⊎ ServesNone source source_after sink sink_after errors errors_after code
+
+-- the same of what is to be opened, and what a conversation over that came to
+abbrev pub ServesOpening : Ghosts (NotedState StreamState) → Opening → LayoutState → SourceState → SourceState → SinkState → SinkState → SinkState → SinkState → ℕ → Type 0
+ServesOpening t o layout source source_after sink sink_after errors errors_after code =
+    EndsServe t o.together layout o.service.site (option_copied o.service.group) o.service.marking (option_map (λ path. path.now) o.log)
+    source source_after sink sink_after errors errors_after code
+
+abbrev pub LinesOfOpening : {C : Type 0} → Ghosts C → Opening → LayoutState → C → C → ServiceEnd → Type 0
+LinesOfOpening t o layout talk talk_after ended =
+    EndsLines t (nat_lt 1 o.together) o.together layout o.service.site (option_copied o.service.group) o.service.marking (option_map (λ path. path.now) o.log)
+    talk talk_after ended
 
 -- the words behind the first one, each behind a blank
 abbrev pub behind : List (Option Text) → List ℕ
@@ -97,3 +110,9 @@ abbrev pub EndsAsk : Ghosts (NotedState OneLineState) → LayoutState → ℕ �
 EndsAsk t layout i group marking log words sink sink_after errors errors_after code =
     MakesCall t layout i group marking log words sink sink_after errors errors_after code
     ⊎ MakesNone sink sink_after errors errors_after code
+
+-- the same of what is to be opened
+abbrev pub AsksOpening : Ghosts (NotedState OneLineState) → Opening → LayoutState → List (Option Text) → SinkState → SinkState → SinkState → SinkState → ℕ → Type 0
+AsksOpening t o layout words sink sink_after errors errors_after code =
+    EndsAsk t layout o.service.site (option_copied o.service.group) o.service.marking (option_map (λ path. path.now) o.log)
+    words sink sink_after errors errors_after code

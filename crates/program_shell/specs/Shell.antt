@@ -26,8 +26,8 @@ use Rattle.play_engine.specs.Plays.{EndsPlay}
 use Rattle.stored_site.specs.Databases.{EndsStored}
 use Rattle.line_conversation.specs.Stream.{StreamState}
 use Rattle.line_conversation.specs.declared.conversation.Conversation.{Ghosts}
-use Rattle.service_talk.specs.Notes.{NotedState}
-use Rattle.service_talk.specs.OneLine.{OneLineState}
+use Rattle.program_shell.specs.Notes.{NotedState}
+use Rattle.program_shell.specs.OneLine.{OneLineState}
 use Rattle.program_shell.specs.declared.group.GroupFault.{GroupFault}
 use Rattle.program_shell.specs.ClosedLogs.{EndsJudgeOf}
 use Rattle.program_shell.specs.Groups.{group_fault, group_text}
@@ -114,8 +114,8 @@ EndsBy Ends errors errors_after code = (ended : Status) × Ends ended × EndsWit
 
 module _ (t : Ghosts (NotedState StreamState)) (u : Ghosts (NotedState OneLineState)) where
   -- a command under a layout: what its engine did, and how the program ended
-  abbrev pub EndsCommand : {F : Type 0} → (F → Option (List ℕ)) → Command → Option (List ℕ) → Option Text → Option Text → Option Text → List ℕ → List Text → List (Option Text) → LayoutState → SourceState → SourceState → SinkState → SinkState
-      → SinkState → SinkState → ℕ → Type 0
+  abbrev pub EndsCommand : {F : Type 0} → (F → Option (List ℕ)) → Command → Option (List ℕ) → Option Text → Option Text → Option Text → List ℕ → List Text
+      → List (Option Text) → LayoutState → SourceState → SourceState → SinkState → SinkState → SinkState → SinkState → ℕ → Type 0
   EndsCommand remaining Join lengths out log group others logs words layout source source_after sink sink_after errors errors_after code =
       EndsBy (EndsJoin (shape_of layout) source source_after sink sink_after) errors errors_after code
   EndsCommand remaining (Play tables first) lengths out log group others logs words layout source source_after sink sink_after errors errors_after code =
@@ -136,8 +136,8 @@ module _ (t : Ghosts (NotedState StreamState)) (u : Ghosts (NotedState OneLineSt
       EndsBy (EndsRunTo out layout source source_after sink sink_after) errors errors_after code
 
   -- a command under what was found for a layout: without a layout nothing is read or written
-  abbrev pub EndsUnder : {F : Type 0} → (F → Option (List ℕ)) → Command → Option (List ℕ) → Option Text → Option Text → Option Text → List ℕ → List Text → List (Option Text) → Result LayoutState LayoutRefusal → SourceState → SourceState
-      → SinkState → SinkState → SinkState → SinkState → ℕ → Type 0
+  abbrev pub EndsUnder : {F : Type 0} → (F → Option (List ℕ)) → Command → Option (List ℕ) → Option Text → Option Text → Option Text → List ℕ → List Text
+      → List (Option Text) → Result LayoutState LayoutRefusal → SourceState → SourceState → SinkState → SinkState → SinkState → SinkState → ℕ → Type 0
   EndsUnder remaining command lengths out log group others logs words (Ok layout) source source_after sink sink_after errors errors_after code =
       EndsCommand remaining command lengths out log group others logs words layout source source_after sink sink_after errors errors_after code
   EndsUnder remaining command lengths out log group others logs words (Err refusal) source source_after sink sink_after errors errors_after code =
@@ -153,8 +153,8 @@ module _ (t : Ghosts (NotedState StreamState)) (u : Ghosts (NotedState OneLineSt
     pub one_of_both : is_logged_together (asked_command arguments) (asked_log arguments) ≡ false
     pub layout : Result LayoutState LayoutRefusal
     pub found : FindsLayout remaining (asked_layout arguments) layout
-    pub carried_out : EndsUnder remaining (asked_command arguments) lengths (asked_out arguments) (asked_log arguments) (asked_group arguments) (asked_lost arguments) (asked_logs arguments) (asked_words arguments) layout source source_after sink sink_after
-        errors errors_after code
+    pub carried_out : EndsUnder remaining (asked_command arguments) lengths (asked_out arguments) (asked_log arguments) (asked_group arguments)
+        (asked_lost arguments) (asked_logs arguments) (asked_words arguments) layout source source_after sink sink_after errors errors_after code
 
 -- a command is asked for, and a word that names no cut, or memory ran out: nothing is read or written
 pub record RefusesCut (arguments : List Text) (source source_after : SourceState) (sink sink_after errors errors_after : SinkState) (code : ℕ) : Type 0 where

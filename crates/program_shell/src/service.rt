@@ -1,15 +1,16 @@
 //! The commands that serve a site at once.
-ghost use Rattle.std.specs.Prelude.{◌≡◌, ◌++◌, [], ◌∷◌, nat_lt, IfOk, option_copied, option_map, string_bytes};
+ghost use Rattle.std.specs.Prelude.{◌≡◌, ◌++◌, [], ◌∷◌, IfOk, option_map, string_bytes};
 ghost use Rattle.command_arguments.specs.Arguments.{words_of};
-ghost use Rattle.program_shell.specs.Services.{EndsAsk, EndsLines, EndsServe, behind, call_code, spoken};
+ghost use Rattle.program_shell.specs.Services.{AsksOpening, LinesOfOpening, ServesOpening, behind, call_code, spoken};
 
+use crate::noted::Noted;
+use crate::one_line::OneLine;
 use command_arguments::Words;
 use exit_status::Status;
 use line_conversation::{Conversation, RoundConversation, StreamConversation};
 use live_databases::{LiveDatabases, Opening, ServiceEnd, serve_live, serve_live_rounds};
 use merge_core::Layout;
 use serve_engine::line_limit;
-use service_talk::{Noted, OneLine};
 use std::alloc::{AllocError, Global};
 use std::io::{Read, Write};
 use text_input::{Sink, Source};
@@ -23,7 +24,7 @@ pub(crate) fn serve_lines<R: LiveDatabases + AllocGlobal, I: Read, O: Write, E: 
     sink: Sink<O>,
     errors: &mut Sink<E>,
 ) -> (u8, Source<I>, Sink<O>)
-    ensures { EndsServe ⟦<Noted<StreamConversation<I, O>> as Conversation>⟧ opening.entry.together layout opening.entry.service.site (option_copied opening.entry.service.group) opening.entry.service.marking (option_map (λ path. path.now) opening.entry.log) source result.1 sink result.2 errors.old errors.new result.0 }
+    ensures { ServesOpening ⟦<Noted<StreamConversation<I, O>> as Conversation>⟧ opening.entry layout source result.1 sink result.2 errors.old errors.new result.0 }
 {
     let talk = match StreamConversation::new(
         rt.alloc(),
@@ -48,8 +49,7 @@ fn serve_by<R: LiveDatabases, C: RoundConversation>(
     layout: Layout,
     talk: &mut C,
 ) -> ServiceEnd
-    ensures { EndsLines C.Conversation (nat_lt 1 opening.entry.together) opening.entry.together layout opening.entry.service.site (option_copied opening.entry.service.group) opening.entry.service.marking (option_map (λ path. path.now) opening.entry.log)
-        talk.old talk.new result }
+    ensures { LinesOfOpening C.Conversation opening.entry layout talk.old talk.new result }
 {
     if opening.together > 1 {
         return serve_live_rounds(rt, opening, layout, talk);
@@ -66,7 +66,7 @@ pub(crate) fn ask_once<R: LiveDatabases + AllocGlobal, O: Write, E: Write>(
     sink: Sink<O>,
     errors: &mut Sink<E>,
 ) -> (u8, Sink<O>)
-    ensures { EndsAsk ⟦<Noted<OneLine<'static, O>> as Conversation>⟧ layout opening.entry.service.site (option_copied opening.entry.service.group) opening.entry.service.marking (option_map (λ path. path.now) opening.entry.log) (words_of words.now) sink result.1 errors.old errors.new result.0 }
+    ensures { AsksOpening ⟦<Noted<OneLine<'static, O>> as Conversation>⟧ opening.entry layout (words_of words.now) sink result.1 errors.old errors.new result.0 }
 {
     let Ok(line) = line_of(rt.alloc(), words) else {
         return (Status::Memory.end(errors), sink);

@@ -8,12 +8,14 @@ use crate::closed_logs::judge_logs;
 use crate::group::{end_without_group, group_fault};
 use crate::logs_file::run_sites;
 use crate::moves::{rebuild_site, regroup_site};
+use crate::noted::Noted;
+use crate::one_line::OneLine;
 use crate::refused_layout::end_without_layout;
 use crate::service::{ask_once, serve_lines};
 use crate::standard_error::StandardError;
 use crate::together::{end_logged_together, is_logged_together};
 use clap::error::ErrorKind as UsageKind;
-use command_arguments::{Command, Request, Serving, requested};
+use command_arguments::{Command, Request, Serving, parse_arguments};
 use exit_status::Status;
 use join_engine::join_engine;
 use judge_engine::{Cut, CutError};
@@ -23,7 +25,6 @@ use live_databases::{LiveDatabases, Opening, Service};
 use merge_core::Layout;
 use play_engine::play_engine;
 use serve_engine::Marking;
-use service_talk::{Noted, OneLine};
 use site_store::Permission;
 use std::alloc::Global;
 use std::io::{ErrorKind, Read, Write};
@@ -88,7 +89,7 @@ pub fn run_with<
         (map string_bytes arguments.now) source result.1 sink result.2 errors.old errors.new result.0 }
 {
     let mut sink = sink;
-    let asked = match requested(rt.alloc(), arguments) {
+    let asked = match parse_arguments(rt.alloc(), arguments) {
         Ok(asked) => asked,
         Err(error) => {
             let code = end_unasked(&error, &mut sink, errors);

@@ -1,3 +1,0 @@
-pub mod Notes
-pub mod OneLine
-pub mod Begins
