@@ -278,6 +278,7 @@ FIXED = (
     ("rebuild 1 1.db --group east.2 --lost 0 --lost 0", SILENT, "input refused Acted\n'' 4"),
     ("rebuild 1 1.db --group east.2 --lost 2", SILENT, "'layout refused NoSite\\n' 3"),
     ("rebuild 2 1.db --group east.2", SILENT, "'layout refused NoSite\\n' 3"),
+    ("rebuild 2 1.db --group east.2", "x\n", "line 1 refused NoMark\n'' 4"),
     ("rebuild 1 1.db --group east.2 --lost 0", SILENT, "input refused Acted\n'' 4"),
     ("rebuild 1 none/1.db --group east.2", "", "input refused NoDelta 0\n'' 4"),
     ("rebuild 1 none/1.db --group east.2", SILENT, "'store refused NoFolder\\n' 5"),

@@ -71,7 +71,7 @@ for name in names:
 print(len(names), "modules imported")'
 for page in seat_cli zinduroi; do
     [ -f "$root/usr/share/man/man1/$page.1.gz" ] || fail "no page of the manual for $page"
-    [ -f "$root/usr/share/bash-completion/completions/$page" ] || fail "no completions for $page"
+    cmp -s "$top/docs/$page.bash" "$root/usr/share/bash-completion/completions/$page" || fail "no completions for $page, or those of another command"
 done
 # README's two nodes, with a lock at each, by the command of the package.
 sed -n '/^    export PATH=\.:/,/^$/s/^    //p' "$top/README.md" | sed '1d; s/python3 -m zinduroi/zinduroi/' >"$root/tmp/nodes.sh"

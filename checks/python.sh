@@ -4,7 +4,7 @@
 #   checks/python.sh [PROGRAM]     without PROGRAM that of this repository, which is built where it is not there
 #
 # Tests of the transport over MQTT need Debian's packages mosquitto and mosquitto-clients, those of `Peers` need openssl; they are left
-# out without them.
+# out without them. Run it in the foreground: a shell that starts it in the background has it ignore SIGINT, which three tests send.
 # Ends with 0 where all went well.
 set -u
 top=$(CDPATH='' cd -- "$(dirname -- "$0")/.." && pwd -P) || exit 1

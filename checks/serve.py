@@ -178,6 +178,13 @@ class Site(threading.Thread):
             self.sessions[record] = found
 
     def run(self):
+        try:
+            self.converse()
+        except Exception as fault:
+            self.faults.append(f"site {self.number}: {fault!r}")
+
+    def converse(self):
+        """Calls and stops, until there were enough stops or something is wrong."""
         while self.kills < self.options.kills and not self.faults:
             for _ in range(self.random.randrange(1, 40)):
                 line = self.next_line()
@@ -312,6 +319,7 @@ def main():
     parser.add_argument("--together", type=int, default=1, help="how many calls are committed together at most")
     parser.add_argument("--program", default=str(TOP / "seat_cli"))
     options = parser.parse_args()
+    signal.signal(signal.SIGINT, signal.SIG_DFL)  # a shell that starts this in the background has it ignored, and so would each service
     with tempfile.TemporaryDirectory(prefix="seat_cli_serve.") as folder:
         (pathlib.Path(folder) / "layout.toml").write_text(LAYOUT)
         if options.together > 1:

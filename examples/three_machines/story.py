@@ -133,6 +133,11 @@ class Machine:
         """How many readers have been inside."""
         return sum(" reader " in line for line in (FOLDER / f"times_{self.number}").read_text(encoding="utf-8").splitlines())
 
+    def is_empty(self):
+        """Whether all who have been inside have left."""
+        lines = (FOLDER / f"times_{self.number}").read_text(encoding="utf-8").splitlines()
+        return 2 * sum(" leaves " in line for line in lines) == len(lines)
+
 
 def visits(number):
     """Who was inside at a machine, and from when to when."""
@@ -229,8 +234,10 @@ class Story:
         self.maintain(1)
 
     def end(self):
+        self.machines[1].order("stay", "done")
         for machine in self.machines:
             machine.order("readers off", "done")
+        wait_for(lambda: all(machine.is_empty() for machine in self.machines), "readers that were told to stay leave behind readers off")
         for machine in self.machines:
             machine.stop()
         self.tell("all machines are stopped")

@@ -3,6 +3,7 @@ import asyncio
 import contextlib
 import io
 import os
+import signal
 import time
 import unittest.mock
 
@@ -93,6 +94,11 @@ class Books(Case):
 class Stores(NodeCase):
     """A store that fails while it is served."""
 
+    def new_book(self):
+        book = Book(self.folder / f"{len(list(self.folder.iterdir()))}.sessions")
+        self.addCleanup(book.close)
+        return book
+
     def test_told_once(self):
         """The node says so, whoever was answered first: a caller or the exchange."""
         self.start()
@@ -111,6 +117,65 @@ class Stores(NodeCase):
             os.rename(self.folder / f"{name}.away", self.folder / name)
         errors = self.end()[1]
         self.assertEqual(errors.count("the store answers refused StoreFault: nobody gets in or out at this site, until its disk is mended"), 1, errors)
+
+    def test_told_of_each_service(self):
+        """The service is killed behind a freeze, and the next one freezes too: the node says so again."""
+        self.start()
+        client = self.connect()
+        for word in "xy":
+            for name in ("0.db", "0.db-wal"):
+                os.rename(self.folder / name, self.folder / f"{name}.away")
+            self.assertIn(client.ask(f"read a {word}"), ("refused StoreFault", "refused Frozen"))
+            for name in ("0.db", "0.db-wal"):
+                os.rename(self.folder / f"{name}.away", self.folder / name)
+            os.kill(client.status()["service"], signal.SIGKILL)
+            self.comes("show a", "rights 3 inside 0 unfinished 0")
+        errors = self.end()[1]
+        self.assertEqual(errors.count("the store answers refused StoreFault: nobody gets in or out at this site, until its disk is mended"), 2, errors)
+
+    def test_repeated_behind_a_fault(self):
+        """Whoever was answered StoreFault and repeats its line is not told that it is inside, unless it is."""
+        for repeat, done in (("read a z", "admitted"), ("wait 0 read a z", "admitted"), ("announce a z", "announced 1")):
+            with self.subTest(repeat=repeat):
+                link, book = ListedLink("refused StoreFault", "refused Frozen", "0", done), self.new_book()
+                answers, caller = Answers(link, book, ("a",), dict), Caller(1, lambda: False)
+                first = repeat.removeprefix("wait 0 ").encode()
+
+                async def converse():
+                    self.assertEqual(await answers.answer(caller, first), "refused StoreFault")
+                    self.assertEqual(await answers.answer(caller, repeat.encode()), "refused Frozen")
+                    self.assertEqual(await answers.answer(caller, repeat.encode()), done)
+                    self.assertEqual([it.word for it in book.sessions()], ["z"])
+                asyncio.run(converse())
+
+    def test_repeated_where_it_was_carried_out(self):
+        """The store has the session after all."""
+        book = self.new_book()
+        answers, caller = Answers(ListedLink("refused StoreFault"), book, ("a",), dict), Caller(1, lambda: False)
+
+        async def converse():
+            self.assertEqual(await answers.answer(caller, b"read a z"), "refused StoreFault")
+            session, = book.sessions()
+            answers.link.replies.append(f"1 {session.number} reader")
+            self.assertEqual(await answers.answer(caller, b"read a z"), "refused AlreadyHere")
+            self.assertEqual(session.phase, "reader")
+        asyncio.run(converse())
+
+    def test_repeated_at_a_store_that_is_away(self):
+        """The same over a store whose files are moved away, and put back for a service that is started anew."""
+        self.start()
+        client = self.connect()
+        self.says(client, ("read a x", "admitted"))
+        for name in ("0.db", "0.db-wal"):
+            os.rename(self.folder / name, self.folder / f"{name}.away")
+        self.assertIn(client.ask("read a z"), ("refused StoreFault", "refused Frozen"))
+        self.says(client, ("read a z", "refused Frozen"), ("wait 0 read a z", "refused Frozen"))
+        for name in ("0.db", "0.db-wal"):
+            os.rename(self.folder / f"{name}.away", self.folder / name)
+        os.kill(client.status()["service"], signal.SIGKILL)
+        self.comes("show a", "rights 2 inside 1 unfinished 0")
+        self.says(client, ("read a z", "admitted"), ("leave a z", "left reader"), ("leave a x", "left reader"))
+        self.end()
 
 
 class Clocks(Case):

@@ -17,7 +17,7 @@ import warnings
 import zinduroi
 from zinduroi import Exchange, TransportFailed
 from zinduroi.peer_names import Peer, Timing, name_of, parse_address, site_in
-from zinduroi.peer_texts import LINE_LIMIT, Hello, Text, hello_line, text_line
+from zinduroi.peer_texts import LINE_LIMIT, Hello, Text, heard_line, hello_line, text_line
 from zinduroi.peers import Peers
 
 from .common import PACKAGE, Case, wait_for
@@ -329,6 +329,18 @@ class Carries(Secure):
         self.assertEqual(first.states()[0].sent, sent + 2)
         self.assertRaises(ValueError, first.say_lacks, {"a": -1})
 
+    def test_lacks_that_are_said_each_second(self):
+        """A second goes by before each call. The fifth one sends them anew, though those before it sent nothing."""
+        first, second, _ = self.pair()
+        first.publish(0, "one")
+        first.say_lacks({"a": 3})
+        self.assertTrue(wait_for(lambda: second.lacks().get(0, ({}, 0))[0] == {"a": 3}))
+        sent = first.states()[0].sent
+        for _ in range(5):
+            first._told -= 1.0
+            first.say_lacks({"a": 3})
+        self.assertTrue(wait_for(lambda: first.states()[0].sent > sent, 20), first.states())
+
     def test_close_sends_the_last_text(self):
         first, second, _ = self.pair()
         second.publish(1, "one")
@@ -412,6 +424,14 @@ class Relays(Secure):
         self.gets(two, "of 0, 49")
         self.assertEqual({state.site: state.took for state in zero.states()}, {1: 1, 2: 0})
 
+    def test_the_age_of_a_text_that_was_carried(self):
+        """It is that of the site whose text it is, and not of the one that carried it."""
+        zero, _, two = self.line()
+        two.publish(2, "of 2")
+        self.gets(zero, "of 2")
+        self.assertEqual({state.site: state.age is not None for state in zero.states()}, {1: False, 2: True})
+        self.assertTrue(wait_for(lambda: zero.lacks()[2][1] > 0, 20), zero.lacks())
+
     def test_not_where_nobody_named_the_relay(self):
         zero, one, two = self.line(frozenset(), frozenset())
         zero.publish(0, "of 0")
@@ -494,6 +514,18 @@ class Relays(Secure):
         one = self.peers(1, {0: f"127.0.0.1:{ports[0]}", 2: None}, f"127.0.0.1:{ports[1]}")
         self.gets(two, "later run", 10)
         self.assertEqual(zero.failures()["OtherRun"], 1)
+
+    def test_above_an_earlier_run_more_than_once(self):
+        """A peer has heard of a text of an earlier run of site 0, and then of a later one: site 0 goes on above each."""
+        zero = self.peers(0, {1: None}, "127.0.0.1:0", timing=Timing(**{**vars(QUICK), "silence": 60.0}))
+        zero.publish(0, "of 0")
+        one = self.connect(zero, self.given[1])
+        one.sendall(hello_line(Hello(1, 1, 1)))
+        for times in (1, 2):
+            ahead = time.time_ns() // 1000 + times * 3_600_000_000
+            one.sendall(heard_line({0: ahead}))
+            self.assertTrue(wait_for(lambda: zero.failures()["OtherRun"] == times, 20), zero.failures())
+            self.assertGreater(zero._texts.newest[0].stamp, ahead)
 
     def test_two_processes_of_one_site_make_no_storm(self):
         """Both are connected to site 1, one after the other again and again, and each takes the text of the other."""

@@ -502,6 +502,14 @@ class Ends(Case):
         self.assertEqual(self.open(wait=30).show("a"), Counts(3, 0, 0))
         timer.join()
 
+    def test_a_part_of_a_second_to_wait_for_a_store(self):
+        """The program counts whole seconds, and no part of one is lost."""
+        for wait, seconds in ((0, []), (0.1, ["1"]), (1, ["1"]), (1.5, ["2"])):
+            with self.subTest(wait=wait), unittest.mock.patch("zinduroi.site.Service") as service:
+                zinduroi.Site(self.folder / "0.db", 0, wait=wait)
+                words = service.call_args.args[0]
+                self.assertEqual([word for option, word in zip(words, words[1:]) if option == "--wait"], seconds)
+
     def test_closed(self):
         site = self.open()
         site.call("read a 7")

@@ -1,4 +1,4 @@
-"""`python -m zinduroi`, and the command `zinduroi`"""
+"""`python3 -m zinduroi`, and the command `zinduroi`"""
 import sys
 
 from .command_line import main

@@ -72,9 +72,9 @@ def _plan(given: argparse.Namespace, made: argparse.ArgumentParser) -> Plan:
     if config.group not in (given.to, before(given.to)):
         raise NotDone(f"{given.config} names the group {config.group or '(none)'}: neither {before(given.to)} nor {given.to}")
     if config.group != given.to:
-        print(f"behind this, write group = \"{given.to}\" into {given.config}")
+        print(f"once the site is moved or built, write group = \"{given.to}\" into {given.config}")
     if config.site in lost and config.log is not None:
-        print(f"behind this, take log out of {given.config}: a site that is built again is served without one")
+        print(f"once it is built, take log out of {given.config}: a site that is built again is served without one")
     return Plan(config.site, str(config.store), given.to, lost, None if config.layout is None else str(config.layout), config.program)
 
 

@@ -109,7 +109,7 @@ def fault_lines(state: Dict[str, Any]) -> List[str]:
 
 def parser() -> argparse.ArgumentParser:
     """The command line of `watch` alone."""
-    made = argparse.ArgumentParser(prog="python -m zinduroi", description="Looks at sites of Zinduroi.")
+    made = argparse.ArgumentParser(prog="python3 -m zinduroi", description="Looks at sites of Zinduroi.")
     add_watch(made.add_subparsers(dest="command", required=True, metavar="watch"))
     return made
 

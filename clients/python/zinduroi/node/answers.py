@@ -190,7 +190,16 @@ class Answers:
             return f"refused {missing}"
         return session if session.token in caller.tokens else "refused NotYours"
 
+    async def _look(self, caller: Caller, call: Call) -> Optional[str]:
+        """Has the store tell whether it has the session that a line names, where that is doubted: a caller that repeats a line takes
+        `AlreadyHere` for a yes. The refusal of that, or `None`."""
+        session = self._find(caller, call)
+        return await self.desk.look(session) if session is not None and session.doubted else None
+
     async def _enter(self, caller: Caller, call: Call) -> str:
+        refused = await self._look(caller, call)
+        if refused is not None:
+            return refused
         session = self._new(caller, call)
         if isinstance(session, str):
             return session
@@ -200,6 +209,9 @@ class Answers:
 
     async def _wait(self, caller: Caller, call: Call) -> str:
         assert call.wait is not None
+        refused = await self._look(caller, call)
+        if refused is not None:
+            return refused
         session = self._find(caller, call)
         if session is None:
             found = self._new(caller, call)

@@ -37,7 +37,7 @@ class NumbersUsedUp(Exception):
 @dataclasses.dataclass(eq=False)
 class Session:
     """A session at the site. `phase` is `reader`, `waiting` or `writer` as the store last said, and `None` before it said
-    anything. `tied` is the connection whose end ends it, if there is one. `known` is false where the book has no row: the session
+    anything. `doubted` holds where the store failed as it was asked for the session, so that it may have it or not. `tied` is the connection whose end ends it, if there is one. `known` is false where the book has no row: the session
     belongs to nobody. `ending` holds while somebody else than its caller ends it. `since` is in seconds since 1970, and `pid`
     the process that had connected. `entered` is when this node saw it admitted. `turn` is held during a call to the store."""
 
@@ -46,6 +46,7 @@ class Session:
     word: str
     token: str
     phase: Optional[str] = None
+    doubted: bool = False
     tied: Optional[object] = None
     kept: bool = False
     known: bool = True
@@ -81,15 +82,15 @@ class Book:
             if phase is None:
                 self._file.execute("DELETE FROM sessions WHERE number = ?", (number,))
             else:
-                self._add(Session(record, number, word, token, phase, None, bool(kept), True, False, pid, since))
+                self._add(Session(record, number, word, token, phase, kept=bool(kept), pid=pid, since=since))
         for (record, number), phase in here.items():
-            self._add(Session(record, number, f"?{number}", "", phase, None, True, False))
+            self._add(Session(record, number, f"?{number}", "", phase, kept=True, known=False))
 
     def begin(self, record: str, word: Optional[str], token: str, tied: object, pid: int) -> Session:
         """A session that the store will be asked for, with a number that no caller had. Without a word it gets `-` and the
         number. The row is in the file when this returns."""
         number = self._new_number(record)
-        session = Session(record, number, f"-{number}" if word is None else word, token, None, tied, pid=pid, since=time.time())
+        session = Session(record, number, f"-{number}" if word is None else word, token, tied=tied, pid=pid, since=time.time())
         self._file.execute("INSERT INTO sessions (number, record, word, token, kept, pid, since) VALUES (?, ?, ?, ?, 0, ?, ?)",
                            (number, record, session.word, token, pid, session.since))
         self._add(session)

@@ -55,9 +55,23 @@ class Desk:
             await asyncio.sleep(MEMORY_PAUSE)
 
     def drop(self, session: Session, reply: str) -> None:
-        """Forgets a session that the store has refused. After `StoreFault` it may be there."""
-        if session.phase is None and reply != "refused StoreFault":
-            self.book.end(session)
+        """Forgets a session that the store has refused. After `StoreFault` it may be there, which is looked up once it is named again."""
+        if session.phase is None:
+            session.doubted = reply == "refused StoreFault"
+            if not session.doubted:
+                self.book.end(session)
+
+    async def look(self, session: Session) -> Optional[str]:
+        """Asks the store whether it has a session that is doubted, and notes that. The refusal, where it does not tell."""
+        async with session.turn:
+            if session.doubted and self.book.is_here(session):
+                listed = await self._insist(f"sessions {session.record}")
+                if listed.startswith("refused"):
+                    return listed
+                session.phase, session.doubted = dict(stored_sessions(listed)).get(session.number), False
+                if session.phase is None:
+                    self.book.end(session)
+        return None
 
     async def _settle(self, session: Session, verb: str) -> Optional[str]:
         """The reply to a call that was interrupted; `None` where it has to be made again."""
