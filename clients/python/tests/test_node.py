@@ -28,7 +28,7 @@ from zinduroi.node.book import Book, stored_sessions
 from zinduroi.node.connection import Connection
 from zinduroi.node.desk import Desk
 from zinduroi.node.config import ConfigError, SocketConfig, read_config
-from zinduroi.node.lines import LONGEST_LINE, OWN_BYTES, BadWord, Call, Cutter, Plain, Resume, Shared, fits, parse
+from zinduroi.node.lines import LONGEST_LINE, OWN_BYTES, BadWord, Call, Cutter, Plain, Resume, Shared, fits, parse, resumed_text
 from zinduroi.node.link import Interrupted
 from zinduroi.node.listening import HangUps, Listener
 from zinduroi.node.server import Node, Several
@@ -91,6 +91,11 @@ class Lines(unittest.TestCase):
         self.assertEqual(wide.feed(b"x" * LONGEST_LINE), [])
         self.assertEqual(wide.feed(b"x"), [])
         self.assertEqual(wide.feed(b"\n"), ["TooLong"])
+
+    def test_resumed_text(self):
+        """A session of which the store has not said its phase is told as unknown."""
+        found = [("a", "x", "reader"), ("b", "w", None)]
+        self.assertEqual(resumed_text(found), "resumed 2 a x reader, b w unknown")
 
 
 class Configs(Case):

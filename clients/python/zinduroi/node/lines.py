@@ -187,5 +187,6 @@ class Cutter:
 
 
 def resumed_text(found: List[Tuple[str, str, Optional[str]]]) -> str:
-    """The reply to `resume`: the number of sessions, then record, holder and phase of each."""
-    return f"resumed {len(found)} " + ", ".join(f"{record} {word} {phase}" for record, word, phase in found)
+    """The reply to `resume`: the number of sessions, then record, holder and phase of each; `unknown` where the store has not
+    said yet whether there is such a session."""
+    return f"resumed {len(found)} " + ", ".join(f"{record} {word} {phase or 'unknown'}" for record, word, phase in found)
