@@ -261,6 +261,14 @@ fn hears_often(alloc: Global, times: usize, last: &str) -> Result<String, AllocE
     Ok(text)
 }
 
+// Site 0 is opened again, and hears of the reader that site 1 let in.
+const HEARS_BACK: &str = "\
+{\"book\":\"{\\\"from\\\":0,\\\"rows\\\":[{\\\"ann\\\":0,\\\"fin\\\":0,\\\"out\\\":[2,1],\\\"r\\\":0,\\\"s\\\":0,\\\"taken\\\":0}],\\\"v\\\":1}\",\"sessions\":[],\"site\":0,\"sites\":2}\n\
+{\"call\":\"take {\\\"from\\\":1,\\\"rows\\\":[{\\\"ann\\\":0,\\\"fin\\\":0,\\\"out\\\":[0,0],\\\"r\\\":0,\\\"s\\\":1,\\\"taken\\\":1}],\\\"v\\\":1}\",\"pass\":0,\"reply\":\"merged 1\"}\n";
+
+const HEARD_BACK: &str =
+    "{\"call\":\"take {\\\"from\\\":1,\\\"rows\\\":[{\\\"ann\\\":0,\\\"fin\\\":0,\\\"out\\\":[0,0],\\\"r\\\":0,\\\"s\\\":1,\\\"taken\\\":1}],\\\"v\\\":1}\",\"pass\":0,\"reply\":\"merged 0\"}\n";
+
 // More merges than are kept: so many behind the first one and a reader, and what is heard last; what site 0 did at the first
 // and at the second reading; how the engine ends, and the last line that it writes.
 type Long = (
@@ -323,4 +331,35 @@ fn many_merges_before_what_they_tell_of(rt: HostRuntime) {
     for (place, long) in LONG.iter().enumerate() {
         assert!(rt; ends_so(rt.alloc(), long) == Some(true), "{place}");
     }
+}
+
+// Site 0 hears so many times of the reader.
+fn hears_back(alloc: Global, times: usize) -> Result<String, AllocError> {
+    let mut text = String::from_str(alloc, HEARS_BACK)?;
+    for _ in 0..times {
+        text.push_str(HEARD_BACK)?;
+    }
+    Ok(text)
+}
+
+// Whether three files that can't be opened a second time are judged up to a cut, and found consistent: what site 0 gives, and
+// then 201 merges at each site, those of site 1 first or last.
+fn is_read_once(alloc: Global, word: &str, first: bool) -> Option<bool> {
+    let here = hears_often(alloc, 200, "").ok()?;
+    let back = hears_back(alloc, 200).ok()?;
+    let mut files = [GIVES, here.as_str(), back.as_str()];
+    if !first {
+        files.swap(1, 2);
+    }
+    let mut writer = Keeping::new(alloc, NEVER);
+    let ended = judged(alloc, word, &files, &["?", "?", "?"], &mut writer);
+    Some(ended == Some(Ok(())) && writer.bytes().ends_with(b"\nconsistent\n"))
+}
+
+// What each merge tells of stands before it: then none is kept, however many there are, and no file is read again. In the second
+// case site 0 goes on behind the cut, so that what it had done there is compared with.
+#[test]
+fn many_merges_behind_what_they_tell_of(rt: HostRuntime) {
+    assert!(rt; is_read_once(rt.alloc(), "full", true) == Some(true));
+    assert!(rt; is_read_once(rt.alloc(), "1,202", false) == Some(true));
 }
