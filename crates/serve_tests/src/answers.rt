@@ -208,7 +208,8 @@ static LINES: [Story; 13] = [
         (
             b"read a 7\nfence a 7\nfence a 8\nannounce a 5\nfence a 5\nleave a 7\nwrite a 5\nfence a 5\nleave a 5\nfence a 5\nread a 7\nfence a 7\n",
             Status::Done,
-            "admitted\nfence 17592186044416\nrefused NotHere\nannounced 1\nrefused NotHere\nleft reader\nadmitted\nfence 17592186044416\nleft writer\nrefused NotHere\nadmitted\nfence 17592186044417\n",
+            "admitted\nfence 17592186044416\nrefused NotHere\nannounced 1\nrefused NotHere\nleft reader\nadmitted\n\
+             fence 17592186044416\nleft writer\nrefused NotHere\nadmitted\nfence 17592186044417\n",
         ),
         (
             b"fence b 7\nfence a 1000000000001\nfence a 1000000000000\nfence a 7\n",
@@ -271,7 +272,8 @@ static BAD_LINES: [Story; 8] = [
         (
             b"reed a 7\nread a 7\n\nread a 8\r\nshow\nshow a b\nsessions  a\n show a\nrestart\nfence a\nfence a x\n",
             Status::Done,
-            "refused BadWord 1\nadmitted\nrefused BadWord 1\nrefused BadWord 3\nrefused BadWord 2\nrefused BadWord 3\nrefused BadWord 2\nrefused BadWord 1\nrefused BadWord 1\nrefused BadWord 3\nrefused BadWord 3\n",
+            "refused BadWord 1\nadmitted\nrefused BadWord 1\nrefused BadWord 3\nrefused BadWord 2\nrefused BadWord 3\n\
+             refused BadWord 2\nrefused BadWord 1\nrefused BadWord 1\nrefused BadWord 3\nrefused BadWord 3\n",
         ),
         (b"read a 7\n", Status::Done, "refused AlreadyHere\n"),
     ),
@@ -360,9 +362,13 @@ static OLDER_STORES: [Story; 2] = [
         TWO_SITES,
         0,
         (
-            b"read a 7\ntake {\"from\":1,\"rows\":[{\"ann\":0,\"fin\":0,\"out\":[2,1],\"r\":0,\"s\":0,\"taken\":0}],\"v\":1}\nread a 8\nleave a 7\nshow a\nsessions a\nfence a 7\nsend\ntake x\nfoo\nread a x\ngive a 1 2 3\nshow\ntake\n",
+            b"read a 7\n\
+              take {\"from\":1,\"rows\":[{\"ann\":0,\"fin\":0,\"out\":[2,1],\"r\":0,\"s\":0,\"taken\":0}],\"v\":1}\n\
+              read a 8\nleave a 7\nshow a\nsessions a\nfence a 7\nsend\ntake x\nfoo\nread a x\ngive a 1 2 3\nshow\ntake\n",
             Status::Fault,
-            "admitted\nrefused OwnRowAhead 0\nrefused Frozen\nrefused Frozen\nrefused Frozen\nrefused Frozen\nrefused Frozen\nrefused Frozen\nrefused NotJson\nrefused BadWord 1\nrefused BadWord 3\nrefused BadWord 5\nrefused BadWord 2\nrefused BadWord 2\n",
+            "admitted\nrefused OwnRowAhead 0\nrefused Frozen\nrefused Frozen\nrefused Frozen\nrefused Frozen\n\
+             refused Frozen\nrefused Frozen\nrefused NotJson\nrefused BadWord 1\nrefused BadWord 3\nrefused BadWord 5\n\
+             refused BadWord 2\nrefused BadWord 2\n",
         ),
         (
             b"sessions a\nread a 8\n",

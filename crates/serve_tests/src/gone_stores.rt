@@ -20,7 +20,9 @@ static GONE: [Gone; 6] = [
     (
         6,
         Status::Done,
-        "admitted\nrights 1 inside 1 unfinished 0\nrefused AlreadyHere\n{\"from\":0,\"rows\":[{\"ann\":0,\"fin\":0,\"out\":[2,0],\"r\":0,\"s\":0,\"taken\":1}],\"v\":1}\nrefused BadWord 1\nleft reader\n",
+        "admitted\nrights 1 inside 1 unfinished 0\nrefused AlreadyHere\n\
+         {\"from\":0,\"rows\":[{\"ann\":0,\"fin\":0,\"out\":[2,0],\"r\":0,\"s\":0,\"taken\":1}],\"v\":1}\n\
+         refused BadWord 1\nleft reader\n",
         6,
         2,
         4,
@@ -29,7 +31,9 @@ static GONE: [Gone; 6] = [
     (
         5,
         Status::Fault,
-        "admitted\nrights 1 inside 1 unfinished 0\nrefused AlreadyHere\n{\"from\":0,\"rows\":[{\"ann\":0,\"fin\":0,\"out\":[2,0],\"r\":0,\"s\":0,\"taken\":1}],\"v\":1}\nrefused BadWord 1\nrefused StoreFault\n",
+        "admitted\nrights 1 inside 1 unfinished 0\nrefused AlreadyHere\n\
+         {\"from\":0,\"rows\":[{\"ann\":0,\"fin\":0,\"out\":[2,0],\"r\":0,\"s\":0,\"taken\":1}],\"v\":1}\n\
+         refused BadWord 1\nrefused StoreFault\n",
         6,
         1,
         3,

@@ -56,7 +56,9 @@ static SENT: [Talk; 13] = [
         1,
         b"read a 7\ntake payroll d6a41a2b6edb4b8d dd43195b {\"from\":0,\"rows\":[{\"ann\":0,\"fin\":0,\"out\":[2,1],\"r\":0,\"s\":0,\"taken\":0}],\"v\":1}\nread a 7\nsend\n",
         Status::Done,
-        "refused NoSeat 0\nmerged 1\nadmitted\npayroll d6a41a2b6edb4b8d f5a110c0 {\"from\":1,\"rows\":[{\"ann\":0,\"fin\":0,\"out\":[2,1],\"r\":0,\"s\":0,\"taken\":0},{\"ann\":0,\"fin\":0,\"out\":[0,0],\"r\":0,\"s\":1,\"taken\":1}],\"v\":1}\n",
+        "refused NoSeat 0\nmerged 1\nadmitted\n\
+         payroll d6a41a2b6edb4b8d f5a110c0 {\"from\":1,\"rows\":[{\"ann\":0,\"fin\":0,\"out\":[2,1],\"r\":0,\"s\":0,\"taken\":0},\
+         {\"ann\":0,\"fin\":0,\"out\":[0,0],\"r\":0,\"s\":1,\"taken\":1}],\"v\":1}\n",
     ),
     // sites in no group
     (
@@ -200,7 +202,9 @@ static TAKEN: [Talk; 10] = [
           take payroll d6a41a2b6edb4b8d 01234567 x\n\
           read a 7\n",
         Status::Done,
-        "refused WrongGroup\nrefused WrongGroup\nrefused WrongGroup\nrefused WrongGroup\nrefused WrongGroup\nrefused WrongGroup\nrefused WrongGroup\nrefused OtherRecords\nrefused OtherRecords\nrefused Damaged\nrefused NoSeat 0\n",
+        "refused WrongGroup\nrefused WrongGroup\nrefused WrongGroup\nrefused WrongGroup\nrefused WrongGroup\n\
+         refused WrongGroup\nrefused WrongGroup\nrefused OtherRecords\nrefused OtherRecords\nrefused Damaged\n\
+         refused NoSeat 0\n",
     ),
     // texts that were changed on their way, and would be other deltas
     (

@@ -10,8 +10,10 @@ use test_streams::{Giving, Keeping, NEVER};
 use text_input::{Sink, Source};
 
 // A seat is taken, a delta tells of another one that this site took, twice, and the seat is given back.
-const LINES: &[u8] =
-    b"read a 7\ntake {\"from\":1,\"rows\":[{\"ann\":0,\"fin\":0,\"out\":[2,0],\"r\":0,\"s\":0,\"taken\":2}],\"v\":1}\ntake {\"from\":1,\"rows\":[{\"ann\":0,\"fin\":0,\"out\":[2,0],\"r\":0,\"s\":0,\"taken\":2}],\"v\":1}\nleave a 7\n";
+const LINES: &[u8] = b"read a 7\n\
+      take {\"from\":1,\"rows\":[{\"ann\":0,\"fin\":0,\"out\":[2,0],\"r\":0,\"s\":0,\"taken\":2}],\"v\":1}\n\
+      take {\"from\":1,\"rows\":[{\"ann\":0,\"fin\":0,\"out\":[2,0],\"r\":0,\"s\":0,\"taken\":2}],\"v\":1}\n\
+      leave a 7\n";
 
 // How many changes and marks are kept before one is not, why it is not, how the service ends, what it is told, how often
 // the keeper was told a change or a mark, and how many entries the log has then.

@@ -31,7 +31,10 @@ const LOOKS_FIRST: &[&[u8]] = &[
 const BEHIND_A_ROUND: &[&[u8]] = &[b"read a 7\nread a 8\n", b"show a\nleave a 7\nread a 9\n"];
 
 const OUTDATED: &[&[u8]] = &[
-    b"read a 7\ntake {\"from\":1,\"rows\":[{\"ann\":0,\"fin\":0,\"out\":[2,0],\"r\":0,\"s\":0,\"taken\":2}],\"v\":1}\ntake {\"from\":1,\"rows\":[{\"ann\":0,\"fin\":0,\"out\":[2,0],\"r\":0,\"s\":0,\"taken\":2}],\"v\":1}\nleave a 7\n",
+    b"read a 7\n\
+      take {\"from\":1,\"rows\":[{\"ann\":0,\"fin\":0,\"out\":[2,0],\"r\":0,\"s\":0,\"taken\":2}],\"v\":1}\n\
+      take {\"from\":1,\"rows\":[{\"ann\":0,\"fin\":0,\"out\":[2,0],\"r\":0,\"s\":0,\"taken\":2}],\"v\":1}\n\
+      leave a 7\n",
 ];
 
 const OUTDATED_AT_ONCE: &[&[u8]] = &[

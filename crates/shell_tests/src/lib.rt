@@ -13,6 +13,8 @@ mod run_programs;
 #[cfg(test)]
 mod runtime;
 #[cfg(test)]
+mod service_layouts;
+#[cfg(test)]
 mod service_programs;
 #[cfg(test)]
 mod site_programs;

@@ -256,7 +256,8 @@ static REBUILT: [Carried; 16] = [
             b"--store=new.db",
             b"--group=east.2",
         ],
-        "east.2:moved d6a41a2b6edb4b8d dd43195b {\"from\":0,\"rows\":[{\"ann\":0,\"fin\":0,\"out\":[2,1],\"r\":0,\"s\":0,\"taken\":0}],\"v\":1}\neast.2 d6a41a2b6edb4b8d dd43195b {\"from\":0,\"rows\":[{\"ann\":0,\"fin\":0,\"out\":[2,1],\"r\":0,\"s\":0,\"taken\":0}],\"v\":1}\n",
+        "east.2:moved d6a41a2b6edb4b8d dd43195b {\"from\":0,\"rows\":[{\"ann\":0,\"fin\":0,\"out\":[2,1],\"r\":0,\"s\":0,\"taken\":0}],\"v\":1}\n\
+         east.2 d6a41a2b6edb4b8d dd43195b {\"from\":0,\"rows\":[{\"ann\":0,\"fin\":0,\"out\":[2,1],\"r\":0,\"s\":0,\"taken\":0}],\"v\":1}\n",
         (4, "line 2 refused Twice\n", "", ""),
     ),
     (

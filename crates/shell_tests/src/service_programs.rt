@@ -9,7 +9,8 @@ static WRONG: [Wrong; 10] = [
     (
         &[b"seat_cli", b"serve", b"--site=0"],
         "error: the following required arguments were not provided:\n  --store <FILE>\n\n\
-         Usage: seat_cli serve --site I --store FILE [--layout FILE] [--group NAME | --plain] [--create] [--grow] [--wait SECONDS] [--together N | --log FILE]\n\nFor more information, try '--help'.\n",
+         Usage: seat_cli serve --site I --store FILE [--layout FILE] [--group NAME | --plain] [--create] [--grow] [--wait SECONDS] \
+         [--together N | --log FILE]\n\nFor more information, try '--help'.\n",
     ),
     (
         &[
@@ -77,7 +78,8 @@ static WRONG: [Wrong; 10] = [
     (
         &[b"seat_cli", b"serve", b"--site=0", b"--store=a.db", b"send"],
         "error: unexpected argument 'send' found\n\n\
-         Usage: seat_cli serve --site I --store FILE [--layout FILE] [--group NAME | --plain] [--create] [--grow] [--wait SECONDS] [--together N | --log FILE]\n\nFor more information, try '--help'.\n",
+         Usage: seat_cli serve --site I --store FILE [--layout FILE] [--group NAME | --plain] [--create] [--grow] [--wait SECONDS] \
+         [--together N | --log FILE]\n\nFor more information, try '--help'.\n",
     ),
     (
         &[b"seat_cli", b"ask", b"--site=0", b"--store=a.db"],
@@ -269,138 +271,7 @@ fn each_line_of_a_service_is_answered(rt: HostRuntime) {
     assert_eq!(rt; wrongly_carried(&rt, rt.alloc(), &SERVED), None);
 }
 
-// Layout files that are refused: the commands of a service name the record at fault, if it is one; `join`, `play`, `site`, `run`
-// and `judge` do not.
-static REFUSED: [Carried; 12] = [
-    (
-        &[
-            b"seat_cli",
-            b"serve",
-            b"--site=0",
-            b"--store=old.db",
-            b"--layout=seatless.toml",
-        ],
-        "read a 7\n",
-        (
-            3,
-            "",
-            "layout refused BadSeats\nrecord 2\n",
-            "seatless.toml\n",
-        ),
-    ),
-    (
-        &[
-            b"seat_cli",
-            b"ask",
-            b"--site=0",
-            b"--store=old.db",
-            b"--layout=seatless.toml",
-            b"send",
-        ],
-        "",
-        (
-            3,
-            "",
-            "layout refused BadSeats\nrecord 2\n",
-            "seatless.toml\n",
-        ),
-    ),
-    (
-        &[
-            b"seat_cli",
-            b"serve",
-            b"--site=0",
-            b"--store=old.db",
-            b"--layout=names.toml",
-        ],
-        "",
-        (3, "", "layout refused SameName\nrecord 3\n", "names.toml\n"),
-    ),
-    (
-        &[
-            b"seat_cli",
-            b"ask",
-            b"--site=0",
-            b"--store=old.db",
-            b"--layout=names.toml",
-            b"send",
-        ],
-        "",
-        (3, "", "layout refused SameName\nrecord 3\n", "names.toml\n"),
-    ),
-    (
-        &[
-            b"seat_cli",
-            b"serve",
-            b"--site=0",
-            b"--store=old.db",
-            b"--layout=empty.toml",
-        ],
-        "",
-        (3, "", "layout refused NoRecords\n", "empty.toml\n"),
-    ),
-    (
-        &[
-            b"seat_cli",
-            b"ask",
-            b"--site=0",
-            b"--store=old.db",
-            b"--layout=no.toml",
-            b"send",
-        ],
-        "",
-        (3, "", "layout refused NotRead\n", "no.toml\n"),
-    ),
-    (
-        &[
-            b"seat_cli",
-            b"site",
-            b"--site=0",
-            b"--store=old.db",
-            b"--layout=seatless.toml",
-        ],
-        "",
-        (3, "", "layout refused BadSeats\n", "seatless.toml\n"),
-    ),
-    (
-        &[
-            b"seat_cli",
-            b"site",
-            b"--site=0",
-            b"--store=old.db",
-            b"--layout=names.toml",
-        ],
-        "",
-        (3, "", "layout refused SameName\n", "names.toml\n"),
-    ),
-    (
-        &[b"seat_cli", b"join", b"--layout=seatless.toml"],
-        "",
-        (3, "", "layout refused BadSeats\n", "seatless.toml\n"),
-    ),
-    (
-        &[b"seat_cli", b"play", b"--layout=names.toml"],
-        "",
-        (3, "", "layout refused SameName\n", "names.toml\n"),
-    ),
-    (
-        &[b"seat_cli", b"judge", b"--layout=seatless.toml"],
-        "",
-        (3, "", "layout refused BadSeats\n", "seatless.toml\n"),
-    ),
-    (
-        &[b"seat_cli", b"run", b"--layout=names.toml"],
-        "",
-        (3, "", "layout refused SameName\n", "names.toml\n"),
-    ),
-];
-
-#[test]
-fn a_record_at_fault_is_named_where_a_site_is_to_be_served(rt: HostRuntime) {
-    assert_eq!(rt; wrongly_carried(&rt, rt.alloc(), &REFUSED), None);
-}
-
-// The same of `ask`: its words are one call, and no input is read.
+// What `ask` does: its words are one call, and no input is read.
 static ASKED: [Carried; 12] = [
     (
         &[
