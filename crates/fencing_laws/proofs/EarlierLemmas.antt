@@ -1,5 +1,5 @@
 -- A writer's number is no smaller than an earlier session's: some seat is always with who knows of the floor.
-use Rattle.std.proofs.Common.{◌≡◌, ◌≢◌, ℕ, zero, suc, ◌+◌, ◌<◌, ◌≤◌, ◌⊎◌, inl, inr, cond, eqb, ltb, List, [], ◌∷◌, length, Option, Some, None, refl, sym, ap, subst, ◌∙◌, arith}
+use Rattle.std.proofs.Common.{◌≡◌, ◌≢◌, ℕ, ◌+◌, ◌<◌, ◌≤◌, ◌⊎◌, inl, inr, cond, eqb, ltb, List, [], ◌∷◌, length, Option, Some, None, refl, sym, ap, subst, ◌∙◌, arith}
 use Rattle.std.specs.Prelude.{slice_get}
 use Rattle.std.specs.List.{AllByRecursion}
 use Rattle.std.proofs.lemmas.Bool.{cases_eq, cases_lt, cond_both, eq-eqb, ne_eqb, ltb-true, cond-true, cond-false}
@@ -41,7 +41,7 @@ use Rattle.rebuild_laws.proofs.RebuildLaw.{sound_rebuilt_world}
 use Rattle.multi_site_world.proofs.LawLemmas.{run_layout}
 use Rattle.fencing_laws.specs.Fences.{fence, IsWellTold, AreWellTold}
 use Rattle.fencing_laws.proofs.SeatLemmas.{others_rise, others_least_but, others_more_but, held, held_sum, some_inside}
-use Rattle.fencing_laws.proofs.FollowLemmas.{KnowsFloor, IsSite, BringFloor, known_mine, ask_known, asked_site, hears_rises, hears_new, grown_column, grown_new, grown_site}
+use Rattle.fencing_laws.proofs.FollowLemmas.{KnowsFloor, knows_or_not, IsSite, BringFloor, known_mine, ask_known, asked_site, hears_rises, hears_new, grown_column, grown_new, grown_site}
 use Rattle.fencing_laws.proofs.FenceLemmas.{Tells, TellsIt, site_of, bring, whole_covers, thin_covers, tells_known, push_all, none_elsewhere, arrived}
 use Rattle.fencing_laws.proofs.LeaveLemmas.{at_sites_of}
 
@@ -314,31 +314,6 @@ carried_other w r i ask floor before sound below not_known c = record {
     tells_more : (ds : List DeltaState) → AllByRecursion (IsMessage w.layout (account_at w)) ds → AllByRecursion (TellsIt (shape_of w.layout) r floor before) ds → AllByRecursion (TellsIt (shape_of w.layout) r floor (λ x y. cond (eqb x i) (own (after (account_at w i) (AskCall ask)) r (Out y)) (before x y))) ds
     tells_more [] messages all = tt
     tells_more (d ∷ ds) messages all = (rows_more d.rows d.rows all.0, tells_more ds messages.1 all.1)
-
--- a site knows of the floor, or does not
-decide : (m : ℕ) (f g : ℕ → ℕ) → ((s : ℕ) → s < m → f s ≤ g s) ⊎ ((s : ℕ) × (g s < f s))
-decide zero f g = inl (λ s lower. absurd (omega arith))
-decide (suc m) f g = at (decide m f g) (cases_lt (g m) (f m))
-  where
-    last : ((s : ℕ) → s < m → f s ≤ g s) → f m ≤ g m → (s : ℕ) → s < suc m → (s ≡ m) ⊎ (s ≡ m → ⊥) → f s ≤ g s
-    last earlier here s lower (inl e) = subst (λ (x : ℕ). f x ≤ g x) (sym e) here
-    last earlier here s lower (inr ne) = earlier s (omega arith)
-
-    at : ((s : ℕ) → s < m → f s ≤ g s) ⊎ ((s : ℕ) × (g s < f s)) → (g m < f m) ⊎ (f m ≤ g m) → ((s : ℕ) → s < suc m → f s ≤ g s) ⊎ ((s : ℕ) × (g s < f s))
-    at (inr some) other = inr some
-    at (inl earlier) (inl here) = inr (m, here)
-    at (inl earlier) (inr here) = inl (λ s lower. last earlier here s lower (cases_eq s m))
-
-knows_or_not : (n r : ℕ) (floor : ℕ → ℕ) (a : Account) → ((s : ℕ) → n ≤ s → floor s ≡ 0) → KnowsFloor r floor a ⊎ (¬ KnowsFloor r floor a)
-knows_or_not n r floor a past = at (decide n floor (λ s. known a r s Fin))
-  where
-    each : ((s : ℕ) → s < n → floor s ≤ known a r s Fin) → (s : ℕ) → (s < n) ⊎ (n ≤ s) → floor s ≤ known a r s Fin
-    each below s (inl lower) = below s lower
-    each below s (inr beyond) = omega (arith, past s beyond)
-
-    at : ((s : ℕ) → s < n → floor s ≤ known a r s Fin) ⊎ ((s : ℕ) × (known a r s Fin < floor s)) → KnowsFloor r floor a ⊎ (¬ KnowsFloor r floor a)
-    at (inl below) = inl (λ s. each below s (cases_lt s n))
-    at (inr (s, less)) = inr (λ knows. absurd (omega (arith, less, knows s)))
 
 carried_ask : (w : World) (r i : ℕ) (ask : Ask) (floor : ℕ → ℕ) → IsSoundWorld w → i < w.layout.sites → ((s : ℕ) → w.layout.sites ≤ s → floor s ≡ 0) → IsCarried r floor w → IsCarried r floor (with_account w i (after (account_at w i) (AskCall ask)))
 carried_ask w r i ask floor sound below past c = at (knows_or_not w.layout.sites r floor (after (account_at w i) (AskCall ask)) past)

@@ -1,5 +1,5 @@
 -- What one account keeps: knowledge of finished writers goes with the seats.
-use Rattle.std.proofs.Common.{◌≡◌, ◌≢◌, ℕ, ◌<◌, ◌≤◌, ◌⊎◌, inl, inr, List, Option, Some, None, refl, sym, ap, subst, ◌∙◌, arith}
+use Rattle.std.proofs.Common.{◌≡◌, ◌≢◌, ℕ, zero, suc, ◌<◌, ◌≤◌, ◌⊎◌, inl, inr, List, Option, Some, None, refl, sym, ap, subst, ◌∙◌, arith}
 use Rattle.std.proofs.lemmas.Bool.{cases_eq, cases_lt, cond_both}
 use Rattle.merge_core.specs.declared.cell.Cell.{Cell}
 use Rattle.merge_core.specs.declared.cell.Cell.TheVariants.{Out, Fin}
@@ -243,3 +243,28 @@ next_grown layout r floor before i n a is more few = record {
   fins = λ s. known_grown a n r s Fin tt;
   new = λ x y there apart above. inl (grown_new layout before i n r a is x y apart above);
 }
+
+-- a site knows of the floor, or does not
+decide : (m : ℕ) (f g : ℕ → ℕ) → ((s : ℕ) → s < m → f s ≤ g s) ⊎ ((s : ℕ) × (g s < f s))
+decide zero f g = inl (λ s lower. absurd (omega arith))
+decide (suc m) f g = at (decide m f g) (cases_lt (g m) (f m))
+  where
+    last : ((s : ℕ) → s < m → f s ≤ g s) → f m ≤ g m → (s : ℕ) → s < suc m → (s ≡ m) ⊎ (s ≡ m → ⊥) → f s ≤ g s
+    last earlier here s lower (inl e) = subst (λ (x : ℕ). f x ≤ g x) (sym e) here
+    last earlier here s lower (inr ne) = earlier s (omega arith)
+
+    at : ((s : ℕ) → s < m → f s ≤ g s) ⊎ ((s : ℕ) × (g s < f s)) → (g m < f m) ⊎ (f m ≤ g m) → ((s : ℕ) → s < suc m → f s ≤ g s) ⊎ ((s : ℕ) × (g s < f s))
+    at (inr some) other = inr some
+    at (inl earlier) (inl here) = inr (m, here)
+    at (inl earlier) (inr here) = inl (λ s lower. last earlier here s lower (cases_eq s m))
+
+pub knows_or_not : (n r : ℕ) (floor : ℕ → ℕ) (a : Account) → ((s : ℕ) → n ≤ s → floor s ≡ 0) → KnowsFloor r floor a ⊎ (¬ KnowsFloor r floor a)
+knows_or_not n r floor a past = at (decide n floor (λ s. known a r s Fin))
+  where
+    each : ((s : ℕ) → s < n → floor s ≤ known a r s Fin) → (s : ℕ) → (s < n) ⊎ (n ≤ s) → floor s ≤ known a r s Fin
+    each below s (inl lower) = below s lower
+    each below s (inr beyond) = omega (arith, past s beyond)
+
+    at : ((s : ℕ) → s < n → floor s ≤ known a r s Fin) ⊎ ((s : ℕ) × (known a r s Fin < floor s)) → KnowsFloor r floor a ⊎ (¬ KnowsFloor r floor a)
+    at (inl below) = inl (λ s. each below s (cases_lt s n))
+    at (inr (s, less)) = inr (λ knows. absurd (omega (arith, less, knows s)))

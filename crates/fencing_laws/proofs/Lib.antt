@@ -7,6 +7,7 @@ pub mod StayLemmas
 pub mod FairLemmas
 pub mod HearLemmas
 pub mod EnterLemmas
+pub mod NeverLemmas
 pub mod NumberLemmas
 pub mod WellToldLemmas
 pub mod RememberLemmas

@@ -317,7 +317,7 @@ pub(crate) fn open_once<S: Beginning>(
     if is_at(rt, path, place) {
         return Ok((connection, place));
     }
-    let _ = connection.close();
+    let _ = connection.close(); // nothing was written through it
     Err(ServiceEnd::Absent(Absence::InUse))
 }
 

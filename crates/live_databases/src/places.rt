@@ -81,7 +81,7 @@ fn is_folder_there(rt: &HostRuntime, path: &str) -> Result<bool, ServiceEnd>
     let Ok(mut folder) = PathBuf::from_str(rt.alloc(), path) else {
         return Err(ServiceEnd::Ended(Status::Memory));
     };
-    let _ = folder.pop();
+    let _ = folder.pop(); // the file's own name
     if folder.as_str().is_empty() {
         return Ok(true);
     }

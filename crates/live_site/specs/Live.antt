@@ -158,7 +158,8 @@ module _ {K L : Type 0} where
 
   -- One call at a site that serves, for every account that its core stands for. Where the durable part does not change, and the
   -- reply does not show that the store is outdated, the keeper is as it was.
-  pub record IsServingSite (g : Ghosts K) (m : K → Type 0) (h : LogGhosts L) (a : Account) (old new : LiveState K) (log log_after : L) (call : Call) (text text_after : List ℕ) (outcome : Outcome) : Type 0 where
+  pub record IsServingSite (g : Ghosts K) (m : K → Type 0) (h : LogGhosts L) (a : Account) (old new : LiveState K)
+      (log log_after : L) (call : Call) (text text_after : List ℕ) (outcome : Outcome) : Type 0 where
     pub step : IsLiveStep g m h a old.core new.core old.keeper new.keeper log log_after call text text_after outcome
     pub freezing : new.frozen ≡ freezes a call outcome
     pub idle : is_outdated (reply_of (view_of a) call) ≡ false → IsEmpty (change_between a (after a call)) → new.keeper ≡ old.keeper

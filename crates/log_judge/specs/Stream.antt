@@ -131,7 +131,8 @@ pub record IsLog (layout : LayoutState) (ts : List Transcript) (cut : List ℕ) 
   pub replaying : IsReplaying layout i (runs_at ts i) more later log.replay
   pub length_is : slice_index cut i ≡ length_by log.replay.cut (count_of (runs_at ts i))
   pub fits : IsFitting keeping log
-  pub taken : (¬ HasEnded log.replay.stage) → IsGuess keeping (cut_account layout ts cut) → AreKept (cut_account layout ts cut) (site_brought layout ts i) (min (settled_in log) (slice_index cut i)) log
+  pub taken : (¬ HasEnded log.replay.stage) → IsGuess keeping (cut_account layout ts cut)
+      → AreKept (cut_account layout ts cut) (site_brought layout ts i) (min (settled_in log) (slice_index cut i)) log
 
 -- what is known of the logs of all sites: of the transcripts, and of a cut through them
 pub record AreLogs (layout : LayoutState) (ts : List Transcript) (cut : List ℕ) (more : ℕ → List Entry) (later : ℕ → List Run) (logs : Logs) : Type 0 where

@@ -64,7 +64,8 @@ fn is_before(at: u64, cut: Option<u64>) -> bool
 // The first row above what its site had done, of merges that were carried out.
 fn first_taken(taken: &[Taken], tables: &[OwnRows]) -> Option<Place>
     ensures none { MatchOption result (AreNotAhead tables.now taken.now) (λ _. Unit {0}) }
-    ensures found { (accounts : ℕ → AccountThere) (lists : List (List RowThere)) (to : ℕ) → AreTaken accounts lists 0 to taken.now → TellAll tables.now accounts → IsFoundAt tables.now lists to result }
+    ensures found { (accounts : ℕ → AccountThere) (lists : List (List RowThere)) (to : ℕ) → AreTaken accounts lists 0 to taken.now
+        → TellAll tables.now accounts → IsFoundAt tables.now lists to result }
 {
     let mut rest = taken;
     'taken: while let [it, later @ ..] = rest {
@@ -207,7 +208,8 @@ impl SiteLog {
     fn add_snapshot(&mut self, alloc: Global) -> Result<(), AllocError>
         requires { (layout : LayoutState) × (ts : List TranscriptThere) × (cut : List ℕ) × (i : ℕ) × (keeping : KeepingThere) × (e : EntryThere) × (more : List EntryThere) × (later : List RunThere)
             × IsLog layout ts cut i keeping (e ∷ more) later self.old }
-        ensures { IfOk result (λ _. (core : CoreThere) (layout : LayoutState) (ts : List TranscriptThere) (cut : List ℕ) (i : ℕ) (keeping : KeepingThere) (e : EntryThere) (more : List EntryThere) (later : List RunThere)
+        ensures { IfOk result (λ _. (core : CoreThere) (layout : LayoutState) (ts : List TranscriptThere) (cut : List ℕ) (i : ℕ) (keeping : KeepingThere)
+            (e : EntryThere) (more : List EntryThere) (later : List RunThere)
             → IsClear core self.old.replay.stage → IsShownBy core e → IsLog layout ts cut i keeping (e ∷ more) later self.old → IsLog layout ts cut i keeping more later self.new) }
     {
         self.replay.add_snapshot(alloc)

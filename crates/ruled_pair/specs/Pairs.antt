@@ -75,7 +75,8 @@ abbrev pub MayEndIn : ℕ → PassState → RuledInlet → InReport → Type 0
 MayEndIn asked p e r = (asked ≤ r.taken + r.memory) ⊎ (IsMarked p ⊎ (e.taker.finished ≡ true))
 
 -- both runners of a direction have run, the outbox by the answers of this gate
-pub record HasRunBoth {G : Type 0} (answers : G → ℕ → Bool → G → Type 0) (records asked : ℕ) (out_old out_new in_old in_new : PassState) (gate_old gate_new : G) (old new : Direction) (out : OutReport) (got : InReport) : Type 0 where
+pub record HasRunBoth {G : Type 0} (answers : G → ℕ → Bool → G → Type 0) (records asked : ℕ)
+    (out_old out_new in_old in_new : PassState) (gate_old gate_new : G) (old new : Direction) (out : OutReport) (got : InReport) : Type 0 where
   pub ran_out : HasRunOut answers records out_old out_new gate_old gate_new asked out
   pub ran_in : HasRunIn (map string_bytes new.inlet.taken.items) in_old in_new asked got
   pub sent : HasSent old.outlet new.outlet out_new.receipts out.sent

@@ -3,6 +3,7 @@ pub mod OpenLemmas
 pub mod OwnLemmas
 pub mod RangeLemmas
 pub mod ServedLemmas
+pub mod MarkedLemmas
 pub mod SiteTextLemmas
 pub mod SqlLemmas
 pub mod MoveLemmas

@@ -226,7 +226,9 @@ fn drop_session<S: Alter>(tx: &mut Transaction<'_, S>, r: u16, h: u64) -> Result
 fn put_session<S: Alter>(tx: &mut Transaction<'_, S>, session: StoredSession) -> Result<(), Error>
     requires holder { session.h < 2 ^ 63 }
     requires place { session.place < 2 ^ 63 }
-    ensures { Puts S.Store 1 (λ p. HasFreePlace (Some (SessionEdit.Put session)) p.sessions) (λ _. Brings (λ p. HasFreePlace (Some (SessionEdit.Put session)) p.sessions) (with_edit (Some (SessionEdit.Put session)))) tx.old result tx.new }
+    ensures { Puts S.Store 1 (λ p. HasFreePlace (Some (SessionEdit.Put session)) p.sessions)
+        (λ _. Brings (λ p. HasFreePlace (Some (SessionEdit.Put session)) p.sessions) (with_edit (Some (SessionEdit.Put session))))
+        tx.old result tx.new }
 {
     drop_session(tx, session.r, session.h)?;
     add_session(tx, session)

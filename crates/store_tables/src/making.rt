@@ -35,7 +35,10 @@ fn create_tables<S: Alter>(tx: &mut Transaction<'_, S>) -> Result<(), Error>
 
 /// The rows of `meta`.
 fn put_marks<S: Alter>(tx: &mut Transaction<'_, S>, site: &str, layout: &str) -> Result<(), Error>
-    ensures { Runs S.Store (λ _. Brings Any (λ p. with_mark (mark (codes "layout") layout.now) (with_mark (mark (codes "site") site.now) (with_mark (mark (codes "version") (version_text Second)) p)))) tx.old result tx.new }
+    ensures { Runs S.Store
+        (λ _. Brings Any (λ p. with_mark (mark (codes "layout") layout.now) (with_mark (mark (codes "site") site.now)
+        (with_mark (mark (codes "version") (version_text Second)) p))))
+        tx.old result tx.new }
 {
     put_mark(tx, "version", version_text(Version::Second))?;
     put_mark(tx, "site", site)?;

@@ -13,6 +13,7 @@ pub trait Element<T> {
     // The value at the front and the bytes behind it, where one stands there.
     ghost at: { List ℕ → Option (T × List ℕ) };
 
+    /// The value at the front of a text, and the bytes behind it; or that no element stands there, or that memory is lacking.
     fn read_front(alloc: Global, bytes: &[u8]) -> Result<(T, &[u8]), Unread>
         ensures { Gives (λ x. (x.0, x.1.now)) result (at bytes.now) };
 }

@@ -11,6 +11,7 @@ pub trait Written<T> {
     // The element's text.
     ghost text_of: { T → List ℕ };
 
+    /// Writes an element behind a text.
     fn push_onto(text: &mut String, element: &T) -> Result<(), AllocError>
         ensures { IfOk result (λ _. string_bytes text.new ≡ string_bytes text.old ++ text_of element.now) };
 }

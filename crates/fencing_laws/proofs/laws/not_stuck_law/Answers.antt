@@ -1,4 +1,5 @@
-use Rattle.fencing_laws.proofs.EnterLemmas.{not_stuck, never_enters}
+use Rattle.fencing_laws.proofs.EnterLemmas.{not_stuck}
+use Rattle.fencing_laws.proofs.NeverLemmas.{never_enters}
 use Rattle.fencing_laws.proofs.FairLemmas.{others_stay}
 use Rattle.fencing_laws.proofs.laws.not_stuck_law.Goals as goal
 

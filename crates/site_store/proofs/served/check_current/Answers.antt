@@ -6,7 +6,8 @@ use Rattle.site_store.specs.Errors.{open_error}
 use Rattle.site_store.specs.SiteText.{named}
 use Rattle.site_store.specs.Served.{IsContentCause}
 use Rattle.site_store.proofs.OwnLemmas.{fault_of}
-use Rattle.site_store.proofs.ServedLemmas.{device_content, fault_below, not_marked, table_device}
+use Rattle.site_store.proofs.ServedLemmas.{device_content, fault_below, table_device}
+use Rattle.site_store.proofs.MarkedLemmas.{not_marked}
 use Rattle.site_store.proofs.served.check_current.Goals as goal
 
 abbrev error : TableError → Result Bool TableError

@@ -11,7 +11,8 @@ use Rattle.site_store.specs.SiteText.{named}
 use Rattle.site_store.specs.Opened.{IsDue}
 use Rattle.site_store.specs.Served.{IsContentCause, IsDeviceOrMark, IsHeldRefusal, IsOpenRefusal}
 use Rattle.site_store.proofs.OwnLemmas.{if_err_from}
-use Rattle.site_store.proofs.ServedLemmas.{kept_store, not_marked, taken_device}
+use Rattle.site_store.proofs.ServedLemmas.{kept_store, taken_device}
+use Rattle.site_store.proofs.MarkedLemmas.{not_marked}
 use Rattle.site_store.proofs.served.open_content.Goals as goal
 
 -- ---- a store that is marked

@@ -3,7 +3,7 @@ use Rattle.site_store.specs.declared.error.ServedError.{ServedError}
 use Rattle.site_store.specs.declared.error.ServedError.TheVariants as served
 use Rattle.site_store.specs.SiteText.{named}
 use Rattle.site_store.specs.Served.{IsContentCause, IsHeldRefusal}
-use Rattle.site_store.proofs.ServedLemmas.{mark_is_none, marked_cause, marked_fault, marked_held}
+use Rattle.site_store.proofs.MarkedLemmas.{mark_is_none, marked_cause, marked_fault, marked_held}
 use Rattle.site_store.proofs.served.outdated_refusal.Goals as goal
 use Rattle.site_store.proofs.served.outdated_refusal.Goals.{in-Ok, in-Err}
 

@@ -22,7 +22,8 @@ use Rattle.site_store.specs.Served.{Finds, IsContentCause, IsDevice, IsDeviceOrM
 use Rattle.site_store.proofs.OpenLemmas.{beside_some, refused}
 use Rattle.site_store.proofs.OwnLemmas.{any_of, any_of_either, fault_of, if_err_from, some_found, some_kept, table_cause}
 use Rattle.site_store.proofs.RangeLemmas.{in_range}
-use Rattle.site_store.proofs.ServedLemmas.{bad_unmarked, content_cause, device_of, either_taken, fault_below, kept_store, left_as, left_doubt_as, left_store, memory_is_none, memory_unmarked, not_found, not_marked, ready_honest, refused_from, settled_as}
+use Rattle.site_store.proofs.ServedLemmas.{content_cause, device_of, either_taken, fault_below, kept_store, left_as, left_doubt_as, left_store, memory_is_none, not_found, ready_honest, refused_from, settled_as}
+use Rattle.site_store.proofs.MarkedLemmas.{bad_unmarked, memory_unmarked, not_marked}
 use Rattle.site_store.proofs.served.prepare_found.Goals as goal
 
 abbrev error : TableError → Result (Option Stored) TableError

@@ -17,7 +17,8 @@ use Rattle.site_store.specs.SiteText.{named, site_text}
 use Rattle.site_store.specs.Opened.{CommitsNothing, IsDue, IsReady, IsRefusal}
 use Rattle.site_store.specs.Served.{IsDenied, IsLeftOfDoubt, IsLeftOfEither, IsLeftOfNothing, IsLeftOfStore}
 use Rattle.site_store.proofs.OpenLemmas.{if_honest, stored_again}
-use Rattle.site_store.proofs.ServedLemmas.{denied_schema, device_schema, judged_schema, left_honest, left_nothing_honest, memory_is_none, memory_nothing, memory_store, memory_unmarked, none_kept, none_there, off_either, off_store, on_nothing, refused_device, refused_nothing, refused_open, refused_store, store_there}
+use Rattle.site_store.proofs.ServedLemmas.{denied_schema, device_schema, judged_schema, left_honest, left_nothing_honest, memory_is_none, memory_nothing, memory_store, none_kept, none_there, off_either, off_store, on_nothing, refused_device, refused_nothing, refused_open, refused_store, store_there}
+use Rattle.site_store.proofs.MarkedLemmas.{memory_unmarked}
 use Rattle.site_store.proofs.sql.SqlKeeper.open_served.Goals as goal
 
 -- ---- where a content was kept
