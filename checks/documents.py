@@ -134,7 +134,8 @@ def functions(file, names, is_public):
             claim = [re.findall(r"(?<![.\w])\w+", part) for part in (whole.split("→")[-1], whole)]
             by = [word for words in claim for word in words if word in defined]
             now[2].append(clause[1] or (f"by `{by[0]}`" if by else "its value"))
-        if now and line.rstrip().endswith(";"):  # a function of a trait, with its last clause
+        is_field = re.match(r"^\s*\w+ = .*;$", line)  # of a record that a clause builds
+        if now and line.rstrip().endswith(";") and not is_field:  # a function of a trait, with its last clause
             yield now
             now = None
         if line.strip() and not line.strip().startswith(("#[", "ghost use")):

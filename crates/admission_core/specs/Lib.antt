@@ -1,6 +1,7 @@
 pub mod Core
 pub mod Kept
 pub mod Prepared
+pub mod Decided
 pub mod Carrying
 pub mod Joining
 pub mod Restored

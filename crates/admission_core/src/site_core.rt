@@ -9,6 +9,7 @@ use std::marker::Model;
 
 mod carrying;
 mod cells;
+mod deciding;
 mod lookups;
 mod merging;
 mod planning;
@@ -207,16 +208,16 @@ impl SiteCore {
     pub fn ask(&mut self, ask: Ask) -> Reply
         ensures { IsServed self.old self.new (AskCall ask) result }
     {
-        if let Some(refusal) = self.ask_reason(ask) {
-            return Reply::Refused(refusal);
-        }
-        let operation = self.operation_of(ask);
-        let answer = self.answer(ask);
+        let decision = match self.decide(ask) {
+            Ok(decision) => decision,
+            Err(refusal) => return Reply::Refused(refusal),
+        };
+        let operation = decision.operation;
         let Ok(()) = self.reserve_for(operation) else {
             return Reply::Refused(Refusal::Memory);
         };
         self.carry_out(operation);
-        answer
+        decision.answer
     }
 
     /// What this site tells others: all rows that have left their start. Linear in the book.

@@ -18,3 +18,4 @@ pub mod TogetherLemmas
 pub mod HoldLemmas
 pub mod AloneLemmas
 pub mod TakeLemmas
+pub mod GenerationLemmas

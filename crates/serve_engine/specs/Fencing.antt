@@ -18,8 +18,8 @@ use Rattle.serve_engine.specs.Answers.{field}
 abbrev pub generation_width : ℕ
 generation_width = 17592186044416
 
--- the number of whoever is inside a record, by the generation of the site's group: no generation has a number of another,
--- since `number_of` is less than the width for an account that is reached
+-- the number of whoever is inside a record, by the generation of the site's group; no generation has a number of another
+-- (`generation_law`)
 abbrev pub fence_number : ℕ → Account → ℕ → ℕ
 fence_number generation a r = generation * generation_width + number_of a r
 

@@ -68,7 +68,8 @@ module _ {K : Type 0} where
     pub has : HasExchanges round sure waiting
 
   -- A round of these exchanges and of one line more, which has no answer. The keeper below keeps what it kept before the round.
-  pub record IsUndone (g : Ghosts K) (base : DurableState) (terms : Terms) (a : Account) (k : K) (held : LiveState (StagedState K)) (round : RoundState) (xs : List Exchange) (line : List ℕ) : Type 0 where
+  pub record IsUndone (g : Ghosts K) (base : DurableState) (terms : Terms) (a : Account) (k : K)
+      (held : LiveState (StagedState K)) (round : RoundState) (xs : List Exchange) (line : List ℕ) : Type 0 where
     pub sure : List Exchange
     pub waiting : List Exchange
     pub split : xs ≡ sure ++ waiting

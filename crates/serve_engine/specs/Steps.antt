@@ -161,7 +161,8 @@ module _ {K C L : Type 0} where
 
 module _ {K : Type 0} where
   -- what a site served so far, from an account
-  pub record StandsBehind (g : Ghosts K) (m : K → Type 0) (terms : Terms) (a : Account) (first : DurableState) (keeper : K) (live : LiveState K) (xs : List Exchange) (entries : List Entry) : Type 0 where
+  pub record StandsBehind (g : Ghosts K) (m : K → Type 0) (terms : Terms) (a : Account) (first : DurableState)
+      (keeper : K) (live : LiveState K) (xs : List Exchange) (entries : List Entry) : Type 0 where
     pub fault : Bool
     pub account : Account
     pub tried : Account

@@ -159,7 +159,8 @@ fn carry_out<K: LiveKeeper, L: CallLog>(
     text: &mut String,
     log: &mut L,
 ) -> Told
-    ensures served { (terms : Terms) (layout : LayoutState) (line : List ℕ) → AreTerms terms layout marker.now → string_bytes text.old ≡ space_before terms call.now → Asks terms line (Some (Asked call.now))
+    ensures served { (terms : Terms) (layout : LayoutState) (line : List ℕ) → AreTerms terms layout marker.now
+        → string_bytes text.old ≡ space_before terms call.now → Asks terms line (Some (Asked call.now))
         → (a : Account) → Stands a live.old.core → ServesLine K.Keeper K.is_outdated L.CallLog terms a live.old live.new log.old log.new line result (string_bytes text.new) }
     ensures layout { live.new.core.layout ≡ live.old.core.layout }
     ensures site { live.new.core.site ≡ live.old.core.site }

@@ -30,7 +30,7 @@ fn records_in<'a>(layout: &Layout, line: &'a [u8]) -> &'a [u8]
     requires { line.now ≡ line_of layout.now }
     ensures { result.now ≡ records_text layout.now.records }
 {
-    let _sites = layout.sites();
+    let _sites = layout.sites(); // tells that the layout is one
     match number_at(line) {
         Ok((_, records)) => records,
         Err(_) => b"",

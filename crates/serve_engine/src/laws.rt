@@ -1,14 +1,18 @@
-//! What marks tell apart, and which word of a line is not right: functions that do nothing, whose contracts are the laws.
-ghost use Rattle.std.specs.Prelude.{◌≡◌, ◌≢◌, ◌↔◌, ℕ, List, ◌++◌, Option, codes, Some, []};
+//! What marks and fencing numbers tell apart, and which word of a line is not right: functions that do nothing, whose contracts
+//! are the laws.
+ghost use Rattle.std.specs.Prelude.{◌≡◌, ◌≢◌, ◌↔◌, ◌<◌, ◌≤◌, ℕ, List, ◌++◌, Option, codes, Some, []};
 ghost use Rattle.merge_core.specs.Layout.{LayoutState};
 ghost use Rattle.merge_core.specs.Delta.{DeltaState, IsDelta};
 ghost use Rattle.admission_model.specs.declared.ask.Call.TheVariants.{Merge};
+ghost use Rattle.admission_model.specs.Account.{Account};
+ghost use Rattle.admission_model.specs.Reached.{IsReached};
 ghost use Rattle.delta_codec.specs.DeltaText.{delta_text};
 ghost use Rattle.serve_engine.specs.declared.marks.Marking.TheVariants.{Marked};
 ghost use Rattle.serve_engine.specs.declared.marks.MarkFault.TheVariants.{NoMark, WrongGroup, OtherRecords, Damaged};
 ghost use Rattle.serve_engine.specs.declared.request.Request.{Request};
 ghost use Rattle.serve_engine.specs.declared.request.Request.TheVariants.{Asked, Unmarked};
 ghost use Rattle.serve_engine.specs.Marks.{IsMark, IsMarked, IsWord, Mark, group_word, mark_of, records_digest, text_digest, with_mark, IsFault, first_digits};
+ghost use Rattle.serve_engine.specs.Fencing.{fence_number};
 ghost use Rattle.serve_engine.specs.Requests.{Asks, terms_of};
 ghost use Rattle.script_text.specs.Examples.{two_records};
 ghost use Rattle.serve_engine.specs.BadWords.{wrong_word};
@@ -74,4 +78,10 @@ pub fn bad_word_examples()
     ensures name_twice { wrong_word two_records (codes "sessions a stock-2") ≡ 3 }
     ensures blank_behind { wrong_word two_records (codes "send ") ≡ 2 }
     ensures no_text { wrong_word two_records (codes "take") ≡ 2 }
+{}
+
+/// A number of one generation of a group is less than each number of a later one, whatever sites they are of and whatever
+/// these have done.
+pub fn generation_law()
+    ensures { (a b : Account) → IsReached a → a.sites ≤ 16 → (r q earlier later : ℕ) → earlier < later → fence_number earlier a r < fence_number later b q }
 {}

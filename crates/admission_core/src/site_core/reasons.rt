@@ -3,13 +3,17 @@ ghost use Rattle.std.specs.Prelude.{◌≡◌, ◌+◌, nat_lt};
 ghost use Rattle.grow_counters.specs.Counts.{counter_limit};
 
 use super::SiteCore;
-use admission_model::{Ask, HOLDER_LIMIT, Phase, Refusal};
+use admission_model::{Ask, HOLDER_LIMIT, Phase, Plan, Refusal};
 use grow_counters::COUNTER_LIMIT;
 use merge_core::Cell;
 use writer_notices::MOST_WRITERS;
 
 impl SiteCore {
-    ghost use Rattle.std.specs.Prelude.{◌≡◌};
+    ghost use Rattle.std.specs.Prelude.{◌≡◌, ◌+◌, MatchResult, None, Some};
+    ghost use Rattle.merge_core.specs.Book.{counter_of};
+    ghost use Rattle.merge_core.specs.declared.cell.Cell.TheVariants.{Ann};
+    ghost use Rattle.session_list.specs.Sessions.{phase_in};
+    ghost use Rattle.admission_model.specs.View.{plan_of};
     ghost use Rattle.admission_model.specs.declared.ask.Call.TheVariants.{Ask as AskCall};
     ghost use Rattle.admission_model.specs.Replies.{read_lines, announce_lines, write_lines, leave_lines, give_lines, help_lines, first_reason};
     ghost use Rattle.admission_model.specs.Serving.{reason};
@@ -21,15 +25,15 @@ impl SiteCore {
     {
         match ask {
             Ask::Read { r, h } => self.read_reason(r, h),
-            Ask::Announce { r, h } => self.announce_reason(r, h),
+            Ask::Announce { r, h } => self.number_to_announce(r, h).err(),
             Ask::Quill { r, h } => self.write_reason(r, h),
-            Ask::Leave { r, h } => self.leave_reason(r, h),
+            Ask::Leave { r, h } => self.phase_to_leave(r, h).err(),
             Ask::Give { r, to, seats } => self.give_reason(r, to, seats),
-            Ask::Help { r } => self.help_reason(r),
+            Ask::Help { r } => self.plan_to_help(r).err(),
         }
     }
 
-    fn read_reason(&self, r: u16, h: u64) -> Option<Refusal>
+    pub(super) fn read_reason(&self, r: u16, h: u64) -> Option<Refusal>
         ensures { result ≡ first_reason (read_lines (core_view self.now) r h) }
     {
         if !self.has_record(r) {
@@ -54,29 +58,32 @@ impl SiteCore {
         None
     }
 
-    fn announce_reason(&self, r: u16, h: u64) -> Option<Refusal>
-        ensures { result ≡ first_reason (announce_lines (core_view self.now) r h) }
+    // The number of a writer that may announce itself.
+    pub(super) fn number_to_announce(&self, r: u16, h: u64) -> Result<u64, Refusal>
+        ensures { MatchResult result
+            (λ number. (first_reason (announce_lines (core_view self.now) r h) ≡ None) × (number ≡ counter_of self.now.book r self.now.site Ann + 1))
+            (λ refusal. first_reason (announce_lines (core_view self.now) r h) ≡ Some refusal) }
     {
         if !self.has_record(r) {
-            return Some(Refusal::NoRecord);
+            return Err(Refusal::NoRecord);
         }
         if h > HOLDER_LIMIT {
-            return Some(Refusal::BadHolder);
+            return Err(Refusal::BadHolder);
         }
         if self.sessions.phase(r, h).is_some() {
-            return Some(Refusal::AlreadyHere);
+            return Err(Refusal::AlreadyHere);
         }
         let announced = self.own(r, Cell::Ann);
         if passes_limit(announced, 1) {
-            return Some(Refusal::CounterFull);
+            return Err(Refusal::CounterFull);
         }
         if announced.saturating_sub(self.own(r, Cell::Fin)) >= MOST_WRITERS {
-            return Some(Refusal::TooManyWriters);
+            return Err(Refusal::TooManyWriters);
         }
-        None
+        Ok(announced + 1)
     }
 
-    fn write_reason(&self, r: u16, h: u64) -> Option<Refusal>
+    pub(super) fn write_reason(&self, r: u16, h: u64) -> Option<Refusal>
         ensures { result ≡ first_reason (write_lines (core_view self.now) r h) }
     {
         if !self.has_record(r) {
@@ -101,22 +108,25 @@ impl SiteCore {
         None
     }
 
-    fn leave_reason(&self, r: u16, h: u64) -> Option<Refusal>
-        ensures { result ≡ first_reason (leave_lines (core_view self.now) r h) }
+    // The phase of a session that may leave.
+    pub(super) fn phase_to_leave(&self, r: u16, h: u64) -> Result<Phase, Refusal>
+        ensures { MatchResult result
+            (λ phase. (first_reason (leave_lines (core_view self.now) r h) ≡ None) × (phase_in self.now.sessions r h ≡ Some phase))
+            (λ refusal. first_reason (leave_lines (core_view self.now) r h) ≡ Some refusal) }
     {
         if !self.has_record(r) {
-            return Some(Refusal::NoRecord);
+            return Err(Refusal::NoRecord);
         }
         if h > HOLDER_LIMIT {
-            return Some(Refusal::BadHolder);
+            return Err(Refusal::BadHolder);
         }
-        if self.sessions.phase(r, h).is_none() {
-            return Some(Refusal::NotHere);
-        }
-        None
+        let Some(phase) = self.sessions.phase(r, h) else {
+            return Err(Refusal::NotHere);
+        };
+        Ok(phase)
     }
 
-    fn give_reason(&self, r: u16, to: u16, seats: u64) -> Option<Refusal>
+    pub(super) fn give_reason(&self, r: u16, to: u16, seats: u64) -> Option<Refusal>
         ensures { result ≡ first_reason (give_lines (core_view self.now) r to seats) }
     {
         if !self.has_record(r) {
@@ -141,23 +151,26 @@ impl SiteCore {
         None
     }
 
-    fn help_reason(&self, r: u16) -> Option<Refusal>
-        ensures { result ≡ first_reason (help_lines (core_view self.now) r) }
+    // The plan that may be carried out.
+    pub(super) fn plan_to_help(&self, r: u16) -> Result<Plan, Refusal>
+        ensures { MatchResult result
+            (λ plan. (first_reason (help_lines (core_view self.now) r) ≡ None) × (plan_of (core_view self.now) r ≡ Some plan))
+            (λ refusal. first_reason (help_lines (core_view self.now) r) ≡ Some refusal) }
     {
         if !self.has_record(r) {
-            return Some(Refusal::NoRecord);
+            return Err(Refusal::NoRecord);
         }
         let _ = &self.site; // tells the invariant: it is one of the layout's
         let Some(plan) = self.plan_for(r) else {
-            return Some(Refusal::NoPlan);
+            return Err(Refusal::NoPlan);
         };
         if passes_limit(self.own(r, Cell::Out(plan.to)), plan.seats) {
-            return Some(Refusal::CounterFull);
+            return Err(Refusal::CounterFull);
         }
-        None
+        Ok(plan)
     }
 
-    ghost use Rattle.std.specs.Prelude.{◌<◌, length, MatchOption, false, Some};
+    ghost use Rattle.std.specs.Prelude.{◌<◌, length, MatchOption, false};
     ghost use Rattle.admission_model.specs.Replies.{must_wait};
     ghost use Rattle.admission_model.specs.View.{first_unfinished};
     ghost use Rattle.std.specs.Prelude.{true};

@@ -2,7 +2,7 @@ use Rattle.std.proofs.Common.{◌≡◌, ◌<◌, Some, subst}
 use Rattle.admission_model.specs.View.{plan_of}
 use Rattle.admission_core.specs.Core.{Core, core_view}
 use Rattle.admission_core.proofs.CoreLemmas.{plan_there}
-use Rattle.admission_core.proofs.site_core.SiteCore.help_reason.Goals as goal
+use Rattle.admission_core.proofs.site_core.SiteCore.plan_to_help.Goals as goal
 
 pub own-requires-clause-cell : goal.own-requires-clause-cell
 own-requires-clause-cell c =

@@ -1,0 +1,5 @@
+use Rattle.std.proofs.Common.{rules}
+use Rattle.merge_core.proofs.delta.order.comes_before.Goals as goal
+
+pub returns-then-p-q-2 : goal.returns-then-p-q-2
+returns-then-p-q-2 c = search rules
