@@ -136,7 +136,7 @@ def killed_over_paused(day):
         one.set_mark()
         day.now()
         one.start()
-        yield 60, [("start", one, "store refused InUse\nstatus 1$")]
+        yield 60, [("start", one, "store refused InUse: .*\nstatus 1$")]
     finally:
         os.kill(service, signal.SIGKILL)
     one.start()

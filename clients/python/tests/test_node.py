@@ -752,7 +752,7 @@ class Restarts(NodeCase):
         os.kill(service, signal.SIGKILL)
         errors = second.communicate(timeout=30)[1]
         # Where the first one was faster it has its store again. On a busy machine the second one says first that it waits.
-        self.assertIn(f"{errors.splitlines()[-1]}\n", (f"zinduroi: {self.folder}/0.db.sessions: database is locked\n", "zinduroi: store refused InUse\n"))
+        self.assertIn(f"{errors.splitlines()[-1]}\n", (f"zinduroi: {self.folder}/0.db.sessions: database is locked\n", f"zinduroi: store refused InUse: {self.folder}/0.db\n"))
         self.assertEqual(second.returncode, 1)
         self.says(client, ("sessions a", "1 x reader"))
 
@@ -819,8 +819,8 @@ class Restarts(NodeCase):
                 accepted.close()
 
     def test_faults_of_the_start(self):
-        for change, status, fault in ((("0.db", "none.db"), 1, "zinduroi: store refused NoStore\n"),
-                                      (("layout.toml", "none.toml"), 1, "zinduroi: layout refused NotRead\n"),
+        for change, status, fault in ((("0.db", "none.db"), 1, "zinduroi: store refused NoStore: {folder}/none.db\n"),
+                                      (("layout.toml", "none.toml"), 1, "zinduroi: layout refused NotRead: {folder}/none.toml\n"),
                                       (("site = 0", "site = 99"), 78, "zinduroi: {config}: site: is not from 0 to 15: 99\n")):
             with self.open():
                 pass
@@ -854,6 +854,9 @@ class Restarts(NodeCase):
         process = self.spawn(config, "--create")
         errors = process.communicate(timeout=60)[1]
         self.assertEqual((errors, process.returncode), (f"zinduroi: [Errno 2] No such file or directory: '{self.folder}/deltas'\n", 1))
+        self.assertFalse((self.folder / "0.db").exists())
+        with self.open():
+            pass
         self.process = self.spawn(config)
         self.assertTrue(wait_for(self.answers))
         (self.folder / "deltas").mkdir()
@@ -869,6 +872,9 @@ class Restarts(NodeCase):
         self.process = self.spawn(config, "--create")
         errors = self.process.communicate(timeout=20)[1]
         self.assertEqual((errors, self.process.returncode), (f"zinduroi: [Errno 2] No such file or directory: '{self.folder}/other'\n", 1))
+        self.assertFalse((self.folder / "0.db").exists())
+        with self.open():
+            pass
         self.process = self.spawn(config)
         self.assertTrue(wait_for(self.answers))
         other = self.open(1)

@@ -156,6 +156,7 @@ class Faults(Nodes):
             process = self.spawn(1, "--create", table=table + self.peer(0))
             errors = process.communicate(timeout=60)[1]
             self.assertEqual(process.returncode, status)
+            self.assertFalse((self.folder / "1.db").exists())
             self.assertTrue(errors.startswith(f"zinduroi: {self.folder / '1.toml'}: transport 1: ") and cause in errors, errors)
 
     def test_others_are_closed(self):

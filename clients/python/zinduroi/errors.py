@@ -214,20 +214,21 @@ class Memory(Refused):
     """The service found no memory for this call. It goes on with the next one."""
 
 
-class _Named(ZinduroiError):
-    """What ended the program before it answered a call."""
+class StartRefused(ZinduroiError):
+    """What ended the program before it answered a call. `name` says why. `file` is the one that was refused, where a node tells it."""
 
     what: ClassVar[str] = ""
 
     def __init__(self, name: str) -> None:
         super().__init__(name)
         self.name = name
+        self.file: Optional[object] = None
 
     def __str__(self) -> str:
-        return f"{self.what} refused {self.name}"
+        return f"{self.what} refused {self.name}" + (f": {self.file}" if self.file is not None else "")
 
 
-class StoreRefused(_Named):
+class StoreRefused(StartRefused):
     """The store can't be used. `name` says why: `NoFolder` (its folder is not there), `NoStore` (there is none, and `create` is not
     set), `Exists` (there is one, and `create` is set), `NotAStore` (the file is no database, or another program made its
     tables), `InUse` (another process has it open), `WrongSite`, `WrongGroup` (it is of another group of sites, or of none),
@@ -238,13 +239,13 @@ class StoreRefused(_Named):
     what = "store"
 
 
-class LayoutRefused(_Named):
+class LayoutRefused(StartRefused):
     """The layout can't be used. `name` says why: `NotRead`, `NotToml`, `NoSite` and so on."""
 
     what = "layout"
 
 
-class LogRefused(_Named):
+class LogRefused(StartRefused):
     """The file for the log can't be used. `name` says why: `IsStore` (it is the store), `NotRead`, `InUse` (another process writes
     it), `NotALog` or `NotTranscript` (it is no log), `WrongSite` (it is the log of another site), or `WrongStore` (the store has
     more or fewer calls than the log)."""

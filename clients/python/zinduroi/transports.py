@@ -39,6 +39,10 @@ class Folder:
         self.folder = pathlib.Path(folder)
         self._seen: Dict[str, Tuple[int, int, int]] = {}
 
+    def look(self) -> None:
+        """Raises `OSError` if the folder is not there, or can't be read."""
+        os.scandir(self.folder).close()
+
     def publish(self, site: int, text: str) -> None:
         part = self.folder / f".{site}.{os.getpid()}.part"
         part.write_text(text + "\n", encoding="utf-8")

@@ -11,9 +11,9 @@ import socket
 from typing import Any, Callable, Counter, Dict, Iterable, List, Optional, Set, Tuple
 
 from ..exchange import Exchange
-from ..errors import StoreRefused
+from ..errors import StartRefused, StoreRefused
 from ..site import Layout, read_layout
-from ..transports import Transport
+from ..transports import Folder, Transport
 from .answers import Answers
 from .book import Book, stored_sessions
 from .config import Config
@@ -105,7 +105,7 @@ class Node:
         self._stopping = asyncio.Event()
 
     async def run(self, create: bool) -> None:
-        """Serves until `stop` is called. With `create` the store is made first. Raises what the site, the exchange or the socket
+        """Serves until `stop` is called. With `create` the store is made, once its transports are. Raises what the site, the exchange or the socket
         raise at their start, and `Stopped` if `stop` is called before the program has answered."""
         accepting: Optional[asyncio.Task[None]] = None
         try:
@@ -114,6 +114,9 @@ class Node:
             accepting = asyncio.create_task(self._accept(listening))
             report(f"site {self.config.site} at {self._listener.path}")
             await self._stopping.wait()
+        except StartRefused as refused:
+            refused.file = getattr(self.config, refused.what)
+            raise
         finally:
             if accepting is not None:
                 accepting.cancel()
@@ -127,9 +130,11 @@ class Node:
     async def _open(self, create: bool) -> None:
         config = self.config
         layout = await unless_stopped(self._stopping, f"{config.program} to read the layout", read_layout, config.layout, config.program)
-        records = tuple(record.name for record in layout.records)
+        if create:
+            self._begin_transports()
         self._site = await unless_stopped(self._stopping, f"{config.program} to open the store", NodeSite, config.store, config.site,
                                           config.layout, config.group, create, config.log, config.program)
+        records = tuple(record.name for record in layout.records)
         self._book = Book(f"{config.store}.sessions")
         link = Link(self._site)
         stored = {}
@@ -152,9 +157,9 @@ class Node:
             self._page = page
 
     async def _start_exchange(self, site: NodeSite, answers: Answers, layout: Layout, create: bool) -> None:
-        """Starts the exchange, and seat sharing where a transport can. At the first start of a site a folder that is not there was
-        mistyped. A start that waits for peers leaves the loop to others."""
-        self._transports = transports = self._make_transports()
+        """Starts the exchange, and seat sharing where a transport can. A start that waits for peers leaves the loop to others."""
+        transports = self._transports if create else self._make_transports()
+        self._transports = transports
         if transports:
             transport = transports[0] if len(transports) == 1 else Several(transports)
             self._exchange = Exchange(site, transport, self.config.interval, self.config.every, answers.records)
@@ -166,6 +171,14 @@ class Node:
         if sharers and self.config.share:
             sharing = Sharing(answers, sharers[0], layout)
             self._sharing = sharing, asyncio.create_task(sharing.run())
+
+    def _begin_transports(self) -> None:
+        """Makes the transports of a site's first start before its store is made, which what was mistyped there, as a folder that is not
+        there, would leave behind."""
+        self._transports = self._make_transports()
+        for transport in self._transports:
+            if isinstance(transport, Folder):
+                transport.look()
 
     def _make_transports(self) -> List[Transport]:
         """Makes all transports, or none."""
@@ -232,6 +245,8 @@ class Node:
             await asyncio.gather(self._sharing[1], return_exceptions=True)
         if self._exchange is not None:
             await asyncio.to_thread(self._exchange.close)
+        elif self._transports:
+            await asyncio.to_thread(Several(self._transports).close)
         if self._hang_ups is not None:
             self._hang_ups.close()
         if self._book is not None:
