@@ -279,7 +279,10 @@ def created_twice(place):
 
 
 def missing_folder(place):
+    (place.folder / "text").write_text("a letter to a friend\n")
     for more in ([], ["--create"]):
+        said = place.ask(place.folder / "text/s.db", *more, "show", "a")
+        tell(said == "store refused StoreFault 5", f"a path below a file{', with --create' * len(more)}", said)
         said = place.ask(place.folder / "none/s.db", *more, "show", "a")
         tell(said == "store refused NoFolder 5" and not (place.folder / "none").exists(), f"a folder that is not there{', with --create' * len(more)}", said)
 
@@ -437,8 +440,13 @@ def log_is_store(place):
         said = place.ask(store, "--log", log, "show", "a")
         kept = files(store) == before and wal(store).stat().st_size < 100  # an opening draws a new number for the empty -wal
         tell(said == "log refused IsStore 8" and kept, f"as a log {what}", f"{said}, {'as it was' if kept else 'changed'}")
+    before = files(store)
+    said = place.ask(place.folder / "link.db", "--log", wal(store), "show", "a")
+    tell(said == "log refused IsStore 8" and files(store) == before, "as a log its -wal, where a link names the store", said)
+    new = place.folder / "new.db"
+    said = place.ask(new, "--create", "--log", new, "show", "a")
+    tell(said == "log refused IsStore 8" and not new.exists(), "of a store that is to be made, its name", said)
     for what, log in {"./ and its name": "./new.db", "a link to it": place.folder / "new.link"}.items():
-        new = place.folder / "new.db"
         if not isinstance(log, str):
             log.symlink_to(new)
         said = place.ask(new, "--create", "--log", log, "show", "a"), place.ask(new, "show", "a")
@@ -560,7 +568,7 @@ def groups(place):
 # A file that is taken away while its site is served
 
 def taken_away(place):
-    """Each way in which a path comes to lead to something else: nothing is answered that is lost with the file."""
+    """Each way in which a path comes to lead to something else: nothing is answered that is lost with the file, of lines one by one and in rounds."""
     def move(store):
         store.rename(store.with_name("aside.db"))
 
@@ -581,16 +589,17 @@ def taken_away(place):
         above.rename(above.with_name(above.name + ".aside"))
         above.write_bytes(b"")
 
-    for way in (move, remove, replace, folder, file_above):
-        for line in ("read a 5", "sessions a", "send", "leave a 9", "reed"):
-            name = f"{way.__name__}.{line.split()[0]}"
-            (place.folder / name).mkdir()
-            store = place.store(f"{name}/s.db")
-            service = Service(place, store)
-            before = service.call("sessions a")
-            way(store)
-            said = service.call(line), service.call("sessions a"), service.call("leave a 9"), service.end()
-            tell(before == KEPT and said == ("refused StoreFault", "refused Frozen", "refused Frozen", "5"), f"{way.__name__}: `{line}`", ", ".join(said))
+    for words in ((), ("--together", "8")):
+        for way in (move, remove, replace, folder, file_above):
+            for line in ("read a 5", "sessions a", "send", "leave a 9", "reed"):
+                name = ".".join((way.__name__, line.split()[0], *words[1:]))
+                (place.folder / name).mkdir()
+                store = place.store(f"{name}/s.db")
+                service = Service(place, store, *words)
+                before = service.call("sessions a")
+                way(store)
+                said = service.call(line), service.call("sessions a"), service.call("leave a 9"), service.end()
+                tell(before == KEPT and said == ("refused StoreFault", "refused Frozen", "refused Frozen", "5"), f"{name}: `{line}`", ", ".join(said))
     aside = place.folder / "move.read" / "aside.db"
     aside.rename(aside.with_name("s.db"))
     tell(place.is_kept(aside.with_name("s.db")), "a file that is put back is served, and its writer is inside")
