@@ -855,8 +855,9 @@ class Restarts(NodeCase):
         errors = process.communicate(timeout=60)[1]
         self.assertEqual((errors, process.returncode), (f"zinduroi: [Errno 2] No such file or directory: '{self.folder}/deltas'\n", 1))
         self.assertFalse((self.folder / "0.db").exists())
-        with self.open():
-            pass
+        self.start()
+        self.end()
+        shutil.rmtree(self.folder / "deltas")
         self.process = self.spawn(config)
         self.assertTrue(wait_for(self.answers))
         (self.folder / "deltas").mkdir()
@@ -873,8 +874,11 @@ class Restarts(NodeCase):
         errors = self.process.communicate(timeout=20)[1]
         self.assertEqual((errors, self.process.returncode), (f"zinduroi: [Errno 2] No such file or directory: '{self.folder}/other'\n", 1))
         self.assertFalse((self.folder / "0.db").exists())
-        with self.open():
-            pass
+        (self.folder / "other").mkdir()
+        self.process = self.spawn(config, "--create")
+        self.assertTrue(wait_for(self.answers))
+        self.end()
+        shutil.rmtree(self.folder / "other")
         self.process = self.spawn(config)
         self.assertTrue(wait_for(self.answers))
         other = self.open(1)
