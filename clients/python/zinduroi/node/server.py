@@ -105,8 +105,8 @@ class Node:
         self._stopping = asyncio.Event()
 
     async def run(self, create: bool) -> None:
-        """Serves until `stop` is called. With `create` the store is made, once its transports are. Raises what the site, the exchange or the socket
-        raise at their start, and `Stopped` if `stop` is called before the program has answered."""
+        """Serves until `stop` is called. With `create` the store is made, once the transports are. Raises what the site, the transports,
+        the exchange or the socket raise at their start, and `Stopped` if `stop` is called before the program has answered."""
         accepting: Optional[asyncio.Task[None]] = None
         try:
             await self._open(create)
