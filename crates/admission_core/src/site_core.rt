@@ -320,7 +320,7 @@ impl SiteCore {
         ensures { result ≡ reason (core_view self.now) call.now }
     {
         match call {
-            Call::Ask(ask) => self.ask_reason(*ask),
+            Call::Ask(ask) => self.decide(*ask).err(),
             Call::Merge(delta) => self.merge_reason(delta),
             Call::Snapshot => None,
         }

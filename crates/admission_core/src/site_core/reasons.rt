@@ -3,7 +3,7 @@ ghost use Rattle.std.specs.Prelude.{◌≡◌, ◌+◌, nat_lt};
 ghost use Rattle.grow_counters.specs.Counts.{counter_limit};
 
 use super::SiteCore;
-use admission_model::{Ask, HOLDER_LIMIT, Phase, Plan, Refusal};
+use admission_model::{HOLDER_LIMIT, Phase, Plan, Refusal};
 use grow_counters::COUNTER_LIMIT;
 use merge_core::Cell;
 use writer_notices::MOST_WRITERS;
@@ -14,24 +14,8 @@ impl SiteCore {
     ghost use Rattle.merge_core.specs.declared.cell.Cell.TheVariants.{Ann};
     ghost use Rattle.session_list.specs.Sessions.{phase_in};
     ghost use Rattle.admission_model.specs.View.{plan_of};
-    ghost use Rattle.admission_model.specs.declared.ask.Call.TheVariants.{Ask as AskCall};
     ghost use Rattle.admission_model.specs.Replies.{read_lines, announce_lines, write_lines, leave_lines, give_lines, help_lines, first_reason};
-    ghost use Rattle.admission_model.specs.Serving.{reason};
     ghost use Rattle.admission_core.specs.Core.{core_view};
-
-    /// Why the site refuses what a caller asks, want of memory aside.
-    pub(super) fn ask_reason(&self, ask: Ask) -> Option<Refusal>
-        ensures { result ≡ reason (core_view self.now) (AskCall ask) }
-    {
-        match ask {
-            Ask::Read { r, h } => self.read_reason(r, h),
-            Ask::Announce { r, h } => self.number_to_announce(r, h).err(),
-            Ask::Quill { r, h } => self.write_reason(r, h),
-            Ask::Leave { r, h } => self.phase_to_leave(r, h).err(),
-            Ask::Give { r, to, seats } => self.give_reason(r, to, seats),
-            Ask::Help { r } => self.plan_to_help(r).err(),
-        }
-    }
 
     pub(super) fn read_reason(&self, r: u16, h: u64) -> Option<Refusal>
         ensures { result ≡ first_reason (read_lines (core_view self.now) r h) }
