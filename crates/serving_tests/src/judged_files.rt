@@ -77,6 +77,12 @@ const GIVES: &str = "\
 {\"book\":\"{\\\"from\\\":0,\\\"rows\\\":[],\\\"v\\\":1}\",\"sessions\":[],\"site\":0,\"sites\":2}\n\
 {\"call\":\"give a 1 1\",\"pass\":0,\"reply\":\"given\"}\n";
 
+// It tells of that.
+const TELLS: &str = "\
+{\"book\":\"{\\\"from\\\":0,\\\"rows\\\":[],\\\"v\\\":1}\",\"sessions\":[],\"site\":0,\"sites\":2}\n\
+{\"call\":\"give a 1 1\",\"pass\":0,\"reply\":\"given\"}\n\
+{\"call\":\"send\",\"pass\":0,\"reply\":\"{\\\"from\\\":0,\\\"rows\\\":[{\\\"ann\\\":0,\\\"fin\\\":0,\\\"out\\\":[2,1],\\\"r\\\":0,\\\"s\\\":0,\\\"taken\\\":0}],\\\"v\\\":1}\"}\n";
+
 // It is opened again.
 const AGAIN: &str = "\
 {\"book\":\"{\\\"from\\\":0,\\\"rows\\\":[{\\\"ann\\\":0,\\\"fin\\\":0,\\\"out\\\":[2,1],\\\"r\\\":0,\\\"s\\\":0,\\\"taken\\\":0}],\\\"v\\\":1}\",\"sessions\":[],\"site\":0,\"sites\":2}\n\
@@ -117,8 +123,19 @@ type Story = (
     &'static str,
 );
 
-static STORIES: [Story; 16] = [
+static STORIES: [Story; 17] = [
     (&[GIVES, HEARS], "full", Ok(()), HEARD),
+    (
+        &[TELLS, HEARS],
+        "full",
+        Ok(()),
+        "\
+site      cut  entries  runs
+   0        2        2     1
+   1        2        2     1
+consistent
+",
+    ),
     (&[HEARS, GIVES], "full", Ok(()), HEARD),
     (&["", HEARS, "", GIVES, ""], "full", Ok(()), HEARD),
     (
