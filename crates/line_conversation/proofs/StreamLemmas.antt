@@ -90,17 +90,37 @@ cut_along limit false ended_now ahead lost read turns rest cut closed =
     subst (λ (xs : List ℕ). CutsTurns limit ended_now xs turns (rest ++ read)) (append_assoc ahead lost read)
     (more_left limit ended_now (ahead ++ lost) turns rest read cut)
 
+-- what is left behind what came next: all that was there where nothing did
+left_by : Next → List ℕ → List ℕ → List ℕ
+left_by next.Line all rest = rest
+left_by next.TooLong all rest = rest
+left_by next.Memory all rest = rest
+left_by next.Torn all rest = rest
+left_by next.End all rest = rest
+left_by next.Failed all rest = all
+
+left_whole : (told : Next) (all rest : List ℕ) → (told ≡ next.Failed → ⊥) → left_by told all rest ≡ rest
+unfolding left_by
+left_whole next.Line all rest whole = refl
+left_whole next.TooLong all rest whole = refl
+left_whole next.Memory all rest whole = refl
+left_whole next.Torn all rest whole = refl
+left_whole next.End all rest whole = refl
+left_whole next.Failed all rest whole = absurd (whole refl)
+
 -- with what came next
-cut_next : (told : Next) (limit : ℕ) (ended : Bool) (bytes : List ℕ) (turns : List Turn) (ahead kept rest : List ℕ) → (told ≡ next.Failed → ⊥) → CutsTurns limit ended bytes turns ahead
-    → Cuts told ended ahead kept limit rest → CutsTurns limit ended bytes (turns ++ heard_by told kept) rest
-cut_next next.Line limit ended bytes turns ahead kept rest whole before cut = cut_more limit ended bytes turns ahead rest (Whole kept) before cut
-cut_next next.TooLong limit ended bytes turns ahead kept rest whole before cut = cut_more limit ended bytes turns ahead rest TooLong before cut
-cut_next next.Memory limit ended bytes turns ahead kept rest whole before cut = cut_more limit ended bytes turns ahead rest NoRoom before cut
-cut_next next.Torn limit ended bytes turns ahead kept rest whole before cut = cut_more limit ended bytes turns ahead rest Torn before cut.0
-cut_next next.End limit ended bytes turns ahead kept rest whole before (closed, none, nothing) =
+cut_next : (told : Next) (limit : ℕ) (ended : Bool) (bytes : List ℕ) (turns : List Turn) (ahead kept rest : List ℕ) → CutsTurns limit ended bytes turns ahead
+    → Cuts told ended ahead kept limit rest → CutsTurns limit ended bytes (turns ++ heard_by told kept) (left_by told ahead rest)
+unfolding left_by
+cut_next next.Line limit ended bytes turns ahead kept rest before cut = cut_more limit ended bytes turns ahead rest (Whole kept) before cut
+cut_next next.TooLong limit ended bytes turns ahead kept rest before cut = cut_more limit ended bytes turns ahead rest TooLong before cut
+cut_next next.Memory limit ended bytes turns ahead kept rest before cut = cut_more limit ended bytes turns ahead rest NoRoom before cut
+cut_next next.Torn limit ended bytes turns ahead kept rest before cut = cut_more limit ended bytes turns ahead rest Torn before cut.0
+cut_next next.End limit ended bytes turns ahead kept rest before (closed, none, nothing) =
     subst (λ (ts : List Turn). CutsTurns limit ended bytes ts rest) (sym (append-nil turns))
     (subst (λ (xs : List ℕ). CutsTurns limit ended bytes turns xs) (none ∙ sym nothing) before)
-cut_next next.Failed limit ended bytes turns ahead kept rest whole before cut = absurd (whole refl)
+cut_next next.Failed limit ended bytes turns ahead kept rest before cut =
+    subst (λ (ts : List Turn). CutsTurns limit ended bytes ts ahead) (sym (append-nil turns)) before
 
 -- a reading that is noted as failed has
 pub is_failed : (told : Next) → sameb the_type told next.Failed ≡ true → told ≡ next.Failed
@@ -120,11 +140,13 @@ heard_more first old new held told open_so read limit kept limit_now sink broken
   lost = was.lost ++ read.lost;
   consumed = Consumes-trans first.source.remaining old.source.remaining new.source.remaining was.lost read.lost was.consumed read.consumed;
   limit = limit_now ∙ (limit ∙ was.limit);
-  heard = λ whole. cut_next told first.limit new.ended (first.ahead ++ (was.lost ++ read.lost)) before (old.ahead ++ read.lost) new.kept new.ahead
-      (λ failed. let clash : true ≡ false = sym (broken failed) ∙ whole in cc)
-      (cut_along first.limit old.ended new.ended first.ahead was.lost read.lost before old.ahead (was.heard open_so) read.closed)
+  rest = left_by told (old.ahead ++ read.lost) new.ahead;
+  heard = cut_next told first.limit new.ended (first.ahead ++ (was.lost ++ read.lost)) before (old.ahead ++ read.lost) new.kept new.ahead
+      (cut_along first.limit old.ended new.ended first.ahead was.lost read.lost before old.ahead
+      (subst (λ (xs : List ℕ). CutsTurns first.limit old.ended (first.ahead ++ was.lost) before xs) (was.left open_so) was.heard) read.closed)
       (subst (λ (n : ℕ). Cuts told new.ended (old.ahead ++ read.lost) new.kept n new.ahead) (limit ∙ was.limit)
       (subst (λ (xs : List ℕ). Cuts told new.ended (old.ahead ++ read.lost) xs held.limit new.ahead) (sym kept) read.cut));
+  left = λ whole. left_whole told (old.ahead ++ read.lost) new.ahead (λ failed. let clash : true ≡ false = sym (broken failed) ∙ whole in cc);
   told = λ whole.
       subst (λ (xs : List ℕ). Appends first.sink.contents new.sink.contents xs) (sym (told_same before told new.kept))
       (subst (λ (s : SinkState). Appends first.sink.contents s.contents (told_in before)) (sym sink)
@@ -173,9 +195,10 @@ told_text first old new text same writes before was = record {
   lost = was.lost;
   consumed = subst (λ (s : StreamState). Consumes first.source.remaining s.source.remaining was.lost) (sym same) was.consumed;
   limit = ap (λ (s : StreamState). s.limit) same ∙ was.limit;
-  heard = λ whole. still_cut first.limit new.ended (first.ahead ++ was.lost) before new.ahead text
-      (subst (λ (s : StreamState). CutsTurns first.limit s.ended (first.ahead ++ was.lost) before s.ahead) (sym same)
-      (was.heard (sym (ap (λ (s : StreamState). s.broken) same) ∙ whole)));
+  rest = was.rest;
+  heard = still_cut first.limit new.ended (first.ahead ++ was.lost) before was.rest text
+      (subst (λ (s : StreamState). CutsTurns first.limit s.ended (first.ahead ++ was.lost) before was.rest) (sym same) was.heard);
+  left = λ whole. was.left (sym (ap (λ (s : StreamState). s.broken) same) ∙ whole) ∙ sym (ap (λ (s : StreamState). s.ahead) same);
   told = λ whole.
       subst (λ (xs : List ℕ). Appends first.sink.contents new.sink.contents xs) (sym (told_more before text))
       (Appends-trans first.sink.contents old.sink.contents new.sink.contents (told_in before) text (was.told (sym writes.kept ∙ whole)) writes.appended);
@@ -190,8 +213,9 @@ untold_text first old new same fault before was = record {
   lost = was.lost;
   consumed = subst (λ (s : StreamState). Consumes first.source.remaining s.source.remaining was.lost) (sym same) was.consumed;
   limit = ap (λ (s : StreamState). s.limit) same ∙ was.limit;
-  heard = λ whole. subst (λ (s : StreamState). CutsTurns first.limit s.ended (first.ahead ++ was.lost) before s.ahead) (sym same)
-      (was.heard (sym (ap (λ (s : StreamState). s.broken) same) ∙ whole));
+  rest = was.rest;
+  heard = subst (λ (s : StreamState). CutsTurns first.limit s.ended (first.ahead ++ was.lost) before was.rest) (sym same) was.heard;
+  left = λ whole. was.left (sym (ap (λ (s : StreamState). s.broken) same) ∙ whole) ∙ sym (ap (λ (s : StreamState). s.ahead) same);
   told = λ whole. let clash : false ≡ true = sym (ap is_some whole) ∙ fault in absurd (cc);
   failed = λ first_open broken. subst (λ (s : StreamState). HasFault s.source.fault ⊎ (18446744073709551615 ≤ length was.lost + 1)) (sym same)
       (was.failed first_open (sym (ap (λ (s : StreamState). s.broken) same) ∙ broken));

@@ -21,7 +21,9 @@ took_nothing s = record {
   lost = [];
   consumed = nothing_lost s.source.remaining;
   limit = refl;
-  heard = λ whole. append-nil s.ahead;
+  rest = s.ahead;
+  heard = append-nil s.ahead;
+  left = λ whole. refl;
   told = λ whole. nothing_written s.sink.contents;
   failed = λ open_so broken. absurd (not_both s.broken open_so broken);
 }

@@ -128,14 +128,16 @@ CutsTurns limit ended bytes (Heard heard ∷ turns) rest =
 CutsTurns limit ended bytes (Told text ∷ turns) rest = CutsTurns limit ended bytes turns rest
 
 -- These turns took place: the lines that were heard are those of the bytes that the reader lost, from what was read
--- ahead on, unless a reading failed; and the texts that were told were written, one behind the other, unless the writer
--- failed. Reading fails where the reader does, or where so many reads were made that they are not counted, each of which
--- but the last took a byte.
+-- ahead on, and the rest is what is ahead now, unless a reading failed; and the texts that were told were written, one
+-- behind the other, unless the writer failed. Reading fails where the reader does, or where so many reads were made that
+-- they are not counted, each of which but the last took a byte.
 pub record TookPlace (first : StreamState) (turns : List Turn) (last : StreamState) : Type 0 where
   pub lost : List ℕ
   pub consumed : Consumes first.source.remaining last.source.remaining lost
   pub limit : last.limit ≡ first.limit
-  pub heard : last.broken ≡ false → CutsTurns first.limit last.ended (first.ahead ++ lost) turns last.ahead
+  pub rest : List ℕ
+  pub heard : CutsTurns first.limit last.ended (first.ahead ++ lost) turns rest
+  pub left : last.broken ≡ false → rest ≡ last.ahead
   pub told : last.sink.fault ≡ None → Appends first.sink.contents last.sink.contents (told_in turns)
   pub failed : first.broken ≡ false → last.broken ≡ true → HasFault last.source.fault ⊎ (18446744073709551615 ≤ length lost + 1)
 

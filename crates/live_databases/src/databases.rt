@@ -247,7 +247,7 @@ fn serve_open<S: Beginning, C: Conversation>(
 
 // Removes the store that this start made, where nothing was served for want of a log that can be used. No process can have used
 // it: it is still locked, as the open connection shows. Another file at its path stays, unless it comes there between the look
-// and the removal.
+// and the removal. Where a link leads to the store, the link stays.
 fn remove_made<S: Beginning>(
     store: &StoreFile<'_>,
     _locked: &Connection<FileStore<FileFrom<S>>>,
@@ -258,8 +258,11 @@ fn remove_made<S: Beginning>(
     requires unlogged { is_unlogged ended ≡ true }
 {
     let _ = (made, ended);
-    if is_at(store.rt, store.path, store.place) {
-        let _ = fs::remove_file(store.rt, store.path);
+    let Ok(real) = fs::canonicalize(store.rt, store.path) else {
+        return;
+    };
+    if is_at(store.rt, real.as_str(), store.place) {
+        let _ = fs::remove_file(store.rt, real.as_str());
     }
 }
 

@@ -253,10 +253,42 @@ fn all_heard<Rt: Threads + Wait + Sync>(rt: &Rt, alloc: Global) -> Option<bool> 
     Some(all)
 }
 
-// Site 0 has all seats at first, and gives some before it tells: both others hear of it, so no link ends where it begins.
+// Site 0 has all seats at first, and gives some before it tells: both others hear of it.
 #[test]
 fn each_of_three_sites_hears_of_the_first(rt: HostRuntime) {
     assert!(rt; all_heard(&rt, rt.alloc()) == Some(true));
+}
+
+// How often a site's log merges what a site told.
+fn merges_of(transcript: &Transcript, site: u16) -> Option<usize> {
+    let mut count = 0usize;
+    for entry in transcript.runs.as_slice().last()?.entries.as_slice() {
+        if let Call::Merge(delta) = &entry.call {
+            count = count.saturating_add(usize::from(delta.from_site() == site));
+        }
+    }
+    Some(count)
+}
+
+// Whether each of three sites merges what each other one told in each of 30 turns, and nothing that it told itself.
+fn all_linked<Rt: Threads + Wait + Sync>(rt: &Rt, alloc: Global) -> Option<bool> {
+    let logs = logs_of(rt, alloc, (THREE_SITES, 30), "")?;
+    let layout = read_layout(alloc, THREE_SITES.as_bytes()).ok()?;
+    let transcripts = read_transcripts(alloc, &layout, logs.bytes()).ok()?;
+    let mut all = transcripts.len() == 3;
+    for transcript in transcripts.as_slice() {
+        for site in 0..3 {
+            let wanted = if site == transcript.site { 0 } else { 30 };
+            all = all && merges_of(transcript, site)? == wanted;
+        }
+    }
+    Some(all)
+}
+
+// No two links lead the same way, and none ends where it begins.
+#[test]
+fn each_of_three_sites_hears_each_other(rt: HostRuntime) {
+    assert!(rt; all_linked(&rt, rt.alloc()) == Some(true));
 }
 
 // A layout of two sites with 20 records.

@@ -25,12 +25,13 @@ pub enum Fault {
 }
 
 /// A runtime with one file, which is there under each name. It keeps the path of each folder that was opened, and `!` for
-/// each that was synced.
+/// each that was synced; and how many bytes the file had whenever it was synced.
 #[derive(Drop)]
 pub struct Disk {
     alloc: Global,
     bytes: Rc<RefCell<Vec<u8>>>,
     folders: Rc<RefCell<Vec<u8>>>,
+    lengths: Rc<RefCell<Vec<usize>>>,
     fault: Fault,
 }
 
@@ -39,10 +40,12 @@ impl Disk {
     pub fn new(alloc: Global, bytes: Vec<u8>, fault: Fault) -> io::Result<Disk> {
         let bytes = Rc::new(alloc, RefCell::new(bytes))?;
         let folders = Rc::new(alloc, RefCell::new(Vec::new(alloc)))?;
+        let lengths = Rc::new(alloc, RefCell::new(Vec::new(alloc)))?;
         Ok(Disk {
             alloc,
             bytes,
             folders,
+            lengths,
             fault,
         })
     }
@@ -63,6 +66,14 @@ impl Disk {
         }
     }
 
+    /// Whether the file was synced exactly when it had so many bytes, one length after the other.
+    pub fn has_lengths(&self, lengths: &[usize]) -> bool {
+        match self.lengths.try_borrow() {
+            Ok(found) => found.as_slice() == lengths,
+            Err(_) => false,
+        }
+    }
+
     // Opens a folder.
     fn open_folder(&self, path: &str) -> io::Result<DiskFile> {
         if self.fault == Fault::Folder {
@@ -74,6 +85,7 @@ impl Disk {
         }
         Ok(DiskFile {
             bytes: self.folders.clone()?,
+            lengths: self.lengths.clone()?,
             place: 0,
             is_folder: true,
             fault: self.fault,
@@ -93,6 +105,7 @@ impl Alloc for Disk {
 #[derive(Drop)]
 pub struct DiskFile {
     bytes: Rc<RefCell<Vec<u8>>>,
+    lengths: Rc<RefCell<Vec<usize>>>,
     place: usize,
     is_folder: bool,
     fault: Fault,
@@ -174,6 +187,14 @@ impl OpenFile for DiskFile {
         if self.fault == Fault::Sync {
             return Err(unsupported());
         }
+        let length = match self.bytes.try_borrow() {
+            Ok(bytes) => bytes.len(),
+            Err(_) => return Err(unsupported()),
+        };
+        match self.lengths.try_borrow_mut() {
+            Ok(mut lengths) => lengths.push(length)?,
+            Err(_) => return Err(unsupported()),
+        }
         Ok(())
     }
 }
@@ -212,6 +233,7 @@ impl Files for Disk {
         }
         Ok(DiskFile {
             bytes: self.bytes.clone()?,
+            lengths: self.lengths.clone()?,
             place: 0,
             is_folder: false,
             fault: self.fault,

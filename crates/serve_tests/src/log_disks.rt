@@ -1,7 +1,8 @@
 //! Log files of a runtime.
 use crate::disk::{Disk, Fault};
-use admission_core::{Durable, DurableCell, Phase, Session};
+use admission_core::{Ask, Call, Durable, DurableCell, Phase, Reply, Session};
 use layout_file::built_in;
+use live_site::CallLog;
 use log_file::{LogError, LogRefusal, open_log};
 use merge_core::Layout;
 use std::alloc::Global;
@@ -286,6 +287,25 @@ fn the_folder_of_a_new_log_is_synced(rt: HostRuntime) {
     for (row, synced) in SYNCED.iter().enumerate() {
         assert!(rt; syncs_so(rt.alloc(), synced) == Some(true), "row {row}");
     }
+}
+
+// Whether the file is synced behind the run's line, behind each of two entries, and never else.
+fn syncs_each_line(alloc: Global) -> Option<bool> {
+    let layout = built_in(alloc).ok()?;
+    let first = part(alloc, false)?;
+    let disk = Disk::new(alloc, Vec::new(alloc), Fault::None).ok()?;
+    let mut log = open_log(&disk, "site.log", &layout, 0, &first).ok()?;
+    let call = Call::Ask(Ask::Read { r: 0, h: 7 });
+    for _ in 0..2 {
+        log.enter(&layout, &call, &Reply::Admitted).ok()?;
+    }
+    let one = RUN.len().saturating_add(READ.len());
+    Some(disk.has_lengths(&[RUN.len(), one, one.saturating_add(READ.len())]))
+}
+
+#[test]
+fn each_line_of_a_log_is_synced(rt: HostRuntime) {
+    assert!(rt; syncs_each_line(rt.alloc()) == Some(true));
 }
 
 // How an opening ends whose log is closed at once.
