@@ -6,6 +6,7 @@ import shutil
 import subprocess
 import sys
 import unittest
+import unittest.mock
 
 from zinduroi import Command, Folder, NoPlan, StoreRefused
 from zinduroi.command_line import main
@@ -136,6 +137,58 @@ class Recoveries(Case):
             self.run_at(site, 1, to="east.3")
         self.run_at(1, 1, to="east.3")
         self.serve_all("east.3")
+
+    def test_what_tells_of_a_move_that_came_before_the_loss(self):
+        """What its store still has beside it tells of the move; else the operator has to."""
+        self.begin(0, 1, 2)
+        self.lose(1)
+        for site in (0, 2, 1):
+            self.run_at(site, 1)
+        for path in (self.store(2), self.store(2).with_name("2.db-wal")):
+            path.unlink(missing_ok=True)
+        self.refused_at("was moved to east.2 before it was lost", 2, 2)
+        asked = []
+        self.run_at(0, 2, confirm=asked.append)
+        for site in (0, 1):
+            os.remove(f"{self.store(site)}.{NEW}.{'texts' if site == 1 else 'moved'}")
+        self.assertEqual(asked, [])
+        self.refused_at("a later one does only where this is so", 0, 2, confirm=asked.append)
+        self.assertEqual(asked, ["Site 2 was never in east.2 before, on no machine: neither moved there nor built again there"])
+        self.assertFalse(self.store(2).exists())
+
+    def test_a_launcher_that_warns(self):
+        """What it says on standard error is not taken for the name of a refusal."""
+        launcher = self.folder / "launcher"
+        launcher.write_text(f'#!/bin/sh\necho "seat_cli: the sources are newer than the program" >&2\nexec {shlex.quote(PROGRAM)} "$@"\n')
+        launcher.chmod(0o755)
+        self.begin(0, 1, 2)
+        self.lose(1)
+        with self.open(0, group=OLD):
+            self.refused_at("it is served", 0, 1, program=str(launcher))
+        for site in (0, 2, 1):
+            self.run_at(site, 1, program=str(launcher))
+        self.assertIn("a rights 1 inside 0 unfinished 0", "\n".join(self.said))
+        asked = []
+        self.refused_at("not confirmed", 0, 1, to="east.3", program=str(launcher), confirm=asked.append)
+        self.assertEqual(asked, ["Each site that is left is in east.2 by now: no store of one is still in east"])
+        self.serve_all()
+
+    def test_the_question_is_asked_where_the_store_does_not_tell(self):
+        """Without memory for an answer nobody knows whether the site is in the old group."""
+        self.begin(0, 1, 2)
+        self.lose(1)
+        for site in (0, 2, 1):
+            self.run_at(site, 1)
+        asked = []
+        self.refused_at("not confirmed", 0, 1, to="east.3", program=self.program("ask", "echo memory >&2; exit 6"), confirm=asked.append)
+        self.assertEqual(len(asked), 1)
+
+    def test_whose_the_files_are(self):
+        self.begin(0, 1, 2)
+        self.lose(1)
+        self.assertNotIn("another user", self.run_at(0, 1))
+        with unittest.mock.patch("os.geteuid", lambda: os.getuid() + 1):
+            self.assertIn("belongs to another user", self.run_at(2, 1))
 
     def test_each_premise_has_to_be_confirmed(self):
         self.begin(0, 1, 2)
@@ -282,22 +335,24 @@ class Recoveries(Case):
     def test_calls_that_are_killed(self):
         self.begin(0, 1, 2)
         self.lose(1)
-        chance, calls = random.Random(1), 0
+        chance, kills = random.Random(1), 0
         for site in (0, 2, 1):
             words = [sys.executable, "-m", "zinduroi", "recover", "--to", NEW, "--lost", "1", "--site", str(site), "--store", str(self.store(site)),
                      "--layout", str(self.layout), "--program", PROGRAM, "--folder", str(self.channel), "--wait", "0"]
-            for longest in (1.0, 2.0, 4.0, 600.0):
+            # Those of up to two seconds end in the middle of a call, or behind it.
+            for longest in (0.06, 0.12, 0.25, 0.5, 1.0, 2.0, 600.0):
                 call = subprocess.Popen(words, stdin=subprocess.PIPE, stdout=subprocess.DEVNULL, cwd=PACKAGE, start_new_session=True)
                 call.stdin.write(b"yes\n" * 4)
                 call.stdin.close()
-                calls += 1
                 try:
-                    call.wait(longest if longest > 4 else chance.random() * longest)
+                    call.wait(longest if longest > 2 else longest * (0.5 + chance.random() / 2))
                     break
                 except subprocess.TimeoutExpired:
                     os.killpg(call.pid, 9)
                     call.wait()
+                    kills += 1
             self.assertEqual(call.returncode, 0)
+        self.assertGreaterEqual(kills, 3)
         self.serve_all()
 
     def program(self, command, script):
@@ -349,6 +404,14 @@ class Recoveries(Case):
 
     # Several lost sites
 
+    def test_a_store_that_is_built_of_other_texts(self):
+        self.begin(0, 1, 2)
+        self.lose(0, 1)
+        self.run_at(2, 0, 1)
+        program = self.program("rebuild", 'real "$@" | sed "s/^texts .*/texts 0123456789abcdef/"')
+        self.refused_at("was built of other texts than those in", 1, 0, 1, program=program)
+        self.refused_at("don't serve it", 1, 0, 1)
+
     def test_two_lost_sites_are_built_of_the_same_texts(self):
         self.begin(0, 1, 2)
         self.lose(0, 1)
@@ -373,6 +436,8 @@ class Recoveries(Case):
         self.run_at(2, 0, 1)
         self.run_at(1, 0, 1)
         self.refused_at("another list of lost sites (0,1)", 0, 0)
+        self.refused_at("was built of the texts of sites 2, and here 0, 2 are left", 1, 1)
+        self.assertRegex((self.channel / "1.delta").read_text(), r"^east\.2:built 1 0,1 ")
         (self.channel / "1.delta").write_text("east.2:built 1 0,1 0123456789abcdef\n")
         self.refused_at("built again of other texts", 0, 0, 1)
 

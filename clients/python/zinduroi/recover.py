@@ -79,12 +79,17 @@ def _plan(given: argparse.Namespace, made: argparse.ArgumentParser) -> Plan:
 
 
 def _transport(given: argparse.Namespace, made: argparse.ArgumentParser) -> Transport:
-    commands = given.publish is not None and given.messages is not None
-    if [given.folder is not None, given.mqtt is not None, commands].count(True) != 1:
+    commands = [given.publish, given.messages]
+    if [given.folder is not None, given.mqtt is not None, commands != [None, None]].count(True) != 1 or commands.count(None) == 1:
         made.error("recover: give one channel: --folder, --mqtt, or --publish and --messages")
     if given.folder is not None:
         return Folder(given.folder)
-    return Mqtt(given.mqtt, given.host, given.port, given.option) if given.mqtt is not None else Command(given.publish, given.messages)
+    if given.mqtt is None:
+        return Command(given.publish, given.messages)
+    try:
+        return Mqtt(given.mqtt, given.host, given.port, given.option)
+    except ValueError as wrong:
+        made.error(f"recover: {wrong}")
 
 
 def _confirm(premise: str) -> bool:

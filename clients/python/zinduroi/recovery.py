@@ -22,11 +22,18 @@ from .transports import Transport, TransportFailed
 GROUP = re.compile(r"([a-z][a-z0-9-]{0,31})(?:\.([1-9][0-9]{0,6}))?")
 MOST_GENERATIONS = 1_048_575
 # How many seconds pass until texts are looked for again.
-PAUSE = 1.0
-# Exit statuses behind which the program has changed no store: wrong arguments, no layout, an input that is refused.
+PAUSE = 0.5
+# Exit statuses of the program where it answered, if only by a refusal of the call.
+ANSWERED = (0, 1)
+# .. behind which it has changed no store: wrong arguments, no layout, an input that is refused.
 SURE = (2, 3, 4)
+WRONG_INPUT = 4
 # .. and that of a store that can't be used, which is changed by none of its refusals but this one.
 NO_STORE, PERHAPS = 5, "StoreFault"
+# A refusal of a store.
+NAME = re.compile(r"[A-Z][A-Za-z]+")
+# Refusals of a store that is not served in a group, and not moved out of it.
+ELSEWHERE = ("NoStore", "WrongGroup", "NoGroup", "Outdated", "WrongLayout")
 MARK = re.compile(r"([^ ]+) ([0-9a-f]{16}) ([0-9a-f]{8}) (.*)", re.S)
 
 
@@ -89,6 +96,9 @@ class Recovery:
 
     def run(self, wait: float = 0) -> None:
         """Does what can be done here. A lost site waits up to `wait` seconds for texts."""
+        folder = os.path.dirname(self.plan.store) or "."
+        if os.path.exists(folder) and os.stat(folder).st_uid != os.geteuid():
+            self.say(f"{folder} belongs to another user, as of a node: what is made there belongs to you, and that user may not be able to open it")
         if self.plan.site in self.plan.lost:
             self.build(wait)
         else:
@@ -106,6 +116,7 @@ class Recovery:
         self._publish(text)
         self.say(f"its text is published. Serve it with --group {self.plan.to} from now on")
         self._gather()
+        self._gather_late()
         self._tell_steps([site for site in self.left if site != self.plan.site])
 
     def _kept_text(self) -> Optional[str]:
@@ -131,7 +142,7 @@ class Recovery:
 
     def _moved(self) -> str:
         """Has the program move the store. Its output goes straight into a file: so it is there even if this process dies."""
-        if generation(self.old) > 1 and self._ask(self.old)[0] in ("", "InUse") and not self.confirm(
+        if generation(self.old) > 1 and self._ask(self.old)[0] not in ELSEWHERE and not self.confirm(
                 f"Each site that is left is in {self.old} by now: no store of one is still in {before(self.old)}"):
             self._refuse(f"site {self.plan.site} was not moved, since this was not confirmed")
         part = self._file("moved.part")
@@ -143,9 +154,8 @@ class Recovery:
             return text
         if status == 0:
             self._refuse(f"seat_cli regroup printed what is no text of site {self.plan.site}: see {part}")
-        if status not in SURE and (status != NO_STORE or name in ("", PERHAPS)):
-            self._refuse(f"it is not known whether site {self.plan.site} was moved: {name or f'status {status}'}. Look at its disk and its path, and "
-                         "call this again")
+        if status not in SURE and (status != NO_STORE or name == PERHAPS or not NAME.fullmatch(name)):
+            self._refuse(f"it is not known whether site {self.plan.site} was moved: {name}. Look at its disk and its path, and call this again")
         os.unlink(part)
         if name == "WrongGroup" and self._ask(self.plan.to)[0] in ("", "InUse"):
             return self._text_of_moved()
@@ -165,6 +175,9 @@ class Recovery:
         if len(self.plan.lost) > 1:
             self._refuse(f"site {self.plan.site} is in {self.plan.to}, but the text of its move was lost, and several lost sites need it. Once all sites "
                          f"that are left are in {self.plan.to}, move all again: the same calls with --to {_behind(self.plan.to)}")
+        if self.plan.lost and not self.confirm(self._never_there(*self.plan.lost)):
+            self._refuse(f"site {self.plan.site} is in {self.plan.to}, but the text of its move was lost, and a later one does only where this is so. Else move all "
+                         f"sites that are left on to {_behind(self.plan.to)}")
         name, text = self._ask(self.plan.to, "send")
         if name:
             self._refuse(f"site {self.plan.site} is in {self.plan.to}, but the text of its move was lost, and its store can't be opened: {name}. Call this again")
@@ -176,14 +189,16 @@ class Recovery:
 
     def build(self, wait: float) -> None:
         """Builds the lost site, unless it is built, and says so to the other lost ones."""
+        if os.path.exists(self._file("other")):
+            self._refuse_other()
         if self._ask(self.plan.to)[0] == "NoStore":
+            if self._kept_text() is not None or os.path.exists(self._file("moved")):
+                self._refuse(f"site {self.plan.site} was moved to {self.plan.to} before it was lost, as {self._file('moved')} tells. Move all sites that are left on to "
+                             f"{_behind(self.plan.to)}, and build it there")
             end = time.monotonic() + wait
-            while not self._gather() and time.monotonic() < end:
+            while not self._gather_by(end) and time.monotonic() < end:
                 time.sleep(PAUSE)
-            if hasattr(self.transport, "listen"):
-                # What other lost sites say may come a moment later.
-                time.sleep(PAUSE)
-                self._gather()
+            self._gather_late()
             missing = self._tell_steps(self.left)
             self._compare_built(whole=not missing)
             if missing:
@@ -218,6 +233,22 @@ class Recovery:
                 self.built[int(found[2])] = found[3]
         return len(self.texts) == len(self.left)
 
+    def _gather_by(self, end: float) -> bool:
+        """The same. Until that time it does no harm that the channel fails, as while a broker is started again."""
+        try:
+            return self._gather()
+        except NotDone:
+            if time.monotonic() < end:
+                return False
+            raise
+
+    def _gather_late(self) -> None:
+        """Takes what comes a moment later over a channel that tells when it comes. One that has failed by then is told of."""
+        if hasattr(self.transport, "listen"):
+            for _ in range(2):
+                time.sleep(PAUSE)
+                self._gather()
+
     def _tell_steps(self, sites: Sequence[int]) -> List[int]:
         """Says which of these sites are moved, and what is to be done at the others; gives these."""
         missing = [site for site in sites if site not in self.texts]
@@ -250,10 +281,14 @@ class Recovery:
             f"The store of site {lost} is lost for good. No copy of it is served, now or later, and its callers have ended",
             f"The group has had no sites but 0 to {self.layout.sites - 1}, which {self.plan.layout or 'the built-in layout'} names",
             f"The sites that are left were stopped when they were moved, and their stores are the newest ones. No other sites ever used the name {self.plan.to}",
-            f"Site {self.plan.site} was not built again in {self.plan.to} before, on no machine",
+            self._never_there(self.plan.site),
         ):
             if not self.confirm(premise):
                 self._refuse("nothing was built, since this was not confirmed")
+
+    def _never_there(self, *sites: int) -> str:
+        """The premise that lost sites were not in the new group."""
+        return f"Site {' and '.join(map(str, sites))} was never in {self.plan.to} before, on no machine: neither moved there nor built again there"
 
     def _rebuild(self) -> None:
         """Has the program make the store. What it is made of is kept first."""
@@ -267,11 +302,17 @@ class Recovery:
             if status in SURE:
                 # No store was made of these texts, so none that turns up here may be taken for such a one.
                 os.unlink(self._file("texts"))
-            self._refuse(f"site {self.plan.site} was not built: {name or shown or f'status {status}'}")
+            # A refused input is told by the output.
+            self._refuse(f"site {self.plan.site} was not built: {shown if status == WRONG_INPUT and shown else name}")
         self.say(shown)
         told = re.search(r"^texts ([0-9a-f]+)$", shown, re.M)
         if told is not None and told[1] != self._built_of().split(" ")[1]:
-            raise NotDone(f"site {self.plan.site} was built of other texts than those in {self._file('texts')}: don't serve it")
+            os.replace(self._file("texts"), self._file("other"))
+            self._refuse_other()
+
+    def _refuse_other(self) -> NoReturn:
+        self._refuse(f"site {self.plan.site} was built of other texts than those in {self._file('other')}: don't serve it. Move all sites that "
+                     f"are left on to {_behind(self.plan.to)}, and build it there")
 
     def _built_of(self) -> str:
         """The lost sites, and the digest of the texts, in order of sites; for a site that is lost alone only the first."""
@@ -286,6 +327,9 @@ class Recovery:
                 sender = self._sender(text, [f"{self.plan.to}:moved", self.plan.to])
                 assert sender is not None
                 self.texts[sender] = text
+        if sorted(self.texts) != self.left:
+            known, left = (", ".join(map(str, sites)) for sites in (sorted(self.texts), self.left))
+            self._refuse(f"site {self.plan.site} was built of the texts of sites {known}, and here {left} are left: give the --lost and the layout of then")
         return f"{self.plan.to}:built {self.plan.site} {self._built_of()}"
 
     # Both
@@ -317,13 +361,12 @@ class Recovery:
             raise NotDone(f"the text can't be published: {failed}. Call this again once it can") from None
 
     def _run(self, verb: str, group: str, *more: str, output: Optional[int] = None, texts: int = subprocess.DEVNULL) -> Tuple[int, str]:
-        """Runs the program; gives its status and the name of a refusal, or what else it says."""
+        """Runs the program; gives its status and why it ended so."""
         plan = self.plan
         words = command(plan.program, verb, f"--site={plan.site}", "--store", plan.store, "--group", group,
                         *(["--layout", plan.layout] if plan.layout is not None else []), *more)
         ran = subprocess.run(words, stdin=texts, stdout=output, stderr=subprocess.PIPE, check=False)
-        said = ran.stderr.decode("utf-8", "replace").strip()
-        return ran.returncode, said.removeprefix("store refused ")
+        return ran.returncode, _why(ran.returncode, ran.stderr)
 
     def _ask(self, group: str, *call: str) -> Tuple[str, str]:
         """Why the store can't be opened in a group, or nothing and the reply to a call."""
@@ -331,11 +374,19 @@ class Recovery:
         words = command(plan.program, "ask", f"--site={plan.site}", "--store", plan.store, "--group", group,
                         *(["--layout", plan.layout] if plan.layout is not None else []), *(call or ("show", self.layout.records[0].name)))
         ran = subprocess.run(words, stdin=subprocess.DEVNULL, capture_output=True, check=False)
-        said = ran.stderr.decode("utf-8", "replace").strip()
-        return said.removeprefix("store refused "), ran.stdout.decode("utf-8", "replace").rstrip("\n")
+        return "" if ran.returncode in ANSWERED else _why(ran.returncode, ran.stderr), ran.stdout.decode("utf-8", "replace").rstrip("\n")
 
     def _refuse(self, why: str) -> NoReturn:
         raise NotDone(why)
+
+
+def _why(status: int, errors: bytes) -> str:
+    """Why the program ended with a status, by what it said: the name of a store's refusal, an error of its arguments, or its last line, since
+    a launcher may have said something before."""
+    said = [line for line in errors.decode("utf-8", "replace").splitlines() if line]
+    names = [line.removeprefix("store refused ") for line in said if line.startswith("store refused ")]
+    wrong = [line for line in said if line.startswith("error: ")]
+    return (names[:1] + wrong[:1] + said[-1:] + [f"status {status}"])[0]
 
 
 def _behind(group: str) -> str:
