@@ -320,17 +320,14 @@ class Threads(Case):
         names = [f"r{number}" for number in range(256)]
         layout = self.write_layout("wide.toml", 16, *((name, 65535, 0, 2) for name in names))
         site = self.open(store=self.folder / "wide.db", layout=layout)
-        longest, stop = 0.0, threading.Event()
+        between = set()
         with Exchange(site, Folder(self.folder), 0.01) as exchange:
             self.assertEqual(len(exchange.records), 256)
-            while exchange.tally().gave < 20:
-                before = time.monotonic()
+            while exchange.tally().gave < 100:
                 site.show("r0")
-                longest = max(longest, time.monotonic() - before)
-            gave = exchange.tally().gave
-        stop.set()
-        self.assertLess(longest, 10)
-        self.assertLessEqual(gave, 256)
+                between.add(exchange.tally().gave)
+        # In a round that was one call there would be no answer between its first gift and its last.
+        self.assertGreater(len([gave for gave in between if 0 < gave < 256]), 5)
 
 
 def runs(pid):

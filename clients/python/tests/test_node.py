@@ -117,6 +117,9 @@ class Configs(Case):
         self.assertEqual((read.socket.path, read.socket.mode, read.socket.group, read.socket.connections), (self.folder / "s.sock", 0o660, "users", 9))
         self.assertEqual((read.interval, read.every, read.helps), (2.0, 3, False))
         self.assertEqual([type(make()).__name__ for make in read.transports], ["Folder", "Mqtt", "Command"])
+        near = read_config(os.path.relpath(self.config('site = 0\nstore = "s.db"\nprogram = "./seat_cli"\n[socket]\npath = "s.sock"\n')))
+        self.assertTrue(near.program.startswith("/"))
+        self.assertEqual(os.path.normpath(near.program), str(self.folder / "seat_cli"))
 
     def test_faults(self):
         right = 'site = 0\nstore = "s.db"\n[socket]\npath = "s.sock"\n'
@@ -653,7 +656,7 @@ class Restarts(NodeCase):
         self.start()
         number = next(it["number"] for it in json.loads(self.connect().ask("status"))["callers"] if it["holder"].startswith("-"))
         self.says(self.connect(), ("sessions a", f"3 x reader, -{number} reader, y reader"), ("sessions b", "1 w waiting"),
-                  ("leave a x", "refused NotYours"), ("read a x", "refused AlreadyHere"))
+                  ("leave a x", "refused NotYours"), ("read a x", "refused NotYours"))
         again = self.connect()
         self.says(again, (f"resume {token}", f"resumed 3 a x reader, a -{number} reader, b w waiting"), ("leave a -", "left reader"),
                   ("token", f"token {token}"), ("leave b w", "withdrawn"))
@@ -689,6 +692,25 @@ class Restarts(NodeCase):
         finally:
             with contextlib.suppress(ProcessLookupError):
                 os.kill(service, signal.SIGCONT)
+        self.assertIn("zinduroi: the program does not answer, and is killed: what it has answered is in the store\n", errors)
+        self.assertEqual(self.process.returncode, 0)
+        self.start()
+        self.says(self.connect(), ("sessions a", "1 x reader"))
+
+    def test_stop_while_a_started_program_hangs(self):
+        """The program has ended, and the one that is started in its place says nothing."""
+        script = self.folder / "program"
+        script.write_text(f'#!/bin/sh\nif [ "$1" = serve ] && [ -e {self.folder}/hang ]; then : > {self.folder}/hangs; exec sleep 600; fi\nexec {PROGRAM} "$@"\n')
+        script.chmod(0o755)
+        with unittest.mock.patch(f"{__name__}.PROGRAM", str(script)):
+            self.start()
+        client = self.connect()
+        self.says(client, ("read a x", "admitted"))
+        (self.folder / "hang").touch()
+        os.kill(json.loads(client.ask("status"))["service"], signal.SIGKILL)
+        self.assertTrue(wait_for((self.folder / "hangs").exists, 30))
+        self.process.terminate()
+        _, errors = self.process.communicate(timeout=40)
         self.assertIn("zinduroi: the program does not answer, and is killed: what it has answered is in the store\n", errors)
         self.assertEqual(self.process.returncode, 0)
         self.start()
@@ -934,7 +956,7 @@ class Waits(NodeCase):
         self.says(holder, ("read a h", "admitted"))
         began = time.monotonic()
         self.says(self.connect(), ("wait 0 write a w", "timeout refused MissingSeats 2 3"), ("wait 0.3 write a -", "timeout refused MissingSeats 2 3"),
-                  ("sessions a", "1 h reader"), ("wait 0 read b x", "timeout refused NoSeat 0"), ("wait 5 read a h", "refused AlreadyHere"))
+                  ("sessions a", "1 h reader"), ("wait 0 read b x", "timeout refused NoSeat 0"), ("wait 5 read a h", "refused NotYours"))
         self.assertGreater(time.monotonic() - began, 0.3)
         _, first = self.asks("wait 1 write a w")
         self.comes("sessions a", "2 h reader, w waiting")
@@ -1074,6 +1096,7 @@ class Crowds(NodeCase):
                         began = time.monotonic()
                         self.says(client, ("show a", "rights 3 inside 0 unfinished 0"))
                         times.append(time.monotonic() - began)
+                    self.assertEqual([flood.poll() for flood in floods], [None] * 3)
                 finally:
                     for flood in floods:
                         flood.kill()

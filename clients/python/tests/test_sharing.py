@@ -136,6 +136,8 @@ class Rounds(unittest.TestCase):
         for now in range(200):
             world.round(float(now), [(now * 7 + site * 5) % 13 for site in range(5)])
             self.assertEqual(sum(world.free) + sum(world.inside), 31)
+            self.assertGreaterEqual(min(world.free), 0)
+        self.assertGreater(world.gifts, 0)
 
     def test_two_busy_sites_do_not_push_seats_back_and_forth(self):
         """More readers than seats: each keeps what it uses, and gifts end."""

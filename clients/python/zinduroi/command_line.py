@@ -177,7 +177,7 @@ def status_text(state: Dict[str, Any], now: float) -> str:
         if not it["connected"]:
             of = f"entered {max(0.0, now - it['since']):.0f} s ago by process {it['pid']}" if it["known"] else "of nobody that this node knows"
             kept = ", kept" if it["known"] and it["kept"] else ""
-            lines.append(f"without a connection: {it['record']} {it['holder']} {it['phase']}, {of}{kept}")
+            lines.append(f"without a connection: {it['record']} {it['holder']} {it['phase'] or 'unknown'}, {of}{kept}")
     lines += [_peer_text(it) for it in state.get("peers", [])]
     failure = state.get("exchange", {}).get("failure")
     return "\n".join(lines + ([f"exchange: {failure}"] if failure else []))

@@ -138,8 +138,8 @@ class Exchange:
                 self.failure = refused
                 self._count_refusal(refused)
             except ZinduroiError as failure:
+                # The service ended; `failed` has what the transport does.
                 self.failure = failure
-                self._count_failure(failure)
             if not closed:
                 self._closed.wait(min(SHORTEST, self.interval))
                 self._wake.wait(max(0.0, due - time.monotonic()))

@@ -107,6 +107,8 @@ class Site:
         self._listeners: List[Callable[[], None]] = []
         self._opening = threading.Lock()
         self._closed = False
+        self._killed = False
+        self._starting: Optional[Service] = None
         self._service = self._start(create, grow, wait)
 
     def _start(self, create: bool, grow: bool, wait: float) -> Service:
@@ -115,14 +117,18 @@ class Site:
                         "--create" if create else None, "--grow" if grow else None,
                         *_option("--wait", str(int(-(-wait // 1))) if wait > 0 else None), *_option("--log", self._log),
                         *_option("--together", str(self._together) if self._together > 1 else None))
-        service = Service(words)
+        service = self._starting = Service(words)
         try:
+            if self._killed:
+                service.kill()
             # A line that can't be read changes nothing and is in no log. Its reply shows that the store is open.
             service.run(Call(b"\n"))
         except BaseException:
             service.kill()
             service.close()
             raise
+        finally:
+            self._starting = None
         return service
 
     def reopen(self, wait: Optional[float] = None) -> bool:
@@ -130,11 +136,23 @@ class Site:
         still. Says whether there was anything to do: of several threads that call this, one starts the service. Not after
         `close`."""
         with self._opening:
-            if self._closed or not self._service.has_ended:
+            if self.is_over or not self._service.has_ended:
                 return False
             self._service.close()
             self._service = self._start(False, False, self._wait if wait is None else wait)
             return True
+
+    def kill(self) -> None:
+        """Ends the service at once, and one that `reopen` is starting; no other one is started. `close` is still to be called."""
+        self._killed = True
+        for service in (self._starting, self._service):
+            if service is not None:
+                service.kill()
+
+    @property
+    def is_over(self) -> bool:
+        """Whether `close` or `kill` was called: the service is not started anew."""
+        return self._closed or self._killed
 
     def close(self) -> int:
         """Ends the service, behind the calls that wait, and gives its exit status: 0, or 5 if the site froze, or that of an

@@ -90,16 +90,19 @@ class Answers:
 
     async def end(self, caller: Caller) -> None:
         """The connection has ended: its sessions are left or withdrawn. Only the end of the connection itself may call this."""
-        for session in self.book.tied_to(caller):
+        sessions = self.book.tied_to(caller)
+        for session in sessions:
+            session.ending = True
+        for session in sessions:
             reply = await self.desk.leave(session)
             if self.book.is_here(session):
                 report(f"{session.record} {session.word} is not left: {reply}")
-                session.tied = None
+                session.tied, session.ending = None, False
 
     def release(self, caller: Caller) -> None:
         """The node ends the connection: what sessions it still has belong to nobody, and are not left."""
         for session in self.book.tied_to(caller):
-            session.tied = None
+            session.tied, session.ending = None, False
 
     def book_failure(self) -> Optional[str]:
         """Why the file of sessions can't be written, so that nobody gets in; `None` where it can. It is tried once a write has failed."""
@@ -120,11 +123,12 @@ class Answers:
             report("the file of sessions can be written again")
 
     async def status(self) -> Dict[str, object]:
-        """The state of the site and of its sessions, for JSON."""
+        """The state of the site and of its sessions, for JSON. The program is asked for all records at once: one line behind the other
+        would wait for the calls of others each time."""
         records: Dict[str, object] = {}
         refused = None
-        for record in self.records:
-            shown, listed = await self.link.ask_until(f"show {record}"), await self.link.ask_until(f"sessions {record}")
+        replies = await asyncio.gather(*(self.link.ask_until(f"{verb} {record}") for record in self.records for verb in ("show", "sessions")))
+        for record, shown, listed in zip(self.records, replies[::2], replies[1::2]):
             words = shown.split(" ")
             if words[0] == "refused" or listed.startswith("refused"):
                 refused = refused or (shown if words[0] == "refused" else listed)
@@ -171,7 +175,7 @@ class Answers:
         """A new session, which the store has not been asked for yet; or the refusal."""
         before = self._find(caller, call)
         if before is not None:
-            return "refused AlreadyHere"
+            return _taken(caller, before)
         session = self.book.begin(call.record, call.word, caller.token, caller, caller.pid)
         self._note_book(None)
         if call.word is None:
@@ -190,9 +194,14 @@ class Answers:
             return f"refused {missing}"
         return session if session.token in caller.tokens else "refused NotYours"
 
+    def _own_here(self, caller: Caller, call: Call) -> Union[Session, str]:
+        """A writer that a line has enter, if the end of no other connection ends it; or the refusal."""
+        session = self._own(caller, call, "NotAnnounced")
+        return "refused InUse" if isinstance(session, Session) and _is_anothers(caller, session) else session
+
     async def _look(self, caller: Caller, call: Call) -> Optional[str]:
-        """Has the store tell whether it has the session that a line names, where that is doubted: a caller that repeats a line takes
-        `AlreadyHere` for a yes. The refusal of that, or `None`."""
+        """Has the store tell whether it has the session that a line names, where that is doubted: a caller takes `AlreadyHere` and `kept` for
+        a yes. The refusal of that, or `None`."""
         session = self._find(caller, call)
         return await self.desk.look(session) if session is not None and session.doubted else None
 
@@ -205,7 +214,7 @@ class Answers:
             return session
         reply = await self.desk.ask(session, call.verb)
         self.desk.drop(session, reply)
-        return reply
+        return _told(caller, session, reply)
 
     async def _wait(self, caller: Caller, call: Call) -> str:
         assert call.wait is not None
@@ -216,9 +225,9 @@ class Answers:
         if session is None:
             found = self._new(caller, call)
         elif call.verb == "write" and session.phase == "waiting":
-            found = self._own(caller, call, "NotAnnounced")
+            found = self._own_here(caller, call)
         else:
-            found = "refused AlreadyHere"
+            found = _taken(caller, session)
         if isinstance(found, str):
             return found
         caller.waiter = Waiter(found, call.verb, caller.is_over)
@@ -227,11 +236,11 @@ class Answers:
         finally:
             caller.waiter = None
         self.desk.drop(found, reply.removeprefix("timeout "))
-        return reply
+        return _told(caller, found, reply)
 
     async def _write(self, caller: Caller, call: Call) -> str:
-        session = self._own(caller, call, "NotAnnounced")
-        return session if isinstance(session, str) else await self.desk.ask(session, "write")
+        session = self._own_here(caller, call)
+        return session if isinstance(session, str) else _told(caller, session, await self.desk.ask(session, "write"))
 
     async def _leave(self, caller: Caller, call: Call) -> str:
         session = self._own(caller, call, "NotHere")
@@ -242,6 +251,9 @@ class Answers:
         return "refused NotHere" if session is None else await self.link.ask_until(f"fence {session.record} {session.number}")
 
     async def _keep(self, caller: Caller, call: Call) -> str:
+        refused = await self._look(caller, call)
+        if refused is not None:
+            return refused
         session = self._own(caller, call, "NotHere")
         if isinstance(session, str):
             return session
@@ -278,4 +290,24 @@ class Answers:
             chosen = caller.chosen.get(session.record)
             if session.word.startswith("-") and (chosen is None or not self.book.is_here(chosen)):
                 caller.chosen[session.record] = session
-        return resumed_text([(session.record, session.word, session.phase) for session in free])
+        return resumed_text([(session.record, session.word, None if session.doubted else session.phase) for session in free])
+
+
+def _taken(caller: Caller, session: Session) -> str:
+    """What is answered to a line that would enter under the name of a session. A caller that repeats its line takes `AlreadyHere` for a yes: so
+    it is answered only to whom the session belongs, where the store has it and no other connection's end ends it."""
+    if session.token not in caller.tokens:
+        return "refused NotYours"
+    if session.ending or session.phase is None or _is_anothers(caller, session):
+        return "refused InUse"
+    return "refused AlreadyHere"
+
+
+def _told(caller: Caller, session: Session, reply: str) -> str:
+    """What a caller is told whose line was answered. If another connection has taken up the session meanwhile, it is inside for that one."""
+    return "refused InUse" if reply == "admitted" and _is_anothers(caller, session) else reply
+
+
+def _is_anothers(caller: Caller, session: Session) -> bool:
+    """Whether the end of another connection ends a session."""
+    return session.tied is not None and session.tied is not caller

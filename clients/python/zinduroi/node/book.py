@@ -37,7 +37,7 @@ class NumbersUsedUp(Exception):
 @dataclasses.dataclass(eq=False)
 class Session:
     """A session at the site. `phase` is `reader`, `waiting` or `writer` as the store last said, and `None` before it said
-    anything. `doubted` holds where the store failed as it was asked for the session, so that it may have it or not. `tied` is the connection whose end ends it, if there is one. `known` is false where the book has no row: the session
+    anything. `doubted` holds where the store failed as it was asked for the session, or to leave it, so that it may have it or not. `tied` is the connection whose end ends it, if there is one. `known` is false where the book has no row: the session
     belongs to nobody. `ending` holds while somebody else than its caller ends it. `since` is in seconds since 1970, and `pid`
     the process that had connected. `entered` is when this node saw it admitted. `turn` is held during a call to the store."""
 

@@ -291,7 +291,8 @@ def _program(top: Table) -> str:
     """The program that the file names; else `seat_cli` on the PATH, or that of the repository which this file is in."""
     named: Optional[str] = top.text("program", None)
     if named is not None:
-        return named if "/" not in named else os.fspath(top.file.parent / named)
+        # Absolute, since a path without a slash in it would be looked for on the PATH.
+        return named if "/" not in named else os.fspath(pathlib.Path.cwd() / top.file.parent / named)
     found = shutil.which("seat_cli")
     here = pathlib.Path(__file__).resolve().parents[min(4, len(pathlib.Path(__file__).resolve().parents) - 1)]
     built = [path for path in (here / "crates/seat_cli/out/seat_cli", here / "seat_cli") if os.access(path, os.X_OK)]

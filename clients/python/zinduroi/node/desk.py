@@ -77,14 +77,15 @@ class Desk:
         """The reply to a call that was interrupted; `None` where it has to be made again."""
         listed = await self._insist(f"sessions {session.record}")
         if listed.startswith("refused"):
-            return listed
+            # Also where the store has frozen meanwhile, behind which nothing would have been carried out.
+            return "refused StoreFault"
         phase = dict(stored_sessions(listed)).get(session.number)
         if verb == "leave":
             return _LEFT[session.phase] if phase is None else None
         if verb == "announce" and phase == "waiting":
             # Its number is lost. A writer that never asked for its seats is withdrawn, and announced again.
-            await self._insist(f"leave {session.record} {session.number}")
-            return None
+            left = await self._insist(f"leave {session.record} {session.number}")
+            return None if left in _LEFT.values() else "refused StoreFault"
         return "admitted" if (verb, phase) in (("read", "reader"), ("write", "writer")) else None
 
     async def _insist(self, line: str) -> str:
@@ -101,9 +102,14 @@ class Desk:
             session.phase, session.entered = "reader" if verb == "read" else "writer", time.time()
         elif reply.startswith("announced "):
             session.phase = "waiting"
-        elif verb == "leave" and (reply in _LEFT.values()):
+        elif reply == "refused AlreadyInside":
+            # An earlier `write` was answered `StoreFault`, and carried out.
+            session.phase = "writer"
+        elif verb == "leave" and reply in _LEFT.values():
             self.book.end(session)
             self._changed(session.record)
+        elif verb == "leave" and reply == "refused StoreFault":
+            session.doubted = True
         if reply in ("left writer", "withdrawn") or reply.startswith("announced "):
             self.link.site.tell_listeners()
         self.asked(session, verb, reply)

@@ -63,10 +63,6 @@ class NodeSite(Site):
             self.ended(why)
             raise
 
-    def kill(self) -> None:
-        """Ends the service at once."""
-        self._service.kill()
-
     def take(self, text: str) -> int:
         rose = super().take(text)
         sender = sender_of(text)
@@ -148,6 +144,9 @@ class Link:
                 try:
                     if await asyncio.to_thread(self.site.reopen):
                         report(f"{why}; started anew")
+                    elif self.site.is_over:
+                        # Who asks again gets no answer any more, and is not to ask without a pause.
+                        await asyncio.sleep(pause)
                     return
                 except Exception as failure:
                     # Whatever it is, as a program that is being replaced: the next attempt comes.

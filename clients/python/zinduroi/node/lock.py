@@ -75,7 +75,10 @@ class Lock:
             except NodeGone:
                 if not self.token:
                     raise
-                inside = self._return(self.end, keep=False) in ("reader", "writer")
+                try:
+                    inside = self._return(self.end, keep=False) in ("reader", "writer")
+                except NodeGone as gone:
+                    raise NodeGone(f"{gone}; a session of {self.record} may still be in the store: see zinduroi status") from None
 
     def _wait(self) -> bool:
         left = min(max(0.0, self.end - time.monotonic()), FOR_EVER)
@@ -203,7 +206,7 @@ class Lock:
         ended."""
         poll = select.poll()
         poll.register(ended, select.POLLIN)
-        if due == math.inf and self.client is not None:
+        if due == math.inf and self.client is not None and self.token:
             poll.register(self.client.fileno(), 0)
         found = poll.poll(None if due == math.inf else max(0.0, due - time.monotonic()) * 1000)
         return any(number != ended for number, _ in found)

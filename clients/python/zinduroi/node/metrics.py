@@ -71,7 +71,7 @@ def _answers(text: Text, view: View) -> None:
     text.add("admissions_total", "counter", "Callers that were admitted.",
              [((("verb", verb),), tally.answers[verb, "admitted"]) for verb in ("read", "write")])
     text.add("refusals_total", "counter", "Answers that refused a line, by the name of the refusal.", _by(tally.refusals, "verb", "name"))
-    text.add("timeouts_total", "counter", "Waits whose time was over, by the name of the last refusal.", _by(tally.timeouts, "verb", "name"))
+    text.add("timeouts_total", "counter", "Waits whose time was over, or whose caller had gone, by the name of the last refusal.", _by(tally.timeouts, "verb", "name"))
     text.histogram("wait_seconds", "How long lines with wait took until they were answered.", _by(tally.waits, "verb", "outcome"))
     text.histogram("program_call_seconds", "How long the program took for lines of callers, with what it committed.",
                    [((("verb", verb),), tally.calls[verb]) for verb in sorted(tally.calls)])

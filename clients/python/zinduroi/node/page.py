@@ -12,6 +12,7 @@ import traceback
 from typing import Dict, Optional, Set, Tuple
 
 from ..errors import ZinduroiError
+from .ending import end_all
 from .metrics import metrics_text
 from .report import report
 from .view import View
@@ -74,10 +75,7 @@ class Page:
         """Ends all connections."""
         if self._server is not None:
             self._server.close()
-        tasks = [*self._tasks, *([self._telling] if self._telling is not None else [])]
-        for task in tasks:
-            task.cancel()
-        await asyncio.gather(*tasks, return_exceptions=True)
+        await end_all([*self._tasks, *([self._telling] if self._telling is not None else [])])
 
     def _accept(self, reader: asyncio.StreamReader, writer: asyncio.StreamWriter) -> None:
         if len(self._tasks) >= CONNECTIONS:

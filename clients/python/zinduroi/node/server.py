@@ -18,6 +18,7 @@ from .answers import Answers
 from .book import Book, stored_sessions
 from .config import Config
 from .connection import Connection
+from .ending import end_all
 from .lines import Shared
 from .link import Link, NodeSite
 from .listening import HangUps, Listener
@@ -119,8 +120,7 @@ class Node:
             raise
         finally:
             if accepting is not None:
-                accepting.cancel()
-                await asyncio.gather(accepting, return_exceptions=True)
+                await end_all([accepting])
             await self._close()
 
     def stop(self) -> None:
@@ -232,17 +232,14 @@ class Node:
             connection.stop()
         if tasks:
             _, late = await asyncio.wait(tasks, timeout=LAST_ANSWERS)
-            for task in late:
-                task.cancel()
-            await asyncio.gather(*tasks, return_exceptions=True)
+            await end_all(late)
         if self._answers is not None and self._site is not None and not await self._program_answers(self._answers):
             report("the program does not answer, and is killed: what it has answered is in the store")
             self._site.kill()
         if self._page is not None:
             await self._page.close()
         if self._sharing is not None:
-            self._sharing[1].cancel()
-            await asyncio.gather(self._sharing[1], return_exceptions=True)
+            await end_all([self._sharing[1]])
         if self._exchange is not None:
             await asyncio.to_thread(self._exchange.close)
         elif self._transports:

@@ -70,8 +70,9 @@ class Queues:
     async def _until_admitted(self, desk: Desk, waiter: Waiter, queue: List[Waiter], end: float, once: bool) -> str:
         last: Optional[str] = None
         while True:
+            # A change may have come while it had its turn, and find it without one, as where an operator has ended its session.
+            waiter.changed.clear()
             if once or _has_turn(waiter, queue):
-                waiter.changed.clear()
                 last = await _try(desk, waiter)
                 if not _is_mended(last):
                     break
