@@ -6,6 +6,9 @@
 # The program is proved and built first where that is due.
 set -eu
 top=$(CDPATH='' cd -- "$(dirname -- "$0")" && pwd -P)
+case ${1:-} in
+    -*) sed -n '2,6s/^# \{0,1\}//p' "$0" >&2 && exit 2 ;;
+esac
 prefix=${1:-/usr/local}
 "$top/seat_cli" --build
 mkdir -p "$prefix/bin" "$prefix/share/man/man1" "$prefix/share/bash-completion/completions"

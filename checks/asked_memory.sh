@@ -10,7 +10,7 @@ wrong=0
 # A crate of tests, one of its tests, and the most requests and bytes that it may make.
 within() {
     tests=crates/$1/out/$1_tests
-    [ -x "$tests" ] || (cd "crates/$1" && rt test)
+    [ -x "$tests" ] && [ -z "$(find "crates/$1/src" -newer "$tests" -name '*.rt')" ] || (cd "crates/$1" && rt test)
     REFUSE_TOTAL=$work/total LD_PRELOAD=$work/refuse.so "$tests" "$2" > "$work/out" 2>&1 || { cat "$work/out"; exit 1; }
     read -r requests bytes < "$work/total"
     echo "$2: $requests requests, $bytes bytes"

@@ -369,6 +369,8 @@ def older_tables(place):
         dump = subprocess.run(["sqlite3", store, ".dump meta cells sessions notices"], capture_output=True, check=True).stdout
         subprocess.run(["sqlite3", new], input=dump, check=True)
         tell(place.is_kept(new), "but its tables, once they are copied into a file of their own", place.ask(new, "sessions", "a"))
+    else:
+        print("left out, without sqlite3: tables that are copied into a file of their own")
     rows = database(store, "SELECT n FROM other")
     tell(rows == [(3,)], "the other table has its row")
 
@@ -412,6 +414,17 @@ def text_as_log(place):
         new.unlink(missing_ok=True)
         wal(new).unlink(missing_ok=True)
     tell(place.is_kept(store), "the store is served", place.ask(store, "sessions", "a"))
+
+
+def made_through_a_link(place):
+    """A new store that is made where a link leads, and whose log is refused: it is removed and the link stays, so that the command can be repeated."""
+    link, real, log = place.folder / "link.db", place.folder / "there.db", place.folder / "text.txt"
+    log.write_bytes(b"a letter to a friend")
+    link.symlink_to(real)
+    said = place.ask(link, "--create", "--log", log, "show", "a"), place.ask(link, "--create", "--log", log, "show", "a")
+    tell(said == ("log refused NotALog 8",) * 2 and link.is_symlink() and not real.exists(), "a new store behind a link, whose log is refused, twice", ", ".join(said))
+    said = place.ask(link, "--create", "show", "a"), place.ask(real, "show", "a")
+    tell(said[0] == said[1] and said[0].startswith("rights "), "the store is made where the link leads", ", ".join(said))
 
 
 def fronts_of_logs(place):
@@ -701,7 +714,7 @@ def taken_away_with_a_log(place):
 
 CASES = (layouts, other_layouts, client_layouts, moved, vanished, taken_away, link_that_turns, other_file_system, taken_away_with_a_log,
          replaced_while_its_log_is_read, restored, created_twice, missing_folder, cut_lines, foreign, older_tables,
-         newer_tables, first_version, text_as_log, fronts_of_logs, log_is_store, log_of_two, new_log_of_two, wider, damaged, plain, groups)
+         newer_tables, first_version, text_as_log, made_through_a_link, fronts_of_logs, log_is_store, log_of_two, new_log_of_two, wider, damaged, plain, groups)
 
 
 def main():

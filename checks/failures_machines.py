@@ -281,10 +281,14 @@ def paused_connected(day):
 
 @fault("callers that are killed inside")
 def callers_killed(day):
+    killed = 0
     for _ in range(3):
         it = day.pause_inside(True, 10)
         if it is not None:
+            killed += 1
             it[0].kill()
             it[0].stopped = False
             day.traffic(0.5)
             it[0].start()
+    if killed == 0:
+        raise AssertionError("no caller was inside")

@@ -81,6 +81,9 @@ def one_error(day):
     end = time.monotonic() + 40
     while not one.control.counted()[1] and time.monotonic() < end:
         one.change()
+    if not one.control.counted()[1]:
+        one.control.clear()
+        raise AssertionError("no write failed")
     day.now()
     # A write of the file of sessions, or into the database behind the commit, may fail without a consequence.
     yield 10, [("change", one, FROZEN, "perhaps"), ("health", one, NOT_ADMITTING, "perhaps"), ("log", one, IN_LOG, "perhaps")]

@@ -222,6 +222,8 @@ if [ -w /dev/full ]; then
     tell $? "7 for help where the output is full"
     echo "0 leave a 1" | ends 7 "" "io" run --out /dev/full && [ -c /dev/full ] && [ ! -e /dev/full.part ]
     tell $? "7 for logs on a device that is full, which stays as it is"
+else
+    echo "left out, without /dev/full: outputs that are full"
 fi
 
 python3 checks/second_reader.py --against crates/seat_cli/out/seat_cli >"$work/output" 2>&1

@@ -506,6 +506,8 @@ class World:
         late = [caller.name for caller in self.callers if caller.is_alive()]
         if late:
             self.wrong.append(f"callers do not end: {late}")
+        self.wrong += [f"{it.name} ended by itself, with status {it.process.returncode}" for it in self.callers
+                       if it.kind != "lock" and it.process.poll() not in (None, 0, -signal.SIGKILL)]
         self.settle()
         self.wrong += self.links.faults()
         self.close()
@@ -560,6 +562,11 @@ def visits(world):
     return found, sorted(waits)
 
 
+def by_kind(found):
+    """How many visits the callers of each kind made as readers, and as writers."""
+    return collections.Counter((visit[4].rstrip("0123456789."), visit[3]) for visit in found)
+
+
 def overlaps(found):
     """The visits during which a writer was inside, other than the writer's own."""
     wrong = []
@@ -611,6 +618,9 @@ def storm(folder, given, between):
         world.wrong += [line for line in (folder / "errors").read_text().splitlines() if "may not be alone" in line or "failed" in line]
     found, waits = visits(world)
     world.wrong += [f"inside together: {pair}" for pair in overlaps(found)[:5]]
+    here = by_kind(found)
+    world.wrong += [f"no reader in {kind} was admitted" for kind in sorted({it.kind for it in world.callers}) if not here[kind, "reader"]]
+    world.wrong += ["no writer was admitted"] * (not any(phase == "writer" for _, phase in here))
     world.wrong += [f"{world.statuses[status]} runs of lock ended with {status}" for status in world.statuses if status not in (0, 69, 75, -9)]
     verdict = judge(world)
     tell(world, found, waits, seconds, verdict)
@@ -619,8 +629,7 @@ def storm(folder, given, between):
 
 def tell(world, found, waits, seconds, verdict):
     print(f"{world.links.name}; seed {world.given.seed}, {seconds:.0f} s:", ", ".join(f"{what} {count}" for what, count in sorted(world.done.items())))
-    by_kind = collections.Counter((visit[4].rstrip("0123456789."), visit[3]) for visit in found)
-    print("admitted:", ", ".join(f"{count} {phase}s in {kind}" for (kind, phase), count in sorted(by_kind.items())))
+    print("admitted:", ", ".join(f"{count} {phase}s in {kind}" for (kind, phase), count in sorted(by_kind(found).items())))
     print("lock ended with:", dict(sorted(world.statuses.items(), key=str)))
     if waits:
         print(f"{len(waits) / seconds:.1f} admissions a second by connections; "

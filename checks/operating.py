@@ -235,7 +235,9 @@ def signals(program, work, rng):
     store, holders = f"{work}/signals.db", []
     for turn in range(60):
         service = Service(program, store, *["--create"] * (turn == 0))
-        service.reads(rng.randrange(40), turn * 100)
+        refused = service.reads(rng.randrange(40), turn * 100)
+        if refused is not None:
+            return tell(False, f"serve, started again behind a signal, answers {refused}")
         number = rng.choice([signal.SIGHUP, signal.SIGTERM, signal.SIGINT, signal.SIGKILL])
         if rng.random() < 0.5:  # a call in flight
             service.process.stdin.write(f"read a {turn * 100 + 99}\n".encode())
@@ -250,17 +252,21 @@ def signals(program, work, rng):
         holders = held
     tell(True, "60 times SIGHUP, SIGTERM, SIGINT or SIGKILL to serve: all that was answered is there, at most one call more")
     words = [program, "ask", "--site", "0", "--store", store, "--layout", f"{tempfile.gettempdir()}/operator.toml"]
+    began, done = time.monotonic(), 0
+    kept(program, store)
+    took = time.monotonic() - began
     for turn in range(100):
         holder = str(10_000 + turn)
         process = subprocess.Popen([*words, "read", "a", holder], stdout=PIPE, stderr=PIPE)
-        time.sleep(rng.random() * 0.01)
+        time.sleep(rng.random() * 2 * took)
         process.send_signal(rng.choice([signal.SIGHUP, signal.SIGTERM, signal.SIGINT, signal.SIGKILL]))
         answered = process.communicate()[0] == b"admitted\n"
+        done += answered
         held = kept(program, store)
         if held not in ([[*holders, holder]] if answered else [holders, [*holders, holder]]):
             return tell(False, f"a signal to ask: {str(held)[-200:]}")
         holders = held
-    tell(True, "100 times a signal to ask: what was answered is there")
+    tell(0 < done < 100, f"100 times a signal to ask, of which {done} came behind the answer: what was answered is there")
     out, script = f"{work}/run.log", b"".join(b"0 read a %d\n0 leave a %d\n" % (n, n) for n in range(3000))
     pathlib.Path(out).write_text("before\n", "ascii")
     ended = 0

@@ -307,6 +307,8 @@ def metrics(node):
     if shutil.which("promtool"):
         ran = subprocess.run(["promtool", "check", "metrics"], input=text, capture_output=True, text=True, check=False)
         tell(ran.returncode == 0, "promtool takes it", ran.stderr + ran.stdout)
+    else:
+        print("left out, without promtool: whether it takes the metrics")
     tell(node.get("/health") == (200, "the site may admit\n"), "/health")
     tell(node.get("/", Host="attacker.example")[0] == 403, "a request that names another host is refused")
 

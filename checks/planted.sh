@@ -21,6 +21,10 @@ copy_tree "$work"
 [ $# -gt 0 ] || set -- $(cd crates && ls -d */must-fail */planted 2>/dev/null | sed 's|/.*||' | sort -u)
 for name in "$@"; do
     crate=$work/crates/$name
+    if [ ! -d "$crate/planted" ] && [ ! -d "$crate/must-fail" ]; then
+        echo "$name: there is no crate of this name with planted bodies"
+        exit 1
+    fi
     mkdir -p "$crate/must-fail"
     if [ -d "$crate/planted" ]; then mv "$crate"/planted/*.edit "$crate/must-fail/"; fi
     several=$crate/must-fail/several_bodies.edit

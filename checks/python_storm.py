@@ -123,9 +123,12 @@ class Callers:
             record = chance.choice(list(RECORDS))
             visit = chance.choices([self.read, self.write, self.write_by_hand], [8, 1, 1])[0]
             try:
-                visit(chance, record, thread)
-            except ServiceEnded:
-                self.recover(record, thread)
+                try:
+                    visit(chance, record, thread)
+                except ServiceEnded:
+                    self.recover(record, thread)
+            except Exception as fault:
+                self.report(f"{record} {thread}: {fault!r}")
             time.sleep(chance.random() * 0.02)
 
     def recover(self, record, holder):
@@ -364,11 +367,13 @@ def storm(folder, given):
         settled, sums = settle(machines) if all(idle) else (False, "a site did not come to rest")
         for machine in machines:
             machine.process.communicate("end\n")
+        statuses = [machine.process.returncode for machine in machines]
     finally:
         for machine in machines:
             machine.process.kill()
     found, wrong = visits(folder)
     both = overlaps(found)
+    wrong += [f"site {number} ended with status {status}" for number, status in enumerate(statuses) if status != 0]
     counts = collections.Counter(visit[3] for visit in found)
     consistent, verdict = judge(folder, given.program)
     print(f"seed {given.seed}, {took:.0f} s: " + ", ".join(f"{what} {number}" for what, number in sorted(done.items())))

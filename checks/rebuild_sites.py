@@ -155,10 +155,9 @@ class Site:
         except BrokenPipeError:
             pass
         process.kill()
-        process.wait()
+        self.world.done["commands killed"] += process.wait() < 0
         for it in (process.stdin, process.stdout, process.stderr):
             it.close()
-        self.world.done["commands killed"] += 1
 
     def move(self, kills):
         """Moves the site, whose service is closed, and gives the text that was printed. A killed move may leave none."""

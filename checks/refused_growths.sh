@@ -16,9 +16,10 @@ word=${2:-growths}
 export REFUSE_RUN=${3:-1}
 tests=crates/$crate/out/${crate}_tests
 
-[ -x "$tests" ] || (cd "crates/$crate" && rt test)
+[ -x "$tests" ] && [ -z "$(find "crates/$crate/src" -newer "$tests" -name '*.rt')" ] || (cd "crates/$crate" && rt test)
+names=$("$tests" --list | sed -n "s/: test$//p" | grep "$word") || { echo "$crate has no test whose name holds $word"; exit 1; }
 
-for name in $("$tests" --list | sed -n "s/: test$//p" | grep "$word"); do
+for name in $names; do
     n=0
     while :; do
         n=$((n + 1))
@@ -30,5 +31,6 @@ for name in $("$tests" --list | sed -n "s/: test$//p" | grep "$word"); do
         fi
         [ -e "$work/mark" ] || break
     done
+    [ "$n" -gt 1 ] || { echo "$name: no allocation was refused"; exit 1; }
     echo "$name: each of $((n - 1)) allocations was refused in turn"
 done

@@ -32,7 +32,12 @@ refused_in_turn() {
         rm -f mark store store-wal log
         status=0
         REFUSE_NTH=$n REFUSE_MARK=mark LD_PRELOAD=./refuse.so "$program" "$@" <lines >out 2>errors || status=$?
-        [ -e mark ] || break
+        if [ ! -e mark ]; then
+            # Behind the last allocation: nothing was refused.
+            [ "$status" = 0 ] && [ ! -s errors ] && [ "$n" -gt 1 ] && break
+            echo "$how: without a refusal, behind $((n - 1)) of them: status $status, $(head -c 999 out errors)"
+            exit 1
+        fi
         kept=$("$program" ask --site 0 --store store sessions a 2>&1) || true
         [ "$kept" != "store refused NoStore" ] || kept=$("$program" ask --create --site 0 --store store sessions a 2>&1) || true
         verdict=consistent

@@ -18,7 +18,12 @@ while :; do
     status=0
     printf 'read a 7\nread a 8\nsend\n' |
         REFUSE_NTH=$n REFUSE_MARK=mark LD_PRELOAD=./refuse.so "$program" site --site 0 --store store >out 2>errors || status=$?
-    [ -e mark ] || break
+    if [ ! -e mark ]; then
+        # Behind the last allocation: nothing was refused.
+        [ "$status $(tr '\n' ';' <out)" = "0 $wanted" ] && [ "$n" -gt 1 ] && break
+        echo "without a refusal, behind $((n - 1)) of them: status $status, $(head -c 999 out errors)"
+        exit 1
+    fi
     told="$status $(tr '\n' ';' <out) $(tr '\n' ';' <errors)"
     found=$(printf 'read a 7\nread a 8\n' | "$program" site --site 0 --store store 2>&1 | tr '\n' ';')
     case "$told|$found" in

@@ -294,6 +294,9 @@ def check_together(options, folder):
     faults = [fault for it in sites for fault in it.faults]
     faults += [f"{writer} overlaps {other}" for writer, other in shared.overlaps()]
     writers = sum(1 for it in shared.times if it[1] == "writer")
+    faults += [f"site {it.number} was stopped {it.kills} times" for it in sites if not it.faults and it.kills < options.kills]
+    if writers == 0 or len(shared.times) == writers:
+        faults.append(f"{len(shared.times)} sessions were inside, {writers} of them writers")
     print(f"{sum(it.kills for it in sites)} stops with up to {options.together} calls committed together, {sum(it.sigkills for it in sites)} of them by SIGKILL:")
     print(f"{sum(it.whole for it in sites)} found a round whole that was not answered, {sum(it.none for it in sites)} none, and no other;")
     print(f"{sum(it.calls for it in sites)} calls, {len(shared.times)} sessions inside, {writers} of them writers, in {time.monotonic() - started:.0f} s")
@@ -339,6 +342,8 @@ def main():
         if verdict != ["consistent"]:
             faults.append(f"judge: {verdict}")
         writers = sum(1 for it in shared.times if it[1] == "writer")
+        if writers == 0 or len(shared.times) == writers:
+            faults.append(f"{len(shared.times)} sessions were inside, {writers} of them writers")
         print(f"{sum(it.kills for it in sites)} stops, {sum(it.sigkills for it in sites)} of them by SIGKILL,")
         print(f"{sum(it.calls for it in sites)} calls, {len(shared.times)} sessions inside,")
         print(f"{writers} of them writers, in {time.monotonic() - started:.0f} s; the logs have {logs.count(10)} lines: {verdict[0]}")

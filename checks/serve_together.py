@@ -234,6 +234,13 @@ class Site(threading.Thread):
         return [model.answer(line.encode()) for line in asked]
 
     def run(self):
+        try:
+            self.converse()
+        except Exception as fault:
+            self.faults.append(f"site {self.number}: {fault!r}")
+
+    def converse(self):
+        """Bursts and stops, until there were enough stops or something is wrong."""
         while self.kills < self.options.kills and not self.faults:
             for _ in range(self.random.randrange(1, 8)):
                 self.carry_out(self.burst())

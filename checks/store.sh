@@ -106,6 +106,8 @@ if [ -w /dev/full ]; then
     echo read a 9 | site "$work/run" >/dev/full 2>/dev/null
     [ $? = 7 ] && [ "$(printf 'read a 9\nleave a 9\n' | site "$work/run" | tr '\n' ';')" = "refused AlreadyHere;left reader;" ]
     tell $? "an output that is full, behind which the call is kept"
+else
+    echo "left out, without /dev/full: an output that is full"
 fi
 
 # a store that is copied, and put back behind what it told
