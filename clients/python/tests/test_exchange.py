@@ -9,6 +9,7 @@ import sys
 import threading
 import time
 import unittest
+import unittest.mock
 
 import zinduroi
 from zinduroi import Command, Counts, Exchange, Folder, Mqtt, TransportFailed
@@ -96,6 +97,24 @@ class Rounds(Case):
         exchange.round()
         self.assertEqual(exchange.tally().refused, {"NotJson": 2, "NotCanonical": 1})
         self.assertEqual(exchange.tally().took, 1)
+
+    def test_a_text_for_which_there_was_no_memory(self):
+        """Its site may send no more, and a folder doesn't tell of it again."""
+        other, take, full = self.open(1), self.site.take, [True, True]
+        other.take(self.site.send())
+        other.give("b", 0, 1)
+
+        def take_or_not(text):
+            if full:
+                full.pop()
+                raise zinduroi.Memory("Memory")
+            return take(text)
+        self.site.take = take_or_not
+        self.listed.arriving = [other.send()]
+        for rights in (0, 0, 1):
+            self.exchange.round()
+            self.assertEqual(self.site.show("b").rights, rights)
+        self.assertEqual((self.exchange.tally().took, self.exchange.tally().refused), (1, {"Memory": 2}))
 
     def test_need_not_help(self):
         self.exchange.helps = False
@@ -308,6 +327,40 @@ class Threads(Case):
         exchange.round()
         self.assertEqual((site.show("b").rights, exchange.tally().took), (1, 1))
 
+    def test_goes_on_behind_a_fault(self):
+        """As where this process has no memory for a text."""
+        site, listed, faults = self.open(), Listed(), [MemoryError("full")]
+        send = site.send
+
+        def send_or_not():
+            if faults:
+                raise faults[0]
+            return send()
+        site.send = send_or_not
+        with Exchange(site, listed, interval=0.05, records=["a"]) as exchange:
+            self.assertTrue(wait_for(lambda: exchange.why_failing() == "MemoryError: full"))
+            faults.clear()
+            self.assertTrue(wait_for(lambda: listed.published and exchange.why_failing() is None))
+            self.assertGreater(exchange.tally().failed["MemoryError"], 0)
+
+    def test_a_transport_that_hangs(self):
+        site, listed, go = self.open(), Listed(), threading.Event()
+        messages = listed.messages
+
+        def messages_late():
+            if listed.published:
+                go.wait(60)
+            return messages()
+        listed.messages = messages_late
+        exchange = Exchange(site, listed, interval=0.05, records=["a"]).start()
+        with unittest.mock.patch("zinduroi.exchange.LONG", 0.3):
+            self.assertTrue(wait_for(lambda: exchange.why_failing() is not None, 10))
+            self.assertRegex(exchange.why_failing(), "^a round lasts for [0-9]+ seconds$")
+        self.assertFalse(exchange.close(0.1))
+        go.set()
+        self.assertTrue(exchange.close())
+        self.assertIsNone(exchange.why_failing())
+
     def test_a_site_that_freezes(self):
         site = self.open()
         other = self.open(store=self.folder / "twice.db")
@@ -501,7 +554,11 @@ class Watch(Case):
         self.assertEqual(self.watch(*words, "--store", self.folder / "none.db"), (1, "", "zinduroi: store refused NoStore\n"))
         self.assertFalse((self.folder / "none.db").exists())
         self.assertEqual(self.watch("--site", 0)[0], 2)
-        self.assertEqual(self.watch()[0], 2)
+        self.assertEqual(self.watch("--socket", "s", "--status", "f")[0], 2)
+
+    def test_socket_of_the_environment(self):
+        with unittest.mock.patch.dict(os.environ, ZINDUROI_SOCKET=str(self.folder / "none.sock")):
+            self.assertEqual(self.watch(), (1, "", f"zinduroi: no node answers at {self.folder}/none.sock: No such file or directory\n"))
 
 
 if __name__ == "__main__":

@@ -377,13 +377,15 @@ class Deltas(Case):
             most[:] = [max(most[0], most[1] + 1), most[1] + 1]
             await asyncio.sleep(0.01)
             most[1] -= 1
-            return "rights 3 inside 0 unfinished 0" if line == b"show a" else "a delta"
+            return {b"show a": "rights 3 inside 0 unfinished 0", b"sessions a": "0"}.get(line, "a delta")
 
         async def ask_all(line):
             link.ask_bytes = ask_bytes
             answers = Answers(link, book, ("a",), dict)
             return set(await asyncio.gather(*(answers.answer(Caller(1, lambda: False), line) for _ in range(50))))
         self.assertEqual((asyncio.run(ask_all(b"send")), most), ({"a delta"}, [4, 0]))
+        most[:] = [0, 0]
+        self.assertEqual((asyncio.run(ask_all(b"sessions a")), most), ({"0"}, [4, 0]))
         self.assertEqual((asyncio.run(ask_all(b"show a")), most), ({"rights 3 inside 0 unfinished 0"}, [50, 0]))
         book.close()
 
@@ -698,9 +700,9 @@ class Restarts(NodeCase):
         self.says(self.connect(), ("sessions a", "1 x reader"))
 
     def test_stop_while_a_started_program_hangs(self):
-        """The program has ended, and the one that is started in its place says nothing."""
+        """The program has ended, and the one that is started in its place, by a script, says nothing."""
         script = self.folder / "program"
-        script.write_text(f'#!/bin/sh\nif [ "$1" = serve ] && [ -e {self.folder}/hang ]; then : > {self.folder}/hangs; exec sleep 600; fi\nexec {PROGRAM} "$@"\n')
+        script.write_text(f'#!/bin/sh\nif [ "$1" = serve ] && [ -e {self.folder}/hang ]; then : > {self.folder}/hangs; sleep 600; exit 1; fi\nexec {PROGRAM} "$@"\n')
         script.chmod(0o755)
         with unittest.mock.patch(f"{__name__}.PROGRAM", str(script)):
             self.start()
@@ -715,6 +717,58 @@ class Restarts(NodeCase):
         self.assertEqual(self.process.returncode, 0)
         self.start()
         self.says(self.connect(), ("sessions a", "1 x reader"))
+
+    def test_stop_while_the_program_hangs_at_the_start(self):
+        """It has opened the store, and does not answer behind that."""
+        script = self.folder / "program"
+        script.write_text(f'#!/bin/sh\nif [ "$1" = serve ]; then read line; echo "refused BadWord 1"; : > {self.folder}/hangs; sleep 600; exit 1; fi\nexec {PROGRAM} "$@"\n')
+        script.chmod(0o755)
+        with unittest.mock.patch(f"{__name__}.PROGRAM", str(script)):
+            process = self.spawn(self.write_config(), "--create")
+        try:
+            self.assertTrue(wait_for((self.folder / "hangs").exists, 60))
+            time.sleep(0.5)
+            process.terminate()
+            _, errors = process.communicate(timeout=40)
+        finally:
+            process.kill()
+            process.communicate()
+        self.assertEqual(process.returncode, 0)
+        self.assertIn("ended while it waited for", errors)
+
+    def test_stop_while_a_folder_hangs(self):
+        """A pipe that nobody writes to stands for a folder of a server that is away."""
+        self.start()
+        self.says(self.connect(), ("read a x", "admitted"))
+        os.mkfifo(self.folder / "deltas" / "1.delta")
+        time.sleep(1)
+        self.process.terminate()
+        try:
+            _, errors = self.process.communicate(timeout=90)
+        finally:
+            self.process.kill()
+            self.process.communicate()
+        self.assertEqual(self.process.returncode, 0)
+        self.assertIn("zinduroi: a transport does not answer, and is left: what this site knows may not have been sent\n", errors)
+        (self.folder / "deltas" / "1.delta").unlink()
+        self.start()
+        self.says(self.connect(), ("sessions a", "1 x reader"))
+
+    def test_start_while_a_folder_hangs(self):
+        self.start()
+        self.process.terminate()
+        self.process.communicate(timeout=40)
+        os.mkfifo(self.folder / "deltas" / "1.delta")
+        process = self.process = self.spawn(self.write_config())
+        self.assertRegex(process.stderr.readline(), "^zinduroi: waits for the transports .* s now\n$")
+        process.terminate()
+        try:
+            _, errors = process.communicate(timeout=40)
+        finally:
+            process.kill()
+            process.communicate()
+        self.assertEqual(process.returncode, 0)
+        self.assertIn("ended while it waited for the transports", errors)
 
     def test_strangers(self):
         """A session that the node doesn't know is listed, and left by an operator alone."""

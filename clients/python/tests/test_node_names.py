@@ -1,6 +1,7 @@
 """Whose a session's name is, what a caller that repeats its line is told, and waiting and ending in one process."""
 import asyncio
 import random
+import socket
 import types
 import unittest
 import unittest.mock
@@ -9,8 +10,11 @@ from zinduroi.command_line import status_text
 from zinduroi.node import NodeGone
 from zinduroi.node.answers import Answers, Caller
 from zinduroi.node.book import Book
+from zinduroi.node.connection import Connection
 from zinduroi.node.ending import end_all
+from zinduroi.node.lines import Shared
 from zinduroi.node.link import Interrupted
+from zinduroi.node.listening import HangUps
 from zinduroi.node.lock import Lock
 
 from .common import Case
@@ -249,6 +253,175 @@ class Waits(BookCase):
                 answers.queues.wake("a")
                 self.assertEqual(await asyncio.wait_for(waits[0], 10), "admitted")
                 self.assertEqual(await asyncio.wait_for(waits[1], 10), "refused NotHere")
+        asyncio.run(converse())
+
+
+class Given(BookCase):
+    """What becomes of a writer whose line waits no more, and of a session that another connection has taken up."""
+
+    MISSING = "refused MissingSeats 0 3"
+
+    def test_withdrawal_that_fails(self):
+        """A writer that the store has not withdrawn is not told that its time is over."""
+        async def converse(reply):
+            answers, caller = self.answers("announced 1", self.MISSING, reply, "withdrawn"), Caller(1, lambda: False)
+            told = await answers.answer(caller, b"wait 0 write a w")
+            return told, await answers.answer(caller, b"leave a w"), answers.link.lines
+        for reply in ("refused StoreFault", "refused Frozen"):
+            self.assertEqual(asyncio.run(converse(reply)), (reply, "withdrawn", ["announce", "write", "leave", "leave"]))
+
+    def test_withdrawal_behind_a_fault(self):
+        """The first fault is told, since the call may have been carried out."""
+        async def converse():
+            answers = self.answers("announced 1", "refused StoreFault", "refused Frozen")
+            return await answers.answer(Caller(1, lambda: False), b"wait 0 write a w")
+        self.assertEqual(asyncio.run(converse()), "refused StoreFault")
+
+    def test_withdrawal_without_memory(self):
+        async def converse():
+            answers = self.answers("announced 1", self.MISSING, "refused Memory", "withdrawn")
+            with unittest.mock.patch("zinduroi.node.desk.MEMORY_PAUSE", 0.01):
+                told = await answers.answer(Caller(1, lambda: False), b"wait 0 write a w")
+            return told, answers.link.lines, self.book.sessions()
+        self.assertEqual(asyncio.run(converse()), (f"timeout {self.MISSING}", ["announce", "write", "leave", "leave"], []))
+
+    def test_admitted_while_another_line_gives_up(self):
+        """The line whose time is over does not leave what another one has had enter."""
+        async def converse():
+            answers = self.answers("announced 1", self.MISSING, "admitted", "left writer")
+            first, friend = Caller(1, lambda: False), Caller(2, lambda: False)
+            friend.adopt(first.token)
+            for line in (b"announce a w", b"keep a w"):
+                await answers.answer(first, line)
+            waiting = asyncio.create_task(answers.answer(first, b"wait 0.1 write a w"))
+            await asyncio.sleep(0.02)
+            answers.link.go.clear()
+            entering = asyncio.create_task(answers.answer(friend, b"write a w"))
+            await asyncio.sleep(0.3)
+            answers.link.go.set()
+            self.assertEqual(await entering, "admitted")
+            self.assertEqual(await waiting, f"timeout {self.MISSING}")
+            self.assertEqual([(it.word, it.phase, it.ending) for it in self.book.sessions()], [("w", "writer", False)])
+        asyncio.run(converse())
+
+    async def taken_up(self, *replies):
+        """A writer whose line waits, and that another connection has taken up."""
+        answers, over = self.answers("announced 1", self.MISSING, *replies), []
+        first, friend = Caller(1, lambda: bool(over)), Caller(2, lambda: False)
+        for line in (b"announce a w", b"keep a w"):
+            await answers.answer(first, line)
+        waiting = asyncio.create_task(answers.answer(first, b"wait 60 write a w"))
+        await asyncio.sleep(0.02)
+        self.assertEqual(await answers.answer(friend, f"resume {first.token}".encode()), "resumed 1 a w waiting")
+        return answers, first, friend, over, waiting
+
+    def test_end_of_the_connection_that_waits(self):
+        async def converse():
+            answers, first, _, over, waiting = await self.taken_up("withdrawn")
+            over.append(True)
+            first.wake()
+            await waiting
+            await answers.end(first)
+            self.assertEqual([it.word for it in self.book.sessions()], ["w"])
+            self.assertNotIn("leave", answers.link.lines)
+        asyncio.run(converse())
+
+    def test_other_connection_that_enters(self):
+        async def converse():
+            answers, _, friend, _, waiting = await self.taken_up("admitted")
+            self.assertEqual(await answers.answer(friend, b"write a w"), "admitted")
+            answers.queues.wake("a")
+            self.assertEqual(await waiting, "refused InUse")
+            self.assertEqual(answers.link.lines, ["announce", "write", "write"])
+        asyncio.run(converse())
+
+    def test_already_inside_for_another_connection(self):
+        """A line that was on its way as the session was taken up gets no yes."""
+        async def converse():
+            answers = self.answers("announced 1", "refused AlreadyInside")
+            first, friend = Caller(1, lambda: False), Caller(2, lambda: False)
+            for line in (b"announce a w", b"keep a w"):
+                await answers.answer(first, line)
+            answers.link.go.clear()
+            writing = asyncio.create_task(answers.answer(first, b"write a w"))
+            await asyncio.sleep(0.02)
+            await answers.answer(friend, f"resume {first.token}".encode())
+            answers.link.go.set()
+            self.assertEqual(await writing, "refused InUse")
+        asyncio.run(converse())
+
+    def test_kept_while_it_is_withdrawn(self):
+        async def converse():
+            answers, over = self.answers("announced 1", self.MISSING, "withdrawn"), []
+            first, friend = Caller(1, lambda: bool(over)), Caller(2, lambda: False)
+            friend.adopt(first.token)
+            waiting = asyncio.create_task(answers.answer(first, b"wait 60 write a w"))
+            await asyncio.sleep(0.02)
+            over.append(True)
+            answers.link.go.clear()
+            first.wake()
+            await asyncio.sleep(0.02)
+            self.assertEqual(await answers.answer(friend, b"keep a w"), "refused NotHere")
+            answers.link.go.set()
+            await waiting
+            self.assertEqual(self.book.sessions(), [])
+        asyncio.run(converse())
+
+    def test_kept_while_it_is_entered(self):
+        async def converse():
+            answers = self.answers("refused NoSeat 0")
+            first, friend = Caller(1, lambda: False), Caller(2, lambda: False)
+            friend.adopt(first.token)
+            waiting = asyncio.create_task(answers.answer(first, b"wait 0.1 read a x"))
+            await asyncio.sleep(0.02)
+            self.assertEqual(await answers.answer(friend, b"keep a x"), "refused InUse")
+            self.assertEqual(await waiting, "timeout refused NoSeat 0")
+        asyncio.run(converse())
+
+    def test_writer_that_was_not_left_and_enters(self):
+        """Once the store has told of a session again, nothing of it is in doubt."""
+        async def converse():
+            answers, caller = self.answers("announced 1", "refused StoreFault", "admitted"), Caller(1, lambda: False)
+            for line in (b"announce a w", b"leave a w", b"write a w"):
+                await answers.answer(caller, line)
+            return await answers.answer(caller, f"resume {caller.token}".encode())
+        self.assertEqual(asyncio.run(converse()), "resumed 1 a w writer")
+
+
+class Stops(BookCase):
+    async def connect(self, stops, *replies):
+        """A connection, its other end, and what answers it."""
+        answers, hang_ups = self.answers(*replies), HangUps()
+        near, far = socket.socketpair()
+        near.setblocking(False)
+        connection = Connection(near, answers, Shared(), hang_ups, lambda: bool(stops))
+        connection.task = asyncio.create_task(connection.run())
+        return connection, far, hang_ups
+
+    def test_ended_as_the_node_stops(self):
+        async def converse():
+            connection, far, hang_ups = await self.connect([])
+            far.shutdown(socket.SHUT_WR)
+            await asyncio.wait([connection.task])
+            connection.stop()
+            hang_ups.close()
+            far.close()
+        asyncio.run(converse())
+
+    def test_hung_up_as_the_node_stops(self):
+        """Who has closed its connection before the node stops is left."""
+        async def converse():
+            stops = []
+            connection, far, hang_ups = await self.connect(stops, "admitted", "left reader")
+            far.sendall(b"read a x\n")
+            self.assertEqual(await asyncio.to_thread(far.recv, 100), b"admitted\n")
+            await asyncio.sleep(0.02)
+            far.close()
+            stops.append(True)
+            connection.stop()
+            await asyncio.wait([connection.task])
+            hang_ups.close()
+            self.assertEqual(self.book.sessions(), [])
         asyncio.run(converse())
 
 

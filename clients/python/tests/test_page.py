@@ -163,7 +163,7 @@ def stub_view(link, failure=None):
         await link.ask_until("show a")
         return {"records": {"a": {"rights": 3, "inside": 0, "unfinished": 0, "sessions": [], "queue": []}}, "callers": [], "connections": 0}
     answers = types.SimpleNamespace(tally=Tally(), link=link, status=status, group=None, book_failure=lambda: None)
-    exchange = types.SimpleNamespace(failure=failure, transport=None, tally=ExchangeTally)
+    exchange = types.SimpleNamespace(failure=failure, why_failing=lambda: failure and str(failure), transport=None, tally=ExchangeTally)
     return View(answers, Layout(1, (Record("a", 3, 0),)), types.SimpleNamespace(site=0, last_sent=None, heard={}, froze=None), exchange)
 
 

@@ -432,6 +432,19 @@ class Relays(Secure):
         self.assertEqual({state.site: state.age is not None for state in zero.states()}, {1: False, 2: True})
         self.assertTrue(wait_for(lambda: zero.lacks()[2][1] > 0, 20), zero.lacks())
 
+    def test_an_earlier_run_that_another_relay_has(self):
+        """The clock of a site's earlier run was ahead. Its text comes over a second relay, and the site goes above it."""
+        zero = self.peers(0, {1: Peer(None, {2}), 3: Peer(None, {2}), 2: None}, "127.0.0.1:0")
+        one = self.peers(1, {0: f"127.0.0.1:{zero.port}", 2: None}, "127.0.0.1:0")
+        two = self.peers(2, {1: Peer(f"127.0.0.1:{one.port}", {0}), 0: None})
+        two.publish(2, "first")
+        self.gets(zero, "first")
+        three = self.connect(zero, self.authority.give("site-3.zinduroi"))
+        three.sendall(hello_line(Hello(3, 1, 1)) + text_line(Text(2, time.time_ns() // 1000 + 3_600_000_000, "earlier run")))
+        self.gets(zero, "earlier run")
+        two.publish(2, "second")
+        self.gets(zero, "second", 10)
+
     def test_not_where_nobody_named_the_relay(self):
         zero, one, two = self.line(frozenset(), frozenset())
         zero.publish(0, "of 0")

@@ -5,6 +5,7 @@ import shlex
 import shutil
 import subprocess
 import sys
+import threading
 import unittest
 import unittest.mock
 
@@ -12,7 +13,7 @@ from zinduroi import Command, Folder, NoPlan, StoreRefused
 from zinduroi.command_line import main
 from zinduroi.recovery import NotDone, Plan, Recovery, before, generation
 
-from tests.common import PACKAGE, PROGRAM, Broker, Case
+from tests.common import PACKAGE, PROGRAM, Broker, Case, wait_for
 
 OLD, NEW = "east", "east.2"
 
@@ -276,15 +277,17 @@ class Recoveries(Case):
         self.begin(0, 1, 2)
         self.lose(1)
         gone = Folder(self.folder / "gone")
-        self.refused_at("can't be published", 0, 1, transport=gone)
-        self.run_at(0, 1)
-        self.run_at(2, 1)
-        self.refused_at("can't be fetched", 1, 1, transport=gone)
+        self.refused_at("can't be fetched", 0, 1, transport=gone)
+        self.open(0, group=OLD).close()
 
         class Half(Folder):
             def publish(self, site, text):
                 raise OSError("full")
 
+        self.refused_at("can't be published", 0, 1, transport=Half(self.channel))
+        self.run_at(0, 1)
+        self.run_at(2, 1)
+        self.refused_at("can't be fetched", 1, 1, transport=gone)
         self.refused_at("can't be published", 1, 1, transport=Half(self.channel))
         self.run_at(1, 1)
         self.assertEqual((self.channel / "1.delta").read_text(), "east.2:built 1 1\n")
@@ -398,7 +401,15 @@ class Recoveries(Case):
             self.run_at(site, 1)
         self.refused_at("was not built: input refused CounterFull", 1, 1, program=self.program("rebuild", "echo input refused CounterFull; exit 4"))
         self.assertFalse(os.path.exists(f"{self.store(1)}.{NEW}.texts"))
-        self.refused_at("was not built: io", 1, 1, program=self.program("rebuild", 'real "$@" > /dev/null; echo io >&2; exit 7'))
+
+    def test_a_building_of_which_it_is_not_known(self):
+        """Its store may be there, so it may be built at no other machine."""
+        self.begin(0, 1, 2)
+        self.lose(1)
+        for site in (0, 2):
+            self.run_at(site, 1)
+        for script in ("echo io >&2; exit 7", "echo store refused StoreFault >&2; exit 5", "kill -9 $$", 'real "$@" > /dev/null; exit 7'):
+            self.refused_at("it is not known whether site 1 was built", 1, 1, program=self.program("rebuild", script))
         self.assertIn("site 1 is built again", self.run_at(1, 1))
         self.serve_all()
 
@@ -449,6 +460,125 @@ class Recoveries(Case):
         said = self.run_at(1)
         self.assertIn("site 0: is moved, and its text is here\nsite 2: is moved, and its text is here", said)
         self.serve_all()
+
+    def move_old_store(self, site, *lost):
+        """Moves a store that has turned up elsewhere; why that is refused."""
+        plan = Plan(site, str(self.folder / "old.db"), NEW, lost, str(self.layout), PROGRAM)
+        with self.assertRaises(NotDone) as caught:
+            Recovery(plan, Folder(self.channel), self.said.append, lambda premise: True).run()
+        self.open(site, store=self.folder / "old.db", group=OLD).close()
+        return str(caught.exception)
+
+    def test_a_store_that_turns_up_too_late(self):
+        """Its site was built without it, or another one was."""
+        for lost in ((1,), (0, 1)):
+            with self.subTest(lost):
+                self.lose(0, 1, 2, "old")
+                for path in self.channel.iterdir():
+                    path.unlink()
+                self.begin(0, 1, 2)
+                for path in self.folder.glob(f"{lost[0]}.db*"):
+                    shutil.copy(path, self.folder / f"old.db{path.name[4:]}")
+                self.lose(*lost)
+                for site in sorted({0, 1, 2} - set(lost)) + [1]:
+                    self.run_at(site, *lost)
+                note = (self.channel / "1.delta").read_text()
+                self.assertIn(f"site 1 was built again in east.2 without {self.folder / 'old.db'}", self.move_old_store(lost[0], *lost[1:]))
+                self.assertEqual((self.channel / "1.delta").read_text(), note)
+
+    def test_a_site_that_was_built_is_not_moved(self):
+        self.begin(0, 1, 2)
+        self.lose(1)
+        for site in (0, 2, 1):
+            self.run_at(site, 1)
+        note = (self.channel / "1.delta").read_text()
+        self.refused_at("name the site by --lost", 1)
+        os.remove(f"{self.store(1)}.{NEW}.texts")
+        self.refused_at("name the site by --lost", 1)
+        self.assertEqual((self.channel / "1.delta").read_text(), note)
+        self.serve_all()
+
+    def test_a_store_that_turns_up_and_is_served(self):
+        """What a building that failed has left is not taken for a store."""
+        self.begin(0, 1, 2)
+        for path in self.folder.glob("1.db*"):
+            path.rename(self.folder / f"kept{path.name[4:]}")
+        for site in (0, 2):
+            self.run_at(site, 1)
+        self.refused_at("it is not known whether site 1 was built", 1, 1, program=self.program("rebuild", "echo io >&2; exit 7"))
+        for path in self.folder.glob("kept*"):
+            path.rename(self.folder / f"1.db{path.name[4:]}")
+        with self.open(1, group=OLD):
+            self.refused_at("is served: end its node", 1)
+            self.refused_at("is served, and it is not known in which group", 1, 1)
+        self.assertIn("site 1 is in east.2", self.run_at(1))
+
+    def test_a_store_that_was_moved_and_turns_up_too_late(self):
+        """Its text was never told, and another store was built in its place."""
+        self.begin(0, 1, 2)
+        with open(f"{self.store(1)}.{NEW}.moved.part", "wb") as part:
+            subprocess.run(self.words("regroup", 1, OLD), stdout=part, check=True)
+        (self.channel / "1.delta").write_text("east.2:built 1 1\n")
+        self.refused_at("was built again in east.2 without", 1)
+        self.assertEqual((self.channel / "1.delta").read_text(), "east.2:built 1 1\n")
+
+    def test_a_note_that_comes_behind_the_first_look(self):
+        """Another operator has built the site while this one answered."""
+        self.begin(0, 1, 2)
+        self.lose(1)
+        for site in (0, 2):
+            self.run_at(site, 1)
+        note = self.channel / "1.delta"
+        self.refused_at("was built again in east.2 before", 1, 1, confirm=lambda premise: note.write_text("east.2:built 1 1\n") > 0)
+        self.assertFalse(self.store(1).exists())
+
+    def test_a_note_that_can_not_be_read(self):
+        self.begin(0, 1, 2)
+        self.lose(1)
+        for site in (0, 2):
+            self.run_at(site, 1)
+        (self.channel / "1.delta").mkdir()
+        self.refused_at("can't be fetched", 1, 1)
+        self.assertFalse(self.store(1).exists())
+        (self.channel / "2.delta").unlink()
+        (self.channel / "2.delta").mkdir()
+        self.refused_at("can't be fetched", 0, 1)
+
+    def test_what_is_left_of_an_earlier_building(self):
+        """The program has told here what the site got: so it was built, and served perhaps."""
+        self.begin(0, 1, 2)
+        self.lose(1)
+        for site in (0, 2, 1):
+            self.run_at(site, 1)
+        (self.channel / "1.delta").unlink()
+        for ending in ("", "-wal", "-shm"):
+            self.store(1).with_name(f"1.db{ending}").unlink(missing_ok=True)
+        self.refused_at("was built again in east.2 here before", 1, 1)
+        self.assertFalse(self.store(1).exists())
+
+    def test_whether_the_group_has_gone_on_is_asked(self):
+        self.begin(0, 1, 2)
+        self.lose(1)
+        for site in (0, 2):
+            self.run_at(site, 1)
+        self.refused_at("not confirmed", 1, 1, confirm=lambda premise: "no site has gone on to east.3" not in premise)
+        self.assertFalse(self.store(1).exists())
+
+    def test_two_calls_at_once(self):
+        self.begin(0, 1, 2)
+        self.lose(1)
+        program = self.program("regroup", f"while [ ! -e {self.folder}/go ]; do sleep 0.1; done\nreal \"$@\"")
+        first = self.recovery(0, 1, program=program)
+        said = []
+        first.say = said.append
+        working = threading.Thread(target=first.run)
+        working.start()
+        self.assertTrue(wait_for(lambda: os.path.exists(f"{self.store(0)}.{NEW}.moved.part")))
+        self.refused_at("another call is at work", 0, 1)
+        (self.folder / "go").touch()
+        working.join()
+        self.assertIn("site 0 is in east.2", said)
+        self.run_at(0, 1)
 
     def test_a_site_that_is_lost_behind_its_move(self):
         self.begin(0, 1, 2)

@@ -11,12 +11,16 @@ import time
 from types import TracebackType
 from typing import Callable, Counter, Deque, Optional, Sequence, Type
 
-from .errors import Frozen, NoPlan, OwnRowAhead, Refused, StoreFault, ZinduroiError
+from .errors import Frozen, Memory, NoPlan, OwnRowAhead, Refused, StoreFault, ZinduroiError
 from .site import Path, Site, read_layout
 from .transports import Transport, TransportFailed
 
 # The least time, in seconds, between two rounds, however many changes there are.
 SHORTEST = 0.02
+# A round that lasts for more seconds is told of: its transport may hang, as a folder of a server that is away.
+LONG = 30.0
+# How many texts are taken again for which the program found no memory: one of each site.
+AGAIN = 16
 
 
 @dataclasses.dataclass
@@ -53,7 +57,7 @@ class Exchange:
 
     Whatever the transport raises is counted, and tried again. `failure` says why the last round was not finished: `ServiceEnded`,
     until `Site.reopen` starts the service anew; a refusal, as `Memory`; or `OwnRowAhead`, `StoreFault` or `Frozen`, which end the
-    thread. `status` is a file that gets the site's state after each round, for `python3 -m zinduroi watch`."""
+    thread; or a fault of another kind. `status` is a file that gets the site's state after each round, for `python3 -m zinduroi watch`."""
 
     def __init__(self, site: Site, transport: Transport, interval: float = 1.0, every: int = 10,
                  records: Optional[Sequence[str]] = None, status: Optional[Path] = None) -> None:
@@ -69,6 +73,8 @@ class Exchange:
         self._status = status
         self._tally = Tally()
         self._arrived: Deque[str] = collections.deque()
+        self._later: Deque[str] = collections.deque(maxlen=AGAIN)
+        self._began: Optional[float] = None
         self._known: Optional[str] = None
         self._published: Optional[str] = None
         self._quiet = 0
@@ -92,15 +98,27 @@ class Exchange:
             self._thread.start()
         return self
 
-    def close(self) -> None:
-        """Ends the thread behind a last round, and closes the transport. Close the site after that."""
+    def close(self, patience: Optional[float] = None) -> bool:
+        """Ends the thread behind a last round, and closes the transport. Close the site after that. A thread that has not ended within
+        `patience` seconds, as where the transport hangs, is left: it ends with the process. Says whether it has ended."""
         self._closed.set()
         self._wake.set()
         if self._thread is not None:
-            self._thread.join()
+            self._thread.join(patience)
+            if self._thread.is_alive():
+                return False
         close: Optional[Callable[[], None]] = getattr(self.transport, "close", None)
         if close is not None:
             close()
+        return True
+
+    def why_failing(self) -> Optional[str]:
+        """Why rounds are not finished, `None` where they are: what `failure` says, or that one lasts for long."""
+        failure, began = self.failure, self._began
+        if failure is not None:
+            return str(failure)
+        lasts = 0.0 if began is None else time.monotonic() - began
+        return f"a round lasts for {lasts:.0f} seconds" if lasts > LONG else None
 
     def __enter__(self) -> Exchange:
         return self.start()
@@ -128,6 +146,7 @@ class Exchange:
             if whole:
                 self._urgent.clear()
                 due = time.monotonic() + self.interval
+            self._began = time.monotonic()
             try:
                 self.round() if whole else self._answer()
                 self.failure = None
@@ -140,6 +159,11 @@ class Exchange:
             except ZinduroiError as failure:
                 # The service ended; `failed` has what the transport does.
                 self.failure = failure
+            except Exception as fault:
+                # As where this process has no memory for a text.
+                self.failure = ZinduroiError(f"{type(fault).__name__}: {fault}")
+                self._count_failure(fault)
+            self._began = None
             if not closed:
                 self._closed.wait(min(SHORTEST, self.interval))
                 self._wake.wait(max(0.0, due - time.monotonic()))
@@ -164,7 +188,10 @@ class Exchange:
 
     def _take_all(self, starts: bool = False) -> int:
         """Takes the texts that have arrived, and gives the number of counters that rose. Those that the service could not be asked
-        for, as it had ended, come first: their transport doesn't tell them again, and their sites may send no more."""
+        for, as it had ended, come first, and then those for which it found no memory: their transport doesn't tell them again, and their
+        sites may send no more."""
+        self._arrived.extend(self._later)
+        self._later.clear()
         rose = self._take_arrived()
         try:
             self._arrived.extend(self.transport.messages())
@@ -193,6 +220,8 @@ class Exchange:
             raise
         except Refused as refused:
             self._count_refusal(refused)
+            if isinstance(refused, Memory) and text not in self._later:
+                self._later.append(text)
             return 0
         self._count("took")
         self._count("rose", rose)

@@ -195,16 +195,25 @@ class Peers:
 
     def _start(self) -> None:
         ready = threading.Event()
+        failed: List[OSError] = []
 
         def work() -> None:
             try:
                 asyncio.run(self._main(ready))
+            except OSError as error:
+                if ready.is_set():
+                    raise
+                failed.append(error)  # as where the process has too many files open
             finally:
                 ready.set()
 
         self._thread = threading.Thread(target=work, name="zinduroi peers", daemon=True)
         self._thread.start()
         ready.wait()
+        if failed:
+            if self._listener is not None:
+                self._listener.close()
+            raise failed[0]
 
     def _stopping(self) -> bool:
         return self._stop is None or self._stop.is_set()
@@ -493,6 +502,10 @@ class Peers:
             new = self._texts.take(text, _stamp())
             if new:
                 self._heard[text.of] = time.monotonic()
+            elif text.stamp < self._needs(site).get(text.of, 0):
+                # The peer does not know of ours, which came another way, nor does its site, which may have to go above it.
+                link.tells_needs = True
+                link.wake.set()
         self._rise()
         if new:
             self._wake_all()

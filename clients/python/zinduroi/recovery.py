@@ -1,10 +1,12 @@
 """A group that goes on without a lost store: the sites that are left are moved to the group's next generation, each on its machine,
 and each lost site is built again of what they know. docs/OPERATING.md tells when that may be done.
 
-What is done is found again in three files beside a site's store, so that a second call goes on where the first one stopped."""
+What is done is found again in files beside a site's store, so that a second call goes on where the first one stopped."""
 from __future__ import annotations
 
+import contextlib
 import dataclasses
+import fcntl
 import hashlib
 import json
 import os
@@ -12,7 +14,7 @@ import pathlib
 import re
 import subprocess
 import time
-from typing import Callable, Dict, List, NoReturn, Optional, Sequence, Set, Tuple, Union
+from typing import Callable, Dict, Iterator, List, NoReturn, Optional, Sequence, Set, Tuple, Union
 
 from .errors import ZinduroiError
 from .service import command
@@ -25,8 +27,8 @@ MOST_GENERATIONS = 1_048_575
 PAUSE = 0.5
 # Exit statuses of the program where it answered, if only by a refusal of the call.
 ANSWERED = (0, 1)
-# .. behind which it has changed no store: wrong arguments, no layout, an input that is refused.
-SURE = (2, 3, 4)
+# .. behind which it has changed no store: wrong arguments, no layout, an input that is refused, out of memory.
+SURE = (2, 3, 4, 6)
 WRONG_INPUT = 4
 # .. and that of a store that can't be used, which is changed by none of its refusals but this one.
 NO_STORE, PERHAPS = 5, "StoreFault"
@@ -93,31 +95,64 @@ class Recovery:
         self.texts: Dict[int, str] = {}
         self.built: Dict[int, str] = {}
         self.moved: Set[int] = set()
+        self._lock: Optional[int] = None
 
     def run(self, wait: float = 0) -> None:
         """Does what can be done here. A lost site waits up to `wait` seconds for texts."""
         folder = os.path.dirname(self.plan.store) or "."
         if os.path.exists(folder) and os.stat(folder).st_uid != os.geteuid():
             self.say(f"{folder} belongs to another user, as of a node: what is made there belongs to you, and that user may not be able to open it")
-        if self.plan.site in self.plan.lost:
-            self.build(wait)
-        else:
-            self.move()
+        with self._alone(folder):
+            if self.plan.site in self.plan.lost:
+                self.build(wait)
+            else:
+                self.move()
+
+    @contextlib.contextmanager
+    def _alone(self, folder: str) -> Iterator[None]:
+        """Keeps other calls for this store out, which would write the same files."""
+        if not os.path.exists(folder):
+            yield
+            return
+        with open(self._file("lock"), "ab") as lock:
+            try:
+                fcntl.flock(lock, fcntl.LOCK_EX | fcntl.LOCK_NB)
+            except BlockingIOError:
+                self._refuse(f"another call is at work at {self.plan.store}")
+            self._lock = lock.fileno()
+            yield
 
     # A site that is left
 
     def move(self) -> None:
         """Moves the site, unless it is, and publishes the text of the move."""
-        text = self._kept_text() or self._moved()
+        text = self._kept_text()
+        self._refuse_late(is_moved=text is not None)
+        if text is None:
+            text = self._moved()
         name = self._ask(self.plan.to)[0]
         if name not in ("", "InUse"):
             self._refuse(f"{self.plan.store} can't be opened in {self.plan.to}, though {self._file('moved')} tells that it was moved: {name}")
         self.say(f"site {self.plan.site} is in {self.plan.to}")
         self._publish(text)
         self.say(f"its text is published. Serve it with --group {self.plan.to} from now on")
-        self._gather()
-        self._gather_late()
+        self._gather_all()
         self._tell_steps([site for site in self.left if site != self.plan.site])
+
+    def _refuse_late(self, is_moved: bool) -> None:
+        """Refuses a site that was built again, and a store without which some site was."""
+        self._gather_all()
+        without = [site for site, note in self.built.items() if str(self.plan.site) in note.split(" ")[0].split(",")]
+        if not without and (is_moved or not os.path.exists(self._file("texts"))):
+            return
+        name = self._ask(self.plan.to)[0]
+        if name == "InUse":
+            self._refuse(f"{self.plan.store} is served: end its node or service, and call this again")
+        if name == "" and not is_moved:
+            self._refuse(f"{self.plan.store} is in {self.plan.to}, where site {self.plan.site} was built again: if it is what was built, name the site by --lost")
+        if without:
+            self._refuse(f"site {without[0]} was built again in {self.plan.to} without {self.plan.store}, which is lost since then: never serve it, and delete "
+                         "it with all copies")
 
     def _kept_text(self) -> Optional[str]:
         """The text that an earlier call has kept, or that the move left as the call died."""
@@ -154,7 +189,7 @@ class Recovery:
             return text
         if status == 0:
             self._refuse(f"seat_cli regroup printed what is no text of site {self.plan.site}: see {part}")
-        if status not in SURE and (status != NO_STORE or name == PERHAPS or not NAME.fullmatch(name)):
+        if not _is_sure(status, name):
             self._refuse(f"it is not known whether site {self.plan.site} was moved: {name}. Look at its disk and its path, and call this again")
         os.unlink(part)
         if name == "WrongGroup" and self._ask(self.plan.to)[0] in ("", "InUse"):
@@ -195,6 +230,9 @@ class Recovery:
             if self._kept_text() is not None or os.path.exists(self._file("moved")):
                 self._refuse(f"site {self.plan.site} was moved to {self.plan.to} before it was lost, as {self._file('moved')} tells. Move all sites that are left on to "
                              f"{_behind(self.plan.to)}, and build it there")
+            if self._was_built():
+                self._refuse(f"site {self.plan.site} was built again in {self.plan.to} here before, as {self._file('shown')} tells. If that store is lost too, "
+                             f"all sites go on to {_behind(self.plan.to)}")
             end = time.monotonic() + wait
             while not self._gather_by(end) and time.monotonic() < end:
                 time.sleep(PAUSE)
@@ -204,8 +242,13 @@ class Recovery:
             if missing:
                 self._refuse("call this again once these sites are moved")
             self._confirm_premises()
+            # What came while the operator answered.
+            self._gather_all()
+            self._compare_built(whole=True)
             self._rebuild()
         name = self._ask(self.plan.to)[0]
+        if name == "InUse" and not self._was_built():
+            self._refuse(f"{self.plan.store} is served, and it is not known in which group: end its node or service, and call this again")
         if name not in ("", "InUse"):
             why = "Make the folder first" if name == "NoFolder" else "Nothing is built over a file"
             self._refuse(f"{self.plan.store} can't be opened as a store of site {self.plan.site} in {self.plan.to}: {name}. {why}")
@@ -241,6 +284,13 @@ class Recovery:
             if time.monotonic() < end:
                 return False
             raise
+
+    def _gather_all(self) -> None:
+        """Takes all texts that are there, also those that come a moment later. Behind those that are new a folder tells which it can't
+        read."""
+        self._gather()
+        self._gather()
+        self._gather_late()
 
     def _gather_late(self) -> None:
         """Takes what comes a moment later over a channel that tells when it comes. One that has failed by then is told of."""
@@ -280,7 +330,8 @@ class Recovery:
         for premise in (
             f"The store of site {lost} is lost for good. No copy of it is served, now or later, and its callers have ended",
             f"The group has had no sites but 0 to {self.layout.sites - 1}, which {self.plan.layout or 'the built-in layout'} names",
-            f"The sites that are left were stopped when they were moved, and their stores are the newest ones. No other sites ever used the name {self.plan.to}",
+            f"The sites that are left were stopped when they were moved, and their stores are the newest ones. No other sites ever used the name {self.plan.to}, "
+            f"and no site has gone on to {_behind(self.plan.to)}",
             self._never_there(self.plan.site),
         ):
             if not self.confirm(premise):
@@ -299,6 +350,8 @@ class Recovery:
             output.seek(0)
             shown = output.read().decode("utf-8", "replace").strip()
         if status != 0 and name != "Exists":
+            if not _is_sure(status, name):
+                self._refuse(f"it is not known whether site {self.plan.site} was built: {name}. Call this again here, and build it at no other machine")
             if status in SURE:
                 # No store was made of these texts, so none that turns up here may be taken for such a one.
                 os.unlink(self._file("texts"))
@@ -309,6 +362,14 @@ class Recovery:
         if told is not None and told[1] != self._built_of().split(" ")[1]:
             os.replace(self._file("texts"), self._file("other"))
             self._refuse_other()
+
+    def _was_built(self) -> bool:
+        """Whether the program has told here what the site got, which it does behind the commit."""
+        try:
+            shown = pathlib.Path(self._file("shown")).read_text(encoding="utf-8", errors="replace")
+        except FileNotFoundError:
+            return False
+        return re.search(r"^\S+ rights [0-9]", shown, re.M) is not None
 
     def _refuse_other(self) -> NoReturn:
         self._refuse(f"site {self.plan.site} was built of other texts than those in {self._file('other')}: don't serve it. Move all sites that "
@@ -365,7 +426,8 @@ class Recovery:
         plan = self.plan
         words = command(plan.program, verb, f"--site={plan.site}", "--store", plan.store, "--group", group,
                         *(["--layout", plan.layout] if plan.layout is not None else []), *more)
-        ran = subprocess.run(words, stdin=texts, stdout=output, stderr=subprocess.PIPE, check=False)
+        # The lock lasts as long as the program, even if this process dies.
+        ran = subprocess.run(words, stdin=texts, stdout=output, stderr=subprocess.PIPE, check=False, pass_fds=() if self._lock is None else (self._lock,))
         return ran.returncode, _why(ran.returncode, ran.stderr)
 
     def _ask(self, group: str, *call: str) -> Tuple[str, str]:
@@ -378,6 +440,11 @@ class Recovery:
 
     def _refuse(self, why: str) -> NoReturn:
         raise NotDone(why)
+
+
+def _is_sure(status: int, name: str) -> bool:
+    """Whether the program has changed no store, behind an end of this status and name."""
+    return status in SURE or status == NO_STORE and name != PERHAPS and NAME.fullmatch(name) is not None
 
 
 def _why(status: int, errors: bytes) -> str:

@@ -1,7 +1,10 @@
 """The program `serve` as a process, two pipes to it, and the thread that keeps them in step."""
 from __future__ import annotations
 
+import contextlib
+import os
 import queue
+import signal
 import subprocess
 import tempfile
 import threading
@@ -105,8 +108,10 @@ class Service:
         return self._process.wait()
 
     def kill(self) -> None:
-        """Ends the process at once."""
-        self._process.kill()
+        """Ends the process at once, and with it those that it began: the program may be a script that runs it."""
+        if self._ended is None:
+            with contextlib.suppress(ProcessLookupError):
+                os.killpg(self._process.pid, signal.SIGKILL)
 
     def _work(self) -> None:
         more = True

@@ -10,12 +10,12 @@ from typing import Any, Dict, List, Optional, Sequence
 
 from .errors import ZinduroiError
 from .exchange import status_of
-from .node.client import NodeClient
+from .node.client import NodeClient, socket_path
 from .site import Site, read_layout
 
 NOTES = """A site's store can be used by one process at a time. So there are three ways to look:
 
-  watch --socket PATH          while a node serves the site: asks the node
+  watch [--socket PATH]        while a node serves the site: asks the node
   watch --status FILE ..       while sites are served: each Exchange writes the state of its site into the file that it was given
                                as `status`; one table for all files
   watch --site I --store FILE  while the site is not served: opens the store, and lets nobody else use it meanwhile
@@ -118,7 +118,7 @@ def add_watch(commands: "argparse._SubParsersAction[argparse.ArgumentParser]") -
     """Adds the command `watch`."""
     watch = commands.add_parser("watch", help="a table that renews itself", description=__doc__, epilog=NOTES,
                                 formatter_class=argparse.RawDescriptionHelpFormatter)
-    watch.add_argument("--socket", metavar="PATH", help="the socket of a node")
+    watch.add_argument("--socket", metavar="PATH", help="the socket of a node (default: $ZINDUROI_SOCKET, or /run/zinduroi/node.sock)")
     watch.add_argument("--status", nargs="+", metavar="FILE", help="files that exchanges write")
     watch.add_argument("--site", type=int, metavar="I", help="the site's number")
     watch.add_argument("--store", metavar="FILE", help="the site's store")
@@ -138,11 +138,12 @@ def main(words: Optional[Sequence[str]] = None) -> int:
 
 def run_watch(given: argparse.Namespace, made: argparse.ArgumentParser) -> int:
     """Carries out `watch` as it was given, and gives the exit status."""
-    if [bool(given.socket), bool(given.status), given.site is not None and given.store is not None].count(True) != 1:
+    named = [bool(given.socket), bool(given.status), given.site is not None and given.store is not None].count(True)
+    if named > 1 or named == 0 and (given.site, given.store) != (None, None):
         made.error("give one of --socket, --status, or --site and --store")
     try:
-        if given.socket:
-            return watch_node(given.socket, given.interval, given.once)
+        if named == 0 or given.socket:
+            return watch_node(socket_path(given.socket or None), given.interval, given.once)
         if given.status:
             return watch_files(given.status, given.interval, given.once)
         with Site(given.store, given.site, given.layout, given.group, wait=given.wait, program=given.program) as site:

@@ -17,8 +17,9 @@ from .report import report
 from .tally import Tally
 
 
-# How many deltas are asked for at once. Each may have 2 MiB, for which there is room or not only once it is there.
-SENDS = 4
+# How many deltas and lists of sessions callers may ask for at once. Each may have 2 MiB, for which there is room or not only once it is there.
+LONG = (b"send", b"sessions")
+AT_ONCE = 4
 
 
 class Caller:
@@ -64,7 +65,7 @@ class Answers:
         self.group: Optional[str] = None
         self._more = more
         self._book_failure: Optional[str] = None
-        self._sends = asyncio.Semaphore(SENDS)
+        self._long = asyncio.Semaphore(AT_ONCE)
         self._calls: Dict[str, Callable[[Caller, Call], Awaitable[str]]] = {
             "read": self._enter, "announce": self._enter, "write": self._write, "leave": self._leave, "fence": self._fence,
             "keep": self._keep, "evict": self._evict}
@@ -153,7 +154,7 @@ class Answers:
         verb, _, rest = line.partition(b" ")
         while True:
             try:
-                async with self._sends if verb == b"send" else contextlib.nullcontext():
+                async with self._long if verb in LONG else contextlib.nullcontext():
                     reply = await self.link.ask_bytes(line)
                 break
             except Interrupted:
@@ -230,7 +231,7 @@ class Answers:
             found = _taken(caller, session)
         if isinstance(found, str):
             return found
-        caller.waiter = Waiter(found, call.verb, caller.is_over)
+        caller.waiter = _waiter(caller, found, call.verb)
         try:
             reply = await self.queues.wait(self.desk, caller.waiter, call.wait)
         finally:
@@ -257,6 +258,8 @@ class Answers:
         session = self._own(caller, call, "NotHere")
         if isinstance(session, str):
             return session
+        if session.phase is None:
+            return "refused InUse"
         self.book.keep(session)
         return f"kept {session.token}"
 
@@ -293,6 +296,11 @@ class Answers:
         return resumed_text([(session.record, session.word, None if session.doubted else session.phase) for session in free])
 
 
+def _waiter(caller: Caller, session: Session, verb: str) -> Waiter:
+    """A line of a caller that waits."""
+    return Waiter(session, verb, caller.is_over, lambda: not _is_anothers(caller, session))
+
+
 def _taken(caller: Caller, session: Session) -> str:
     """What is answered to a line that would enter under the name of a session. A caller that repeats its line takes `AlreadyHere` for a yes: so
     it is answered only to whom the session belongs, where the store has it and no other connection's end ends it."""
@@ -304,8 +312,9 @@ def _taken(caller: Caller, session: Session) -> str:
 
 
 def _told(caller: Caller, session: Session, reply: str) -> str:
-    """What a caller is told whose line was answered. If another connection has taken up the session meanwhile, it is inside for that one."""
-    return "refused InUse" if reply == "admitted" and _is_anothers(caller, session) else reply
+    """What a caller is told whose line was answered. If another connection has taken up the session meanwhile, it is inside for that one:
+    `AlreadyInside` is a yes as well."""
+    return "refused InUse" if reply in ("admitted", "refused AlreadyInside") and _is_anothers(caller, session) else reply
 
 
 def _is_anothers(caller: Caller, session: Session) -> bool:

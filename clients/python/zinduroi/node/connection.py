@@ -50,9 +50,9 @@ class Connection:
             self._socket.close()
 
     def stop(self) -> None:
-        """The node stops: the line in work is answered, and no more."""
+        """The node stops: the line in work is answered, and no more. A connection whose other end is closed already has ended by itself."""
         self.caller.wake()
-        if not self._busy and self.task is not None:
+        if not self._busy and self.task is not None and not self.task.done() and not is_hung_up(self._socket):
             self.task.cancel()
 
     def _hung_up(self) -> None:

@@ -31,8 +31,11 @@ class Desk:
         the call was carried out, and it is made again if it was not. Nothing is asked for a session that was ended meanwhile. Calls
         of a session, which several connections may make, wait for each other: so what the store tells is of this one."""
         async with session.turn:
-            reply = await self._ask(session, verb)
-            self._note(session, verb, reply)
+            return await self._ask_noted(session, verb)
+
+    async def _ask_noted(self, session: Session, verb: str) -> str:
+        reply = await self._ask(session, verb)
+        self._note(session, verb, reply)
         return reply
 
     async def _ask(self, session: Session, verb: str) -> str:
@@ -52,6 +55,22 @@ class Desk:
             reply = await self.ask(session, "leave")
             if reply != "refused Memory":
                 return reply
+            await asyncio.sleep(MEMORY_PAUSE)
+
+    async def withdraw(self, session: Session, is_due: Callable[[], bool]) -> Optional[str]:
+        """Leaves a session whose caller gave up, if that is still due once no other call of it is under way, which may have had it enter.
+        The refusal behind which it may still be in the store, or `None`."""
+        while True:
+            async with session.turn:
+                if not is_due():
+                    return None
+                before, session.ending = session.ending, True
+                try:
+                    reply = await self._ask_noted(session, "leave")
+                finally:
+                    session.ending = before
+            if reply != "refused Memory":
+                return reply if self.book.is_here(session) else None
             await asyncio.sleep(MEMORY_PAUSE)
 
     def drop(self, session: Session, reply: str) -> None:
@@ -98,6 +117,8 @@ class Desk:
 
     def _note(self, session: Session, verb: str, reply: str) -> None:
         """Writes down what a reply says."""
+        if reply in ("admitted", "refused AlreadyInside") or reply.startswith("announced "):
+            session.doubted = False
         if reply == "admitted":
             session.phase, session.entered = "reader" if verb == "read" else "writer", time.time()
         elif reply.startswith("announced "):

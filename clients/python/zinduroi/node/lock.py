@@ -156,6 +156,8 @@ class Lock:
             status = process.returncode if process.returncode >= 0 else 128 - process.returncode
             for number, handler in found.items():
                 signal.signal(number, handler)
+        else:
+            signal.pthread_sigmask(signal.SIG_SETMASK, mask)
         self._leave(lifeline)
         os.close(lifeline)
         return NO_NODE if lost and self.strict else status

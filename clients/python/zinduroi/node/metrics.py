@@ -115,7 +115,8 @@ def _exchange(text: Text, view: View) -> None:
     text.add("handovers_total", "counter", "Times that seats were given to other sites by help.", [((), done.gave)])
     text.add("seats_given_total", "counter", "Seats that were given by help.", [((), done.seats)])
     text.add("transport_failures_total", "counter", "Failures of the transports, by name.", _by(done.failed, "name"))
-    text.add("exchange_failing", "gauge", "1 if the last round of the exchange was not finished.", [((), view.exchange.failure is not None)])
+    text.add("exchange_failing", "gauge", "1 if the last round of the exchange was not finished, or one lasts for over half a minute.",
+             [((), view.exchange.why_failing() is not None)])
 
 
 def _peers(text: Text, view: View) -> None:

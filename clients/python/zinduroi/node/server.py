@@ -25,11 +25,12 @@ from .listening import HangUps, Listener
 from .page import Page
 from .report import report
 from .sharing_task import Sharer, Sharing
-from .starting import Stopped, unless_stopped
+from .starting import Stopped, settled, unless_stopped
 from .view import View
 
-# How many seconds a stop waits for lines in work, and for a program that doesn't answer.
+# How many seconds a stop waits for lines in work, and for a program that doesn't answer; and for a transport that hangs.
 LAST_ANSWERS = 5.0
+LAST_ROUND = 40.0
 # Files that the node needs beside its connections.
 OTHER_FILES = 100
 
@@ -96,6 +97,7 @@ class Node:
         self._site: Optional[NodeSite] = None
         self._book: Optional[Book] = None
         self._exchange: Optional[Exchange] = None
+        self._link: Optional[Link] = None
         self._answers: Optional[Answers] = None
         self._hang_ups: Optional[HangUps] = None
         self._page: Optional[Page] = None
@@ -107,7 +109,7 @@ class Node:
 
     async def run(self, create: bool) -> None:
         """Serves until `stop` is called. With `create` the store is made, once the transports are. Raises what the site, the transports,
-        the exchange or the socket raise at their start, and `Stopped` if `stop` is called before the program has answered."""
+        the exchange or the socket raise at their start, and `Stopped` if `stop` is called meanwhile."""
         accepting: Optional[asyncio.Task[None]] = None
         try:
             await self._open(create)
@@ -136,10 +138,11 @@ class Node:
                                           config.layout, config.group, create, config.log, config.program)
         records = tuple(record.name for record in layout.records)
         self._book = Book(f"{config.store}.sessions")
-        link = Link(self._site)
+        self._link = link = Link(self._site)
         stored = {}
         for record in records:
-            listed = await link.ask_until(f"sessions {record}")
+            asked = asyncio.ensure_future(link.ask_until(f"sessions {record}"))
+            listed = await settled(self._stopping, f"{config.program} to list the sessions", asked)
             if listed.startswith("refused"):
                 raise StoreRefused(listed.split(" ")[1])
             stored[record] = stored_sessions(listed)
@@ -164,7 +167,7 @@ class Node:
             transport = transports[0] if len(transports) == 1 else Several(transports)
             self._exchange = Exchange(site, transport, self.config.interval, self.config.every, answers.records)
             self._exchange.helps = self.config.helps
-            await asyncio.to_thread(self._exchange.start, patient=not create)
+            await unless_stopped(self._stopping, "the transports and the program to take what has come", self._exchange.start, not create)
             if self._exchange.tally().failed:
                 report("a transport fails; it is tried again")
         sharers = [transport for transport in transports if isinstance(transport, Sharer)]
@@ -233,7 +236,7 @@ class Node:
         if tasks:
             _, late = await asyncio.wait(tasks, timeout=LAST_ANSWERS)
             await end_all(late)
-        if self._answers is not None and self._site is not None and not await self._program_answers(self._answers):
+        if self._link is not None and self._site is not None and not await self._program_answers(self._link):
             report("the program does not answer, and is killed: what it has answered is in the store")
             self._site.kill()
         if self._page is not None:
@@ -241,7 +244,8 @@ class Node:
         if self._sharing is not None:
             await end_all([self._sharing[1]])
         if self._exchange is not None:
-            await asyncio.to_thread(self._exchange.close)
+            if not await asyncio.to_thread(self._exchange.close, LAST_ROUND):
+                report("a transport does not answer, and is left: what this site knows may not have been sent")
         elif self._transports:
             await asyncio.to_thread(Several(self._transports).close)
         if self._hang_ups is not None:
@@ -254,9 +258,9 @@ class Node:
         self._listener.close()
 
     @staticmethod
-    async def _program_answers(answers: Answers) -> bool:
+    async def _program_answers(link: Link) -> bool:
         """Whether the program still answers. The exchange and the service could not be closed else."""
-        asked = asyncio.ensure_future(answers.link.ask_until(f"show {answers.records[0]}"))
+        asked = asyncio.ensure_future(link.ask_until("show"))
         await asyncio.wait((asked,), timeout=LAST_ANSWERS)
         return asked.done() or not asked.cancel()
 
@@ -265,8 +269,7 @@ class Node:
         assert self._site is not None
         state: Dict[str, object] = {"group": self.config.group, "connections": len(self._connections), "service": self._site.pid}
         if self._exchange is not None:
-            failure = self._exchange.failure
-            state["exchange"] = {**vars(self._exchange.tally()), "failure": None if failure is None else str(failure)}
+            state["exchange"] = {**vars(self._exchange.tally()), "failure": self._exchange.why_failing()}
         peers = [dataclasses.asdict(peer) for transport in self._transports for peer in getattr(transport, "states", list)()]
         if peers:
             state["peers"] = peers

@@ -20,8 +20,8 @@ class Stopped(Exception):
 
 
 async def unless_stopped(stopping: asyncio.Event, what: str, function: Callable[..., Made], *words: Any) -> Made:
-    """What a function gives that may take long, or what it raises. It runs on a thread of its own, and the operator is told what the node
-    waits for. Raises `Stopped` once `stopping` is set; then nobody waits for the function, and what it began ends with the process."""
+    """What a function gives that may take long, or what it raises. It runs on a thread of its own. Raises `Stopped` once `stopping` is set;
+    then nobody waits for the function, and what it began ends with the process."""
     loop = asyncio.get_running_loop()
     done: asyncio.Future[Made] = loop.create_future()
 
@@ -34,6 +34,12 @@ async def unless_stopped(stopping: asyncio.Event, what: str, function: Callable[
             _tell(loop, done, made)
 
     threading.Thread(target=work, name="zinduroi start", daemon=True).start()
+    return await settled(stopping, what, done)
+
+
+async def settled(stopping: asyncio.Event, what: str, done: "asyncio.Future[Made]") -> Made:
+    """What a future or a task gives or raises. The operator is told what the node waits for. Raises `Stopped` once `stopping` is set, and
+    cancels it."""
     stopped = asyncio.ensure_future(stopping.wait())
     began, due = time.monotonic(), SLOW
     try:

@@ -19,13 +19,19 @@ _MENDED = ("NoSeat", "WriterAnnounced", "MissingSeats", "TooManyWriters")
 
 
 class Waiter:
-    """A caller in a queue. `is_over` says whether its connection has ended, or the node stops."""
+    """A caller in a queue. `is_over` says whether its connection has ended, or the node stops; `is_own`, whether no other connection
+    has taken up its session."""
 
-    def __init__(self, session: Session, verb: str, is_over: Callable[[], bool]) -> None:
+    def __init__(self, session: Session, verb: str, is_over: Callable[[], bool], is_own: Callable[[], bool] = lambda: True) -> None:
         self.session = session
         self.verb = verb
         self.is_over = is_over
+        self.is_own = is_own
         self.changed = asyncio.Event()
+
+    def withdraws(self) -> bool:
+        """Whether the end of the wait withdraws its writer. A session that was kept ends with no connection."""
+        return self.session.phase == "waiting" and self.is_own() and not (self.session.kept and self.is_over())
 
 
 class Queues:
@@ -37,7 +43,8 @@ class Queues:
 
     async def wait(self, desk: Desk, waiter: Waiter, seconds: float) -> str:
         """Asks until the session is admitted. Gives the answer, or `timeout` and the last refusal. Where it is not admitted nothing
-        is left announced, but a kept session whose connection has ended. With 0 seconds it asks once, before the queue."""
+        is left announced, but a kept session whose connection has ended, one that another connection has taken up, and one that the store
+        does not withdraw; then the answer says why not. With 0 seconds it asks once, before the queue."""
         queue = self._queues.setdefault(waiter.session.record, [])
         queue.append(waiter)
         try:
@@ -72,6 +79,9 @@ class Queues:
         while True:
             # A change may have come while it had its turn, and find it without one, as where an operator has ended its session.
             waiter.changed.clear()
+            if not waiter.is_own():
+                last = "refused InUse"
+                break
             if once or _has_turn(waiter, queue):
                 last = await _try(desk, waiter)
                 if not _is_mended(last):
@@ -79,10 +89,8 @@ class Queues:
             if not await self._pause(waiter, end):
                 last = f"timeout {last or f'refused Queued {queue.index(waiter)}'}"
                 break
-        # A session that was kept ends with no connection.
-        if waiter.session.phase == "waiting" and not (waiter.session.kept and waiter.is_over()):
-            await desk.leave(waiter.session)
-        return last
+        refused = await desk.withdraw(waiter.session, waiter.withdraws) if waiter.withdraws() else None
+        return last if refused is None or last == "refused StoreFault" else refused
 
     async def _pause(self, waiter: Waiter, end: float) -> bool:
         """Waits for a change. Says whether there is still time."""
