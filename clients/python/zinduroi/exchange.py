@@ -56,8 +56,8 @@ class Exchange:
     would get all free seats.
 
     Whatever the transport raises is counted, and tried again. `failure` says why the last round was not finished: `ServiceEnded`,
-    until `Site.reopen` starts the service anew; a refusal, as `Memory`; or `OwnRowAhead`, `StoreFault` or `Frozen`, which end the
-    thread; or a fault of another kind. `status` is a file that gets the site's state after each round, for `python3 -m zinduroi watch`."""
+    until `Site.reopen` starts the service anew; a refusal, as `Memory`; a fault of another kind; or `OwnRowAhead`, `StoreFault` or
+    `Frozen`, which end the thread. `status` is a file that gets the site's state after each round, for `python3 -m zinduroi watch`."""
 
     def __init__(self, site: Site, transport: Transport, interval: float = 1.0, every: int = 10,
                  records: Optional[Sequence[str]] = None, status: Optional[Path] = None) -> None:

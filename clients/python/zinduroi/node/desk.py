@@ -34,6 +34,7 @@ class Desk:
             return await self._ask_noted(session, verb)
 
     async def _ask_noted(self, session: Session, verb: str) -> str:
+        """The same for who has the session's turn."""
         reply = await self._ask(session, verb)
         self._note(session, verb, reply)
         return reply
