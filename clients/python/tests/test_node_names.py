@@ -471,8 +471,9 @@ class GoneClient:
 
     made = 0
 
-    def __init__(self, path):
+    def __init__(self, path, timeout):
         GoneClient.made += 1
+        self.socket = unittest.mock.Mock()
         if GoneClient.made > 1:
             raise NodeGone("no node answers at s: gone")
 

@@ -2,8 +2,10 @@
 from __future__ import annotations
 
 import argparse
+import io
 import json
 import os
+import signal
 import sys
 import time
 from typing import Any, Callable, Dict, List, Optional, Sequence, Tuple
@@ -12,17 +14,19 @@ from .errors import ZinduroiError
 from .node.client import DEFAULT_SOCKET, NodeClient, NodeGone
 from .node.lock import HELP, NO_NODE, run_lock
 from .recover import add_recover, run_recover
-from .watch import add_watch, fault_lines, rows_of, run_watch, table
+from .watch import add_watch, fault_lines, rows_of, run_watch, seconds, table
 
 # Exit statuses of sysexits.h: the configuration is wrong.
 BAD_CONFIG = 78
+# That of the program where it can't write.
+NOT_PRINTED = 7
 # The seconds between two looks for a node that has not started yet.
 PAUSE = 0.1
 
 _NODE = """Serves a site to the programs of this machine, until SIGTERM or Ctrl-C. docs/OPERATING.md has the configuration file and
 what happens when a node ends: sessions stay in the store."""
-_ASK = """Sends one line to the node and prints the reply; the status is 0, 1 if it was refused or its time was over, or 69 where no
-node answers. A session that the line enters ends with this command, unless a line says `keep`."""
+_ASK = """Sends one line to the node and prints the reply; the status is 0, 1 if it was refused or its time was over, 69 where no
+node answers, or 7 where standard output is closed. A session that the line enters ends with this command, unless a line says `keep`."""
 _STATUS = """Prints a table of the node's site, and the sessions that belong to no connection: those that were kept, those of
 connections to an earlier run of the node, and those that the node doesn't know. The node never leaves them by itself. Once the
 caller of one is dead, `zinduroi ask evict RECORD HOLDER` does."""
@@ -39,13 +43,13 @@ def parser() -> argparse.ArgumentParser:
     lock = commands.add_parser("lock", help="run a command inside a record", epilog=HELP, formatter_class=raw,
                                usage="zinduroi lock [--read] [--timeout S] [--strict] [--socket PATH] RECORD -- COMMAND ..")
     lock.add_argument("--read", action="store_true", help="enter as a reader; without it, as the writer")
-    lock.add_argument("--timeout", type=_seconds, metavar="S", help="how many seconds to wait (default: for ever)")
+    lock.add_argument("--timeout", type=seconds, metavar="S", help="how many seconds to wait (default: for ever)")
     lock.add_argument("--strict", action="store_true", help="end the command if the node ends")
     _add_socket(lock)
     lock.add_argument("record", metavar="RECORD", help="the name of the record")
     ask = commands.add_parser("ask", help="send a line to the node", description=_ASK, formatter_class=raw)
     _add_socket(ask)
-    ask.add_argument("--wait", type=_seconds, default=0.0, metavar="S", help="how many seconds to wait for a node that has not started yet")
+    ask.add_argument("--wait", type=seconds, default=0.0, metavar="S", help="how many seconds to wait for a node that has not started yet")
     ask.add_argument("line", nargs="+", metavar="LINE", help="the line, or its words")
     status = commands.add_parser("status", help="print the state of the node", description=_STATUS, formatter_class=raw)
     _add_socket(status)
@@ -59,13 +63,6 @@ def _add_socket(to: argparse.ArgumentParser) -> None:
     to.add_argument("--socket", metavar="PATH", help=f"the node's socket (default: ZINDUROI_SOCKET, or {DEFAULT_SOCKET})")
 
 
-def _seconds(text: str) -> float:
-    seconds = float(text)
-    if not 0 <= seconds < 1e9:
-        raise argparse.ArgumentTypeError("not from 0 to 999999999 seconds")
-    return seconds
-
-
 def main(words: Optional[Sequence[str]] = None) -> int:
     """Carries out the command line, and gives the exit status."""
     _open_streams()
@@ -74,22 +71,29 @@ def main(words: Optional[Sequence[str]] = None) -> int:
     if before[:1] == ["lock"] and not command and not {"-h", "--help"} & set(before):
         made.error("lock: give a command behind --, as in: zinduroi lock RECORD -- COMMAND")
     given = made.parse_args(before)
+    if given.command == "lock":
+        return _interruptible(lambda: run_lock(given.socket, given.record, given.read, given.timeout, given.strict, command))
+    # Where the parent ignores it this process would do so too, and learn no exit status of its children. `lock` sees to that itself.
+    signal.signal(signal.SIGCHLD, signal.SIG_DFL)
     if given.command == "watch":
         return run_watch(given, made)
     if given.command == "recover":
         return _interruptible(lambda: run_recover(given, made))
     if given.command == "node":
         return run_node(given.config, given.create)
-    if given.command == "lock":
-        return _interruptible(lambda: run_lock(given.socket, given.record, given.read, given.timeout, given.strict, command))
     return _interruptible(lambda: _ask(given))
 
 
 def _open_streams() -> None:
-    """Opens the standard streams that are closed. A connection would get the number of one, and what a command of `lock` prints."""
+    """Opens the standard streams that are closed. A connection would get the number of one, and what a command of `lock` prints; and
+    what is for a standard error that is not there would go to standard output. What the output can't show is written by its number."""
     while (number := os.open(os.devnull, os.O_RDWR)) <= 2:
         os.set_inheritable(number, True)
     os.close(number)
+    if sys.stderr is None:
+        sys.stderr = open(os.devnull, "w", encoding="utf-8")
+    if isinstance(sys.stdout, io.TextIOWrapper):
+        sys.stdout.reconfigure(errors="backslashreplace")
 
 
 def _split(words: List[str]) -> Tuple[List[str], List[str]]:
@@ -156,6 +160,9 @@ def run_ask(client: NodeClient, words: List[str]) -> int:
         print("zinduroi: a line has no line feed in it", file=sys.stderr)
         return 2
     reply = client.ask(line)
+    if sys.stdout is None:
+        print("zinduroi: the reply can't be printed: standard output is closed", file=sys.stderr)
+        return NOT_PRINTED
     print(reply)
     return 1 if reply.split(" ")[0] in ("refused", "timeout") else 0
 

@@ -22,6 +22,9 @@ NOTES = """A site's store can be used by one process at a time. So there are thr
 
 It renews the table every --interval seconds until Ctrl-C; with --once it prints one table."""
 
+# The least seconds between two tables.
+SHORTEST = 0.05
+
 HEAD = ["record", "site", "free", "taken", "writers", "age", "sessions"]
 
 
@@ -66,7 +69,7 @@ def read_states(paths: Sequence[str]) -> "tuple[list[dict[str, Any]], list[str]]
             states.append(state)
         except OSError as error:
             wrong.append(f"{path}: {error.strerror}")
-        except (ValueError, KeyError, TypeError):
+        except (ValueError, KeyError, TypeError, OverflowError, RecursionError):
             wrong.append(f"{path}: not a state")
     return states, wrong
 
@@ -114,6 +117,25 @@ def parser() -> argparse.ArgumentParser:
     return made
 
 
+def seconds(text: str) -> float:
+    """A number of seconds of a command line."""
+    return _seconds_from(0.0, text)
+
+
+def _interval(text: str) -> float:
+    return _seconds_from(SHORTEST, text)
+
+
+def _seconds_from(least: float, text: str) -> float:
+    try:
+        given = float(text)
+    except ValueError:
+        given = -1.0
+    if not least <= given < 1e9:
+        raise argparse.ArgumentTypeError(f"not from {least:g} to 999999999 seconds")
+    return given
+
+
 def add_watch(commands: "argparse._SubParsersAction[argparse.ArgumentParser]") -> None:
     """Adds the command `watch`."""
     watch = commands.add_parser("watch", help="a table that renews itself", description=__doc__, epilog=NOTES,
@@ -124,9 +146,9 @@ def add_watch(commands: "argparse._SubParsersAction[argparse.ArgumentParser]") -
     watch.add_argument("--store", metavar="FILE", help="the site's store")
     watch.add_argument("--layout", metavar="FILE", help="the layout file")
     watch.add_argument("--group", metavar="NAME", help="the group of sites that the site belongs to")
-    watch.add_argument("--wait", type=float, default=0.0, metavar="SECONDS", help="how long to wait for a store in use")
+    watch.add_argument("--wait", type=seconds, default=0.0, metavar="SECONDS", help="how long to wait for a store in use")
     watch.add_argument("--program", default="seat_cli", metavar="PATH", help="the program (default: seat_cli)")
-    watch.add_argument("--interval", type=float, default=1.0, metavar="SECONDS", help="how often the table is renewed (default: 1)")
+    watch.add_argument("--interval", type=_interval, default=1.0, metavar="SECONDS", help="how often the table is renewed (default: 1)")
     watch.add_argument("--once", action="store_true", help="print one table, and end")
 
 

@@ -3,8 +3,10 @@ from __future__ import annotations
 
 import contextlib
 import json
+import math
 import os
 import socket
+import struct
 from types import TracebackType
 from typing import Any, Dict, Optional, Type
 
@@ -23,17 +25,24 @@ class NodeClient:
     """A connection to the node at a socket. Its sessions are left when it is closed by its last holder, and a child process that
     inherits it holds it too. One thread at a time may use it.
 
-    Raises `NodeGone` if no node answers."""
+    Raises `NodeGone` if no node answers. `timeout` is that of its `socket`, in seconds, and of the connecting too."""
 
-    def __init__(self, path: "str | os.PathLike[str] | None" = None) -> None:
+    def __init__(self, path: "str | os.PathLike[str] | None" = None, timeout: Optional[float] = None) -> None:
         self.path = socket_path(path)
-        self.socket = socket.socket(socket.AF_UNIX)
         self._read = b""
         self._waits = False
         try:
-            self.socket.connect(self.path)
+            self.socket = socket.socket(socket.AF_UNIX)
+            try:
+                if timeout is not None:
+                    # With a timeout of its own a socket of Python waits for no place in the node's queue.
+                    self.socket.setsockopt(socket.SOL_SOCKET, socket.SO_SNDTIMEO, struct.pack("ll", math.ceil(timeout), 0))
+                self.socket.connect(self.path)
+                self.socket.settimeout(timeout)
+            except BaseException:
+                self.socket.close()
+                raise
         except OSError as error:
-            self.socket.close()
             raise NodeGone(f"no node answers at {self.path}: {error.strerror or error}") from None
 
     def ask(self, line: str) -> str:
@@ -54,6 +63,8 @@ class NodeClient:
                 parts.append(self.socket.recv(65536))
                 if not parts[-1]:
                     raise NodeGone(f"the node at {self.path} ended")
+        except TimeoutError:
+            raise NodeGone(f"the node at {self.path} does not answer in time") from None
         except OSError as error:
             raise NodeGone(f"the node at {self.path} ended: {error.strerror or error}") from None
         reply, _, self._read = b"".join(parts).partition(b"\n")

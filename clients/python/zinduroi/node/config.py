@@ -13,6 +13,7 @@ import tomllib
 from typing import TYPE_CHECKING, Any, Callable, Dict, List, Optional, Tuple
 
 from ..errors import ZinduroiError
+from ..recovery import MOST_GENERATIONS
 from ..transports import Command, Folder, Mqtt, Transport
 
 if TYPE_CHECKING:
@@ -22,6 +23,8 @@ if TYPE_CHECKING:
 LONGEST_PATH = 107
 # The most bytes that the name has under which the socket is made beside its path.
 FIRST_NAME = 9
+# A word that begins a reply of the program is no group's name.
+REPLY_WORDS = ("refused", "admitted", "announced", "left", "withdrawn", "given", "gave", "merged", "rights", "fence")
 
 
 class ConfigError(ZinduroiError):
@@ -77,7 +80,7 @@ class Table:
         place = ".".join(part for part in (self.place, key) if part)
         return ConfigError(f"{self.file}: {place}: {cause}")
 
-    def take(self, key: str, kind: type, what: str, default: Any = ...) -> Any:
+    def take(self, key: str, kind: "type | Tuple[type, ...]", what: str, default: Any = ...) -> Any:
         """The value of a key, which is of this kind. Without a default the key has to be there."""
         if key not in self._left:
             if default is ...:
@@ -86,6 +89,8 @@ class Table:
         value = self._left.pop(key)
         if not isinstance(value, kind) or (isinstance(value, bool) and kind is not bool):
             raise self.fault(key, f"is not {what}")
+        if isinstance(value, int) and not -2**63 <= value < 2**63:
+            raise self.fault(key, "has more than 64 bits")
         return value
 
     def text(self, key: str, default: Any = ..., form: str = r"[^\0]+", what: str = "a text without zero bytes, not empty") -> Any:
@@ -104,10 +109,7 @@ class Table:
 
     def seconds(self, key: str, low: float, high: float, default: float) -> float:
         """A number of seconds in a range."""
-        value = self._left.get(key)
-        if isinstance(value, int) and not isinstance(value, bool):
-            self._left[key] = float(value)
-        seconds: float = self.take(key, float, "a number of seconds", default)
+        seconds = float(self.take(key, (int, float), "a number of seconds", default))
         if not low <= seconds <= high:
             raise self.fault(key, f"is not from {low:g} to {high:g} seconds: {seconds:g}")
         return seconds
@@ -210,6 +212,9 @@ def read_config(file: "str | os.PathLike[str]") -> Config:
         raise ConfigError(f"{path}: byte {error.start}: is not UTF-8") from None
     except tomllib.TOMLDecodeError as error:
         raise ConfigError(f"{path}: is not TOML: {error}") from None
+    except (ValueError, RecursionError) as error:
+        # A number of too many digits, or tables and arrays in each other too deep.
+        raise ConfigError(f"{path}: can't be read: {error}") from None
     return _config(Table(path, "", values))
 
 
@@ -218,6 +223,11 @@ def _config(top: Table) -> Config:
     site = top.number("site", 0, 15)
     group = top.text("group", None, r"[a-z][a-z0-9-]{0,31}(\.[1-9][0-9]{0,6})?",
                      "1 to 32 lowercase letters, digits and -, the first a letter; behind a move also a dot and a number")
+    base, _, number = (group or "").partition(".")
+    if base in REPLY_WORDS:
+        raise top.fault("group", f"is a word that begins a reply: {base!r}")
+    if number and not 2 <= int(number) <= MOST_GENERATIONS:
+        raise top.fault("group", f"has a number that is not from 2 to {MOST_GENERATIONS}: {number}")
     made = Config(
         site=site,
         store=top.path("store"),

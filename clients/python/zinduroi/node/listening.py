@@ -50,7 +50,9 @@ class Listener:
             raise
 
     def listen(self) -> socket.socket:
-        """Puts the socket in its place, with its mode and group, and listens."""
+        """Puts the socket in its place, with its mode and group, and listens. What was made there meanwhile is refused, as a store that
+        was given the same path."""
+        self._look()
         # A name that is this socket's alone: nodes in containers may have one folder and the same number of their process.
         part = self.path.with_name("." + hashlib.sha256(os.fsencode(self.path.name)).hexdigest()[:7])
         made = socket.socket(socket.AF_UNIX)
@@ -71,6 +73,11 @@ class Listener:
             raise
         self.socket = made
         return made
+
+    def deafen(self) -> None:
+        """Turns away who connects from now on, and who was not accepted yet. The path stays taken."""
+        if self.socket is not None:
+            self.socket.close()
 
     def close(self) -> None:
         """Takes the socket away, and frees its path."""

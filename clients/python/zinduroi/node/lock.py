@@ -1,6 +1,7 @@
 """`zinduroi lock`: runs a command inside a record."""
 from __future__ import annotations
 
+import contextlib
 import math
 import os
 import select
@@ -21,6 +22,10 @@ FIRST_PAUSE, LONGEST_PAUSE = 0.05, 2.0
 # How many seconds the node is waited for once the command has ended, and a command that was asked to end.
 AFTERWARDS = 60.0
 GRACE = 10.0
+# How many seconds behind the end of the time a node that says nothing is waited for.
+PATIENCE = 10.0
+# How often a command is looked at where the kernel can't tell its end.
+LOOK = 0.1
 # The signals that go on to the command.
 PASSED_ON = (signal.SIGTERM, signal.SIGHUP)
 
@@ -28,6 +33,8 @@ HELP = """Runs COMMAND inside RECORD: as the only one at all sites, or with --re
 COMMAND, 128 and the number of its signal if one ended it; else
 
   64  refused, not for want of time    69  no node answers    75  the time was over    126, 127  COMMAND can't be run
+
+With --timeout a node that says nothing is waited for 10 seconds longer, and then counts as one that doesn't answer.
 
 COMMAND has the session's fencing number in ZINDUROI_FENCE. It inherits the connection to the node, and its children do too. The
 session is left once the last of them has ended, or closed it, even if `lock` itself was killed.
@@ -64,7 +71,7 @@ class Lock:
 
     def enter(self) -> str:
         """Waits until the session is inside, and gives its fencing number. Raises `Refused` and `NodeGone`."""
-        self.client = NodeClient(self.path)
+        self.client = NodeClient(self.path, _patience(self.end))
         inside = False
         while True:
             try:
@@ -76,27 +83,32 @@ class Lock:
                 if not self.token:
                     raise
                 try:
+                    if time.monotonic() > self.end:
+                        raise
                     inside = self._return(self.end, keep=False) in ("reader", "writer")
                 except NodeGone as gone:
                     raise NodeGone(f"{gone}; a session of {self.record} may still be in the store: see zinduroi status") from None
 
     def _wait(self) -> bool:
         left = min(max(0.0, self.end - time.monotonic()), FOR_EVER)
-        reply = self._ask(f"wait {left:.3f} {self.verb} {self.record} -")
+        reply = self._ask(f"wait {left:.3f} {self.verb} {self.record} -", _patience(self.end))
         if reply != "admitted":
             raise Refused(TIME_OVER if reply.startswith("timeout ") else REFUSED, reply)
         return True
 
     def _word(self, line: str) -> str:
         """The word that a reply has behind the line's verb."""
-        reply = self._ask(line)
+        reply = self._ask(line, _patience(self.end))
         if reply.startswith("refused"):
             raise Refused(NO_NODE if reply == "refused TooManyConnections" else REFUSED, reply)
         return reply.split(" ")[1]
 
-    def _ask(self, line: str) -> str:
+    def _ask(self, line: str, timeout: Optional[float] = None) -> str:
         assert self.client is not None
-        return self.client.ask(line)
+        self.client.socket.settimeout(timeout)
+        reply = self.client.ask(line)
+        self.client.socket.settimeout(None)
+        return reply
 
     def close(self) -> None:
         """Closes this process's end of the connection."""
@@ -111,7 +123,7 @@ class Lock:
         pause = FIRST_PAUSE
         while True:
             try:
-                phase = self._take_up(keep)
+                phase = self._take_up(keep, end)
                 break
             except NodeGone:
                 if time.monotonic() + pause > end:
@@ -120,9 +132,9 @@ class Lock:
             pause = min(pause * 2, LONGEST_PAUSE)
         return phase
 
-    def _take_up(self, keep: bool) -> Optional[str]:
+    def _take_up(self, keep: bool, end: float) -> Optional[str]:
         """Connects anew once, and takes up the session. A session whose command runs is kept: it doesn't hold this connection."""
-        client = NodeClient(self.path)
+        client = NodeClient(self.path, _patience(end))
         try:
             reply = client.ask(f"resume {self.token}" + (" keep" if keep else ""))
             if reply != "refused NoToken" and not reply.startswith("resumed "):
@@ -130,6 +142,7 @@ class Lock:
         except NodeGone:
             client.close()
             raise
+        client.socket.settimeout(None)
         self.close()
         self.client = client
         self.kept = keep and reply.startswith("resumed ")
@@ -144,6 +157,8 @@ class Lock:
         """Runs the command, and gives the exit status."""
         lifeline, held = os.pipe()
         before = {number: signal.signal(number, signal.SIG_IGN) for number in (signal.SIGINT, signal.SIGQUIT)}
+        # Where it is ignored, the command's exit status is lost.
+        before[signal.SIGCHLD] = signal.signal(signal.SIGCHLD, signal.SIG_DFL)
         # A signal that comes meanwhile is for the command, and waits until it is there.
         mask = signal.pthread_sigmask(signal.SIG_BLOCK, PASSED_ON)
         process, status = self._start(command, fence, held, before, mask)
@@ -185,7 +200,10 @@ class Lock:
     def _watch(self, process: "subprocess.Popen[bytes]") -> bool:
         """Waits for the command. Says whether the node ended meanwhile."""
         lost, due, pause = False, math.inf, FIRST_PAUSE
-        ended = os.pidfd_open(process.pid)
+        ended: Optional[int] = None
+        # Linux before 5.3 has none, nor has a Python that was built there; or there is no room for one more file.
+        with contextlib.suppress(OSError, AttributeError):
+            ended = os.pidfd_open(process.pid)
         try:
             while process.poll() is None:
                 if self._waits_until_gone(ended, due):
@@ -195,22 +213,25 @@ class Lock:
                     due, pause = time.monotonic(), FIRST_PAUSE
                 if time.monotonic() >= due and process.poll() is None:
                     try:
-                        self._say_lost(self._take_up(keep=True))
+                        self._say_lost(self._take_up(keep=True, end=math.inf))
                         due = math.inf
                     except NodeGone:
                         due, pause = time.monotonic() + pause, min(pause * 2, LONGEST_PAUSE)
         finally:
-            os.close(ended)
+            if ended is not None:
+                os.close(ended)
         return lost
 
-    def _waits_until_gone(self, ended: int, due: float) -> bool:
-        """Waits for the command's end, or until it is due to look for the node. Says whether the connection was found to have
-        ended."""
+    def _waits_until_gone(self, ended: Optional[int], due: float) -> bool:
+        """Waits for the command's end, or for a moment where nothing tells that, or until it is due to look for the node. Says
+        whether the connection was found to have ended."""
         poll = select.poll()
-        poll.register(ended, select.POLLIN)
+        if ended is not None:
+            poll.register(ended, select.POLLIN)
         if due == math.inf and self.client is not None and self.token:
             poll.register(self.client.fileno(), 0)
-        found = poll.poll(None if due == math.inf else max(0.0, due - time.monotonic()) * 1000)
+        until = due if ended is not None else min(due, time.monotonic() + LOOK)
+        found = poll.poll(None if until == math.inf else max(0.0, until - time.monotonic()) * 1000)
         return any(number != ended for number, _ in found)
 
     def _say_lost(self, phase: Optional[str]) -> None:
@@ -249,23 +270,39 @@ class Lock:
         return self.kept or bool(poll.poll(0))
 
 
+def _patience(end: float) -> Optional[float]:
+    """How many seconds a node may take to answer where the caller waits until this end."""
+    return None if end == math.inf else max(0.0, end - time.monotonic()) + PATIENCE
+
+
 def _passes_on(process: "subprocess.Popen[bytes]") -> Callable[[int, Any], None]:
     """A handler that passes a signal on to the command."""
-    return lambda number, _: process.send_signal(number)
+    return lambda number, _: _send(process, number)
+
+
+def _send(process: "subprocess.Popen[bytes]", number: int) -> None:
+    """Sends a signal to the command, if it may: one that runs as another user is out of reach."""
+    try:
+        process.send_signal(number)
+    except OSError as error:
+        report(f"{signal.Signals(number).name} can't be sent to the command: {error.strerror}")
 
 
 def _end(process: "subprocess.Popen[bytes]") -> None:
     """Has a command end: by SIGTERM, and later by SIGKILL."""
-    process.terminate()
+    _send(process, signal.SIGTERM)
     try:
         process.wait(GRACE)
     except subprocess.TimeoutExpired:
-        process.kill()
+        _send(process, signal.SIGKILL)
         process.wait()
 
 
 def run_lock(path: Optional[str], record: str, reads: bool, timeout: Optional[float], strict: bool, command: List[str]) -> int:
     """Carries out `lock`, and gives the exit status."""
+    if "\n" in record:
+        report(f"a record has no line feed in its name: {record!r}")
+        return REFUSED
     lock = Lock(path, record, reads, timeout, strict)
     try:
         return lock.run(command, lock.enter())
@@ -275,5 +312,8 @@ def run_lock(path: Optional[str], record: str, reads: bool, timeout: Optional[fl
     except NodeGone as gone:
         report(str(gone))
         return NO_NODE
+    except OSError as error:
+        report(f"{command[0]} can't be run: {error.strerror or error}")
+        return NOT_RUN
     finally:
         lock.close()

@@ -123,6 +123,7 @@ class Node:
         finally:
             if accepting is not None:
                 await end_all([accepting])
+            self._listener.deafen()
             await self._close()
 
     def stop(self) -> None:

@@ -41,8 +41,9 @@ class View:
         program doesn't answer in time."""
         if self._looking is None or (self._looking.done() and time.monotonic() - self._looked > FRESH):
             self._looking = asyncio.create_task(self._ask())
-        done, _ = await asyncio.wait([self._looking], timeout=PATIENCE)
-        return self._looking.result() if done else None
+        looking = self._looking
+        done, _ = await asyncio.wait([looking], timeout=PATIENCE)
+        return looking.result() if done else None
 
     async def _ask(self) -> Tuple[str, State]:
         shown = await self.answers.link.ask_until(f"show {self.layout.records[0].name}")
