@@ -283,6 +283,18 @@ class Sessions(Case):
                 self.fail("it has announced itself already")
         self.assertEqual(site.sessions("a"), [Session(8, "waiting")])
 
+    def test_a_timeout_that_is_no_number(self):
+        """It asks once, and not for ever: until somebody else has left it would."""
+        for call, leaves in (("announce a 8", "read"), ("read a 8", "write")):
+            site = self.open(store=self.folder / f"{leaves}.db")
+            site.call(call)
+            later = threading.Timer(2, site.leave, ("a", 8))
+            later.start()
+            with self.subTest(leaves), self.assertRaises(TimedOut):
+                with getattr(site, leaves)("a", 7, timeout=float("nan")):
+                    self.fail("it asked again")
+            later.join()
+
     def test_threads(self):
         site = self.open()
         numbers, wrong = [], []
@@ -334,6 +346,33 @@ class Interruptions(Case):
             self.assertEqual(site.show("b"), Counts(0, 0, 0))
             self.assertEqual(site.sessions("a"), [])
         self.assertEqual(site.announce("a", 1), 2)
+
+    def test_interrupted_twice(self):
+        """Nobody waits for the reply. The session that was begun is ended behind it, and one that was there before stays."""
+        def interrupt(service):
+            for _ in range(2):
+                time.sleep(0.4)
+                os.kill(os.getpid(), signal.SIGINT)
+            time.sleep(0.6)
+            os.kill(service, signal.SIGCONT)
+
+        for number, (before, line, left) in enumerate(((None, "read", []), (None, "write", []), ("read a 7", "read", [Session(7, "reader")]),
+                                                       ("announce a 7", "write", [Session(7, "waiting")]))):
+            site = self.open(store=self.folder / f"{number}.db")
+            if before is not None:
+                site.call(before)
+            os.kill(site.pid, signal.SIGSTOP)
+            interrupting = threading.Thread(target=interrupt, args=(site.pid,))
+            interrupting.start()
+            with self.subTest(before=before, line=line):
+                with self.assertRaises(KeyboardInterrupt):
+                    with getattr(site, line)("a", 7):
+                        self.fail("it was interrupted")
+                self.assertTrue(interrupting.is_alive(), "it waited for the reply")
+                self.assertEqual(site.sessions("a"), left)
+                self.assertEqual(site.show("b"), Counts(0, 0, 0))
+            interrupting.join()
+            site.close()
 
     def test_interrupted_leave_is_made(self):
         """Ctrl-C while the end of a `with` waits behind the calls of others."""
@@ -463,6 +502,13 @@ class Ends(Case):
             self.started(StoreRefused, name)
         with self.assertRaises(FileNotFoundError):
             self.open(program=str(self.folder / "none"))
+
+    def test_the_record_at_fault(self):
+        layout = self.write_layout("fault.toml", 3, ("a", 3, 0, 2), ("b", 0, 1, 1))
+        with self.assertRaises(zinduroi.LayoutRefused) as caught:
+            self.open(layout=layout)
+        self.assertEqual((caught.exception.name, caught.exception.record, str(caught.exception)),
+                         ("BadSeats", 2, "layout refused BadSeats (record 2)"))
 
     def test_databases_that_are_no_store(self):
         foreign = self.folder / "foreign.db"

@@ -215,17 +215,20 @@ class Memory(Refused):
 
 
 class StartRefused(ZinduroiError):
-    """What ended the program before it answered a call. `name` says why. `file` is the one that was refused, where a node tells it."""
+    """What ended the program before it answered a call. `name` says why. `file` is the one that was refused, where a node tells it.
+    `record` is the place of the layout's record that is at fault, counted from 1, where the program tells it."""
 
     what: ClassVar[str] = ""
 
-    def __init__(self, name: str) -> None:
+    def __init__(self, name: str, record: Optional[int] = None) -> None:
         super().__init__(name)
         self.name = name
+        self.record = record
         self.file: Optional[object] = None
 
     def __str__(self) -> str:
-        return f"{self.what} refused {self.name}" + (f": {self.file}" if self.file is not None else "")
+        place = f" (record {self.record})" if self.record is not None else ""
+        return f"{self.what} refused {self.name}{place}" + (f": {self.file}" if self.file is not None else "")
 
 
 class StoreRefused(StartRefused):

@@ -4,6 +4,7 @@ from __future__ import annotations
 import contextlib
 import os
 import queue
+import re
 import signal
 import subprocess
 import tempfile
@@ -21,13 +22,14 @@ _NAMED = {"store refused ": StoreRefused, "layout refused ": LayoutRefused, "log
 class Call:
     """Lines on their way to the service, and their replies on the way back. No other call comes between them."""
 
-    __slots__ = ("lines", "replies", "failure", "claim", "done", "then")
+    __slots__ = ("lines", "replies", "failure", "claim", "dropped", "done", "then")
 
     def __init__(self, *lines: bytes, then: Optional[Callable[["Call"], None]] = None) -> None:
         self.lines = lines
         self.replies: List[str] = []
         self.failure: Optional[ZinduroiError] = None
         self.claim = threading.Lock()
+        self.dropped = False
         self.done = threading.Event()
         self.then = then
 
@@ -72,7 +74,8 @@ class Service:
 
     def run(self, call: Call, stays: bool = False) -> List[str]:
         """Waits for the replies. An exception that comes meanwhile drops the call if it has not begun; else the replies are
-        waited for, so that `call.reply` says what happened, and then the exception goes on. A call that `stays` is made before that."""
+        waited for, so that `call.reply` says what happened, and then the exception goes on. A call that `stays` is made before that.
+        A further exception ends that wait; the call is made all the same."""
         try:
             self.submit(call)
             call.done.wait()
@@ -81,10 +84,12 @@ class Service:
         except BaseException:
             if not call.claim.acquire(blocking=False):
                 call.done.wait()
-            elif stays:
-                again = Call(*call.lines)
-                self.submit(again)
-                again.done.wait()
+            else:
+                call.dropped = True
+                if stays:
+                    again = Call(*call.lines)
+                    self.submit(again)
+                    again.done.wait()
             raise
         if call.failure is not None:
             raise call.failure
@@ -193,10 +198,11 @@ class Service:
 
 def ending(status: int, message: str) -> ZinduroiError:
     """The exception for the end of the program."""
+    record = re.search(r"^record ([0-9]+)$", message, re.MULTILINE)
     for line in message.splitlines():
         for start, kind in _NAMED.items():
             if status > 0 and line.startswith(start):
-                return kind(line[len(start):])
+                return kind(line[len(start):], None if record is None else int(record[1]))
     return ServiceEnded(status, message)
 
 

@@ -1,6 +1,7 @@
 """One site: a running service of the program, and the calls that it answers."""
 from __future__ import annotations
 
+import contextlib
 import os
 import subprocess
 import threading
@@ -314,10 +315,28 @@ class _Visit:
         try:
             self.site._answers(call)
         except BaseException:
-            if call.reply is not None and refusal(call.reply) is None:
-                self._leave_quietly()
+            if call.reply is not None:
+                if refusal(call.reply) is None:
+                    self._leave_quietly()
+            elif not call.dropped and call.failure is None:
+                self._leave_behind(call)
             raise
         self._number = None
+
+    def _leave_behind(self, call: Call) -> None:
+        """Has the session ended behind a call that was interrupted twice: it is made, and nobody waits for its reply. If that is a
+        refusal, the holder's session is none that the call began, and stays."""
+        leave = _call_of(f"leave {self.record} {self.holder}")
+
+        def drop_if_refused(call: Call) -> None:
+            if call.reply is not None and refusal(call.reply) is not None:
+                leave.claim.acquire(blocking=False)
+
+        call.then = drop_if_refused
+        # The reply may have come before that.
+        drop_if_refused(call)
+        with contextlib.suppress(ZinduroiError):
+            self.site._service.submit(leave)
 
     def _leave_quietly(self) -> None:
         """Ends the session beside an exception that is more important."""
@@ -337,7 +356,7 @@ class _Visit:
             except until as refused:
                 last = refused
             left = pause if end is None else end - time.monotonic()
-            if left <= 0:
+            if not left > 0:
                 raise TimedOut(last) from None
             time.sleep(min(pause, left))
             pause = min(pause * 1.5, LONGEST_PAUSE)
