@@ -87,6 +87,16 @@ class Newest(unittest.TestCase):
         self.assertFalse(texts.tell_again(NOW))
         self.assertEqual(texts.others(), [])
 
+    def test_an_older_text_of_its_own_hides_no_newer_one(self):
+        for stamps, found in (((NOW - 5, NOW - 1), NOW - 1), ((NOW - 1, NOW - 5), NOW - 1), ((NOW - 1, NOW + 5, NOW - 5), NOW + 5)):
+            texts = Texts(0, NOW)
+            for stamp in stamps:
+                texts.take(text(0, stamp, str(stamp)), NOW)
+            self.assertEqual(texts.arrived(), [str(found)])
+            # Once it was asked for, an older one is told too.
+            self.assertTrue(texts.take(text(0, NOW - 5, "old"), NOW))
+            self.assertEqual(texts.arrived(), ["old"])
+
     def test_what_was_heard_of(self):
         texts = Texts(0, NOW)
         texts.take(text(1, 5), NOW)

@@ -1,5 +1,7 @@
 """The transport `Peers`: real connections on loopback, with certificates that `openssl` makes here."""
+import asyncio
 import contextlib
+import errno
 import gc
 import json
 import os
@@ -11,7 +13,9 @@ import subprocess
 import tempfile
 import threading
 import time
+import types
 import unittest
+import unittest.mock
 import warnings
 
 import zinduroi
@@ -734,7 +738,7 @@ class Starts(Secure):
     def test_wrong_settings(self):
         for site, peers, listen in ((0, {0: None}, None), (0, {16: None}, None), (0, {1: "nowhere"}, None), (0, {1: "a:b"}, None),
                                     (0, {1: "host:70000"}, None), (0, {1: Peer(None, {0})}, None), (0, {1: Peer(None, {1})}, None), (0, {}, "x"),
-                                    (0, {1: Peer(None, {16})}, None)):
+                                    (0, {1: Peer(None, {16})}, None), (0, {1: None}, None), (0, {1: Peer(None, {2}), 2: None}, None)):
             with self.subTest(peers=peers, listen=listen):
                 self.assertRaises(ValueError, self.peers, site, peers, listen)
 
@@ -778,6 +782,33 @@ class Starts(Secure):
         self.assertEqual(list(alone.messages()), [])
         self.assertGreater(time.monotonic() - began, 0.4)
         self.assertTrue(wait_for(lambda: alone.failures()["Unreachable"] > 1))
+
+    def test_no_connection_came_to_be(self):
+        """Whatever the cause, as a host that does not answer: only a connection can be silent."""
+        for cause in (TimeoutError(), TimeoutError(errno.ETIMEDOUT, "timed out"), ConnectionResetError(), ConnectionAbortedError(),
+                      OSError(errno.EHOSTUNREACH, "no route")):
+            with self.subTest(cause=repr(cause)), unittest.mock.patch("zinduroi.peers.connected", side_effect=cause):
+                alone = self.peers(0, {1: "127.0.0.1:1"})
+                self.assertTrue(wait_for(lambda: alone.failures().total() > 1))
+                self.assertEqual((set(alone.failures()), alone.states()[0].failure), ({"Unreachable"}, "Unreachable"))
+                alone.close()
+
+    def test_pauses_between_attempts(self):
+        """They double from the first one on, and begin anew behind a connection that lasted."""
+        pauses, now, lasts = [], [0.0], [0.0] * 4 + [1.0] + [0.0] * 2
+
+        async def sleep(pause):
+            pauses.append(round(pause, 3))
+            if not lasts:
+                raise asyncio.CancelledError
+
+        async def connect(*words):
+            now[0] += lasts.pop(0)
+        peers = types.SimpleNamespace(timing=QUICK, _links={}, _connect=connect)
+        with unittest.mock.patch("zinduroi.peers.asyncio.sleep", sleep), unittest.mock.patch("zinduroi.peers.random.uniform", return_value=1.0), \
+                unittest.mock.patch("zinduroi.peers.time.monotonic", lambda: now[0]), self.assertRaises(asyncio.CancelledError):
+            Peers._dial(peers, 1, "127.0.0.1", 1).send(None)
+        self.assertEqual(pauses, [0.02, 0.04, 0.08, 0.16, 0.02, 0.04, 0.08])
 
     def test_a_host_name_that_is_none(self):
         alone = self.peers(0, {1: "x" * 70 + ".example:1", 2: "a..b:1"})

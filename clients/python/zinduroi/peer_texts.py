@@ -260,10 +260,13 @@ class Texts:
 
     def take(self, text: Text, now: int) -> bool:
         """A text that arrived; whether it is new. One of this site's own from another run is new each time that it comes:
-        it may show that the store is old. Raises `BadLine` if its stamp is far ahead of the clock."""
+        it may show that the store is old; of several the newest one waits. Raises `BadLine` if its stamp is far ahead of the clock."""
         self.hear({text.of: text.stamp}, now)
         if text.of == self.site:
             if self.began <= text.stamp <= self.last:
+                return False
+            waiting = self._arrived.get(text.of)
+            if waiting is not None and waiting.stamp > text.stamp:
                 return False
         else:
             old = self.newest.get(text.of)

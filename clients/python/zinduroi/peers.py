@@ -46,8 +46,9 @@ class Peers:
     authority that names their site (`site-2.zinduroi`, or `site-2.GROUP.zinduroi` in a group).
 
     `peers` has each neighbour's number, and its address, or a `Peer`, or `None` if only it connects; nobody else is let in.
-    `listen` is this site's own `host:port`. `authority`, `certificate` and `key` are files of PEM. `plain=True` does without
-    certificates, and takes addresses of loopback only: everybody on the machine can then write to the channel.
+    `listen` is this site's own `host:port`, needed where no peer has an address. `authority`, `certificate` and `key` are files of
+    PEM. `plain=True` does without certificates, and takes addresses of loopback only: everybody on the machine can then write to
+    the channel.
 
     A connection gets the site's last text when that changes and when the peer comes back, and never an older one. Texts of
     other sites are taken from a peer only where its `carries` names them, and are asked for only while there is no
@@ -66,6 +67,8 @@ class Peers:
         self.timing = timing
         self._dial_to = {number: parse_address(peer.address) for number, peer in self.peers.items() if peer.address is not None}
         self._check_sites()
+        if self.peers and not self._dial_to and listen is None:
+            raise ValueError("neither this site nor a peer listens: give listen, or an address")
         files = [os.fspath(file) for file in (authority, certificate, key) if file is not None]
         self._server, self._client = self._contexts(files, plain, listen)
         self._lock = threading.Lock()
@@ -349,16 +352,17 @@ class Peers:
                 except Exception:
                     # Whatever it is: the next attempt comes.
                     self._count("Unexpected", site)
-            lasted = time.monotonic() - began
-            pause = self.timing.first_pause if lasted > self.timing.longest_pause else min(2 * pause, self.timing.longest_pause)
+            if time.monotonic() - began > self.timing.longest_pause:
+                pause = self.timing.first_pause
             await asyncio.sleep(pause * random.uniform(0.5, 1.0))
+            pause = min(2 * pause, self.timing.longest_pause)
 
     async def _connect(self, site: int, host: str, port: int) -> None:
         """One connection to a peer, until it ends."""
         try:
             end = await connected(host, port, self.timing.handshake)
-        except (OSError, ValueError) as error:
-            self._count(failure_name(error), site)
+        except (OSError, ValueError):
+            self._count("Unreachable", site)
             return
         await self._open(end, site)
 
