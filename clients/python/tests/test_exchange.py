@@ -1,4 +1,5 @@
 """Exchanges, over each transport; and the command `watch`."""
+import asyncio
 import contextlib
 import io
 import json
@@ -14,6 +15,8 @@ import unittest.mock
 import zinduroi
 from zinduroi import Command, Counts, Exchange, Folder, Mqtt, TransportFailed
 from zinduroi.exchange import status_of
+from zinduroi.node.config import read_config
+from zinduroi.node.server import Node
 from zinduroi.service import Call
 from zinduroi.watch import main
 
@@ -70,6 +73,13 @@ class Rounds(Case):
         self.listed.broken = False
         self.exchange.round()
         self.assertEqual(len(self.listed.published), 1)
+
+    def test_tells_what_the_last_failure_said(self):
+        self.assertIsNone(self.exchange.tally().failed_text)
+        for said, told in (("no connection", "TransportFailed: no connection"), ("x" * 10_000, "TransportFailed: " + "x" * 183)):
+            with unittest.mock.patch.object(self.listed, "publish", side_effect=TransportFailed(said)):
+                self.exchange.round()
+            self.assertEqual(self.exchange.tally().failed_text, told)
 
     def test_goes_on_behind_any_failure(self):
         """As where no thread can be started."""
@@ -392,6 +402,55 @@ def runs(pid):
     return True
 
 
+class Nodes(Case):
+    """The end of a node whose program hangs, as at a disk that does, once it was asked whether it answers: in the exchange's last round,
+    or at its own end."""
+
+    def end(self, hangs):
+        """What a node says at its end; fails if that does not come. The program is a script which passes the lines on, and `hangs`."""
+        program, folder = self.folder / "program", self.folder / "deltas"
+        program.write_text(f'''#!/bin/sh
+[ "$1" = serve ] || exec {PROGRAM} "$@"
+hangs() {{ if [ "$1" = {hangs} ] && [ -e {self.folder}/hang ]; then sleep 600; fi; }}
+{{ while IFS= read -r line; do hangs "${{line%% *}}"; printf "%s\\n" "$line"; done; hangs end; }} | {PROGRAM} "$@"
+''', encoding="utf-8")
+        program.chmod(0o755)
+        folder.mkdir()
+        config = self.folder / "0.toml"
+        config.write_text(f'site = 0\nstore = "0.db"\nlayout = "layout.toml"\nprogram = "{program}"\n[socket]\npath = "0.sock"\n'
+                          '[exchange]\ninterval = 600\n[[transport]]\nkind = "folder"\npath = "deltas"\n', encoding="utf-8")
+        text = self.open(1).send()
+
+        async def work():
+            node = Node(read_config(config))
+            running = asyncio.create_task(node.run(True))
+            while not ((folder / "0.delta").exists() and config.with_suffix(".sock").exists()):
+                self.assertFalse(running.done())
+                await asyncio.sleep(0.05)
+            (self.folder / "hang").touch()
+            Folder(folder).publish(1, text)
+            node.stop()
+            await asyncio.wait((running,), timeout=20)
+            ended = running.done()
+            node._site.kill()
+            await running
+            return ended
+
+        with unittest.mock.patch.multiple("zinduroi.node.server", LAST_ANSWERS=1.0, LAST_ROUND=2.0), \
+                unittest.mock.patch("zinduroi.node.server.report") as report:
+            self.assertTrue(asyncio.run(work()), "the node does not end")
+        return [call.args[0].partition(",")[0] for call in report.call_args_list][1:]
+
+    def test_in_the_last_round(self):
+        self.assertEqual(self.end("take"), ["the program does not answer"])
+
+    def test_at_its_own_end(self):
+        self.assertEqual(self.end("end"), ["the program does not answer"])
+
+    def test_not_at_all(self):
+        self.assertEqual(self.end("never"), [])
+
+
 class Transports(Case):
     """Transports by themselves."""
 
@@ -491,6 +550,24 @@ class Transports(Case):
         process.kill()
         process.communicate()
         self.assertTrue(wait_for(lambda: not runs(number)))
+
+    def test_mqtt_whose_shell_was_killed(self):
+        """A command of the name `mosquitto_sub`, which nobody ends any more, still has the output."""
+        lasting, pid = self.folder / "bin/mosquitto_sub", self.folder / "pid"
+        lasting.parent.mkdir()
+        lasting.write_text(f"#!/bin/sh\necho $$ > {pid}.new && mv {pid}.new {pid}\nexec sleep 600\n", encoding="utf-8")
+        lasting.chmod(0o755)
+        with unittest.mock.patch.dict(os.environ, PATH=f"{lasting.parent}:{os.environ['PATH']}"):
+            mqtt = Mqtt("g")
+            self.assertEqual(list(mqtt.messages()), [])
+            self.assertTrue(wait_for(pid.exists))
+        number = int(pid.read_text(encoding="utf-8"))
+        self.addCleanup(lambda: runs(number) and os.kill(number, 9))
+        os.kill(mqtt._process.pid, 9)
+        closing = threading.Thread(target=mqtt.close, daemon=True)
+        closing.start()
+        closing.join(15)
+        self.assertEqual((closing.is_alive(), wait_for(lambda: not runs(number), 10)), (False, True))
 
     def test_mqtt_without_a_broker(self):
         broker = Broker(self.folder)

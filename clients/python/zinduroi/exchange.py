@@ -21,12 +21,14 @@ SHORTEST = 0.02
 LONG = 30.0
 # How many texts are taken again for which the program found no memory: one of each site.
 AGAIN = 16
+# The most characters of what a failure said that are kept.
+LONGEST_TEXT = 200
 
 
 @dataclasses.dataclass
 class Tally:
     """What an exchange has done: rounds; texts that it sent, and that it took; counters that rose; hand-overs, and the seats
-    in them; by name, what the site refused and how the transport failed."""
+    in them; by name, what the site refused and how the transport failed; and what its last failure said."""
 
     rounds: int = 0
     sent: int = 0
@@ -36,6 +38,7 @@ class Tally:
     seats: int = 0
     refused: Counter[str] = dataclasses.field(default_factory=collections.Counter)
     failed: Counter[str] = dataclasses.field(default_factory=collections.Counter)
+    failed_text: Optional[str] = None
 
 
 class Exchange:
@@ -273,6 +276,7 @@ class Exchange:
     def _count_failure(self, failed: Exception) -> None:
         with self._guard:
             self._tally.failed[type(failed).__name__] += 1
+            self._tally.failed_text = f"{type(failed).__name__}: {failed}"[:LONGEST_TEXT]
 
     def _tell_status(self) -> None:
         if self._status is not None:

@@ -3,9 +3,11 @@
 A transport may lose, delay, repeat and reorder texts. It has to be a channel that only your sites can write to."""
 from __future__ import annotations
 
+import contextlib
 import os
 import pathlib
 import re
+import signal
 import subprocess
 import threading
 import time
@@ -81,6 +83,8 @@ class Folder:
 # Runs a command until it ends, or the standard input does: so it doesn't outlive a process that was killed. By SIGKILL, since
 # `mosquitto_sub` may wait for ever after a SIGTERM that comes while it sends or receives.
 _WHILE_READ = '"$@" </dev/null & exec >/dev/null; cat; kill -9 $! 2>/dev/null; wait'
+# How many seconds `close` waits for that end, before it kills the whole group.
+LAST_WAIT = 5.0
 
 
 class Mqtt:
@@ -152,8 +156,13 @@ class Mqtt:
         self._closed = True
         if self._process is not None and self._process.stdin is not None:
             self._process.stdin.close()
-        if self._reader is not None:
-            self._reader.join()
+        if self._process is not None and self._reader is not None:
+            self._reader.join(LAST_WAIT)
+            if self._reader.is_alive():
+                # Its shell is dead, and has left it behind. The shell's number is no other's yet: the reader waits for it at its end.
+                with contextlib.suppress(ProcessLookupError):
+                    os.killpg(self._process.pid, signal.SIGKILL)
+                self._reader.join()
 
 
 class Command:

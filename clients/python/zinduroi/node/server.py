@@ -237,15 +237,16 @@ class Node:
         if tasks:
             _, late = await asyncio.wait(tasks, timeout=LAST_ANSWERS)
             await end_all(late)
-        if self._link is not None and self._site is not None and not await self._program_answers(self._link):
-            report("the program does not answer, and is killed: what it has answered is in the store")
-            self._site.kill()
+        await self._kill_if_it_hangs()
         if self._page is not None:
             await self._page.close()
         if self._sharing is not None:
             await end_all([self._sharing[1]])
         if self._exchange is not None:
-            if not await asyncio.to_thread(self._exchange.close, LAST_ROUND):
+            ended = await asyncio.to_thread(self._exchange.close, LAST_ROUND)
+            if not ended and await self._kill_if_it_hangs():
+                ended = await asyncio.to_thread(self._exchange.close, LAST_ANSWERS)
+            if not ended:
                 report("a transport does not answer, and is left: what this site knows may not have been sent")
         elif self._transports:
             await asyncio.to_thread(Several(self._transports).close)
@@ -255,15 +256,28 @@ class Node:
             self._book.close()
         if self._site is not None:
             self._site.merged = lambda: None
-            await asyncio.to_thread(self._site.close)
+            closing = asyncio.ensure_future(asyncio.to_thread(self._site.close))
+            await asyncio.wait((closing,), timeout=LAST_ANSWERS)
+            if not closing.done():
+                self._kill(self._site)
+            await closing
         self._listener.close()
 
-    @staticmethod
-    async def _program_answers(link: Link) -> bool:
-        """Whether the program still answers. The exchange and the service could not be closed else."""
-        asked = asyncio.ensure_future(link.ask_until("show"))
+    async def _kill_if_it_hangs(self) -> bool:
+        """Kills a program that no longer answers: the exchange and the service could not be closed else. Says whether it did."""
+        if self._link is None or self._site is None or self._site.is_over:
+            return False
+        asked = asyncio.ensure_future(self._link.ask_until("show"))
         await asyncio.wait((asked,), timeout=LAST_ANSWERS)
-        return asked.done() or not asked.cancel()
+        if asked.done() or not asked.cancel():
+            return False
+        self._kill(self._site)
+        return True
+
+    @staticmethod
+    def _kill(site: NodeSite) -> None:
+        report("the program does not answer, and is killed: what it has answered is in the store")
+        site.kill()
 
     def _more(self) -> Dict[str, object]:
         """What a status has beside the records."""
