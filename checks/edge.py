@@ -5,7 +5,7 @@ Usage: checks/edge.py [--program PATH] [--only CASE ..]
 
 Layout files that differ; a file that is moved without its -wal, one that vanishes while a start waits for it, and an old copy; two
 starts that make one store; a line that a broken connection cuts; databases of other programs; stores beside other tables; files
-that are no log, the store as its own log, a log for two; a file that is taken away while its site is served,
+that are no log, the store or a file of SQLite's as its log, a log for two; SQLite's log that is taken away alone; an end behind which the file alone has all; standard streams that are closed; a file that is taken away while its site is served,
 or covered by another file system (where one may be mounted), or replaced while its log is read; layouts with more
 sites; damaged deltas, and deltas with and without marks; names that no group can have; a folder that is not there. Of each slip
 it says what was answered. The answer has to be the refusal that the documents promise, files that it promises to leave are compared byte for byte, the store is served afterwards,
@@ -456,6 +456,10 @@ def log_is_store(place):
     before = files(store)
     said = place.ask(place.folder / "link.db", "--log", wal(store), "show", "a")
     tell(said == "log refused IsStore 8" and files(store) == before, "as a log its -wal, where a link names the store", said)
+    journals = {"the name of SQLite's journal": "s.db-journal", "that name by the whole path": place.folder / "s.db-journal", "that name in a folder that is a link": place.folder / "folder/s.db-journal"}
+    for what, log in journals.items():
+        said = place.ask(store, "--log", log, "show", "a"), place.ask(place.folder / "link.db", "--log", log, "show", "a")
+        tell(said == ("log refused IsStore 8",) * 2 and not (place.folder / "s.db-journal").exists(), f"as a log {what}", ", ".join(said))
     new = place.folder / "new.db"
     said = place.ask(new, "--create", "--log", new, "show", "a")
     tell(said == "log refused IsStore 8" and not new.exists(), "of a store that is to be made, its name", said)
@@ -624,6 +628,118 @@ def taken_away(place):
     tell(said == (KEPT, "refused WriterAnnounced 0", "0"), "a file that is back before the next line", ", ".join(said))
 
 
+def log_taken_away(place):
+    """SQLite's log is taken away alone: without it the file is an older store, so nothing more is answered; what was answered is in the file once the service has ended."""
+    def move(log):
+        log.rename(log.with_name("aside"))
+
+    def remove(log):
+        log.unlink()
+
+    def replace(log):
+        copy = log.with_name("copy")
+        copy.write_bytes(log.read_bytes())
+        copy.replace(log)
+
+    def replace_by_nothing(log):
+        copy = log.with_name("copy")
+        copy.write_bytes(b"")
+        copy.replace(log)
+
+    for words in ((), ("--together", "8")):
+        for way in (move, remove, replace, replace_by_nothing):
+            for through in ("s.db", "link.db"):
+                name = ".".join((way.__name__, through, *words[1:]))
+                (place.folder / name).mkdir()
+                store = place.store(f"{name}/s.db")
+                store.with_name("link.db").symlink_to("s.db")
+                service = Service(place, store.with_name(through), *words)
+                before = service.call("leave a 9")
+                way(wal(store))
+                said = service.call("read a 5"), service.call("sessions a"), service.end()
+                tell(before == "left writer" and said == ("refused StoreFault", "refused Frozen", "5"), f"{name}: `read a 5`", ", ".join(said))
+                tell(place.ask(store, "sessions", "a") == "0", "what was answered is in the file", place.ask(store, "sessions", "a"))
+
+
+def file_alone(place):
+    """Behind a normal end the file alone has all, so that it may be copied without SQLite's log."""
+    for what, words in {"one by one": (), "in rounds": ("--together", "8")}.items():
+        store = place.store(f"{len(words)}.db")
+        service = Service(place, store, *words)
+        said = [service.call(line) for line in ("leave a 9", "read a 5")], service.end()
+        copy = place.folder / f"copy{len(words)}.db"
+        shutil.copy(store, copy)
+        found = place.ask(copy, "sessions", "a")
+        tell(said == (["left writer", "admitted"], "0") and found == "1 5 reader", f"the file alone, behind lines that were answered {what}", found)
+    store, copy = place.store("moved.db", "--group", "crew"), place.folder / "moved.copy.db"
+    line = place.start("regroup", store, "--group", "crew").communicate(timeout=60)[0].decode()
+    shutil.copy(store, copy)
+    said = place.ask(copy, "--group", "crew.2", "sessions", "a"), place.ask(copy, "--group", "crew", "sessions", "a")
+    tell(line.startswith("crew.2:moved ") and said == (KEPT, "store refused WrongGroup 5"), "the file alone, behind a move", ", ".join(said))
+    texts = place.folder / "one.text"
+    texts.write_text(line, "utf-8")
+    built = place.folder / "built.db"
+    with open(texts, "rb") as source:
+        told = answer(place.start("rebuild", built, "--group", "crew.2", site=1, stdin=source))
+    shutil.copy(built, place.folder / "built.copy.db")
+    said = place.ask(place.folder / "built.copy.db", "--group", "crew.2", "show", "a", site=1)
+    tell(said.startswith("rights 0 inside 0"), "the file alone, of a site that was built again", f"{told}; {said}")
+
+
+def waits_in_rounds(place):
+    """A service of rounds waits for the file as one of single lines does, and no longer than it is told."""
+    store = place.store("s.db")
+    first = Service(place, store)
+    first.call("show a")
+    second = Service(place, store, "--together", "8", "--wait", "20")
+    time.sleep(0.5)
+    ended = first.end()
+    said = second.call("sessions a"), second.end()
+    tell((ended, *said) == ("0", KEPT, "0"), "a service of rounds that waits for another to end", ", ".join(said))
+    first = Service(place, store)
+    first.call("show a")
+    for words in ((), ("--together", "8")):
+        began = time.monotonic()
+        said = Service(place, store, "--wait", "3", *words).end()
+        took = time.monotonic() - began
+        tell(said == "store refused InUse 5" and 2.5 < took < 5.5, f"three seconds of waiting{' in rounds' if words else ''}", f"{said} behind {took:.1f} s")
+    first.end()
+
+
+def closed_streams(place):
+    """A standard stream that the caller has closed: no file gets what is meant for it."""
+    def ended(words, stream, source=b""):
+        """The status of the program without one of its streams, and what it says on the others."""
+        mine = {name: PIPE for name in ("stdin", "stdout", "stderr")}
+        process = subprocess.Popen([place.program, *map(str, words)], cwd=place.folder, preexec_fn=lambda: os.close(stream), **mine)
+        output, errors = process.communicate(source, timeout=60)
+        return process.returncode, (output + errors).decode(errors="replace")
+
+    log = place.folder / "s.log"
+    store = place.store("s.db", "--log", log)
+    words = ("--site", 0, "--store", store, "--layout", place.two, "--log", log)
+    said = ended(("ask", *words, "leave", "a", "9"), 1)
+    again = place.ask(store, "--log", log, "sessions", "a")
+    tell(said[0] == 7 and again == "0" and b"\nleft" not in files(log)[0], "a call whose reply can't be written, at a site with a log", f"{said}, then {again}")
+    said = ended(("serve", *words), 0)
+    tell(said[0] == 7, "a service without standard input", str(said))
+    out = place.folder / "run.log"
+    said = ended(("run", "--out", out), 1, b"0 read a 7\n0 leave a 7\n")
+    tell(said[0] == 7 and not out.exists() and not out.with_name("run.log.part").exists(), "a run whose replies can't be written", str(said))
+
+
+def out_takes_its_place(place):
+    """FILE of `run --out` is written beside it and then takes its place, also where an empty file stands there."""
+    out = place.folder / "run.log"
+    for what, text in {"an empty file": b"", "a file": b"before\n"}.items():
+        out.write_bytes(text)
+        before = out.stat().st_ino
+        with open(out, "rb") as held:  # so that its number is not given to the next one
+            done = subprocess.run([place.program, "run", "--out", out], input=b"0 read a 7\n0 leave a 7\n", capture_output=True, check=False)
+            kept = held.read()
+        tell(done.returncode == 0 and out.stat().st_ino != before and kept == text and out.stat().st_size > 0, f"closed logs in the place of {what}", str(done.returncode))
+
+
 def link_that_turns(place):
     """A path that is a link: what counts is the file where it leads."""
     store, other, link = place.store("s.db"), place.store("other.db"), place.folder / "link.db"
@@ -712,7 +828,8 @@ def taken_away_with_a_log(place):
     tell(said == (KEPT, "0"), "the store and the log go together again", ", ".join(said))
 
 
-CASES = (layouts, other_layouts, client_layouts, moved, vanished, taken_away, link_that_turns, other_file_system, taken_away_with_a_log,
+CASES = (layouts, other_layouts, client_layouts, moved, vanished, taken_away, log_taken_away, file_alone, waits_in_rounds, closed_streams, out_takes_its_place,
+         link_that_turns, other_file_system, taken_away_with_a_log,
          replaced_while_its_log_is_read, restored, created_twice, missing_folder, cut_lines, foreign, older_tables,
          newer_tables, first_version, text_as_log, made_through_a_link, fronts_of_logs, log_is_store, log_of_two, new_log_of_two, wider, damaged, plain, groups)
 

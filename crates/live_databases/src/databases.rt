@@ -9,7 +9,7 @@ ghost use Rattle.live_databases.specs.LiveStores.{IsUnopened};
 ghost use Rattle.live_databases.specs.Services.{served_by};
 ghost use Rattle.live_databases.specs.Endings.{is_unlogged, unopened_end};
 
-use crate::places::{Place, StoreFile, find_file, is_at, is_store_file};
+use crate::places::{Place, StoreFile, find_file, find_log, is_at, is_store_file};
 use crate::rebuilding::RebuildEnd;
 use crate::regrouping::{rebuild_found, regroup_found};
 use crate::rounds::serve_rounds_found;
@@ -153,8 +153,8 @@ impl Beginning for Unknown {
 
 /// Serves a site over the database at a path, where `S` stands for what its files hold. `main` gives [`Unknown`], which
 /// supposes that a write that is torn by a crash leaves each byte old or new. That the files are those at the path is
-/// read in the code. Before each line that reaches the site it is looked whether the file is still at its path; where it is
-/// not, the site serves no more, since what it would answer would be lost.
+/// read in the code. Before each line that reaches the site it is looked whether the file and SQLite's log are still at their
+/// paths; where one is not, the site serves no more, since what it would answer would be lost.
 ///
 /// At the end the log beside the file is copied into it; where that fails, the next opening reads it there. A store that this
 /// call made and then did not serve, as its log is refused, is removed before the database is closed, so that the same
@@ -186,6 +186,7 @@ pub fn serve_found<S: Beginning, C: Conversation>(
         rt,
         path: opening.path,
         place,
+        log: find_log(rt, opening.path),
     };
     let (ended, made, connection) = serve_open(
         rt,
@@ -229,7 +230,7 @@ fn serve_open<S: Beginning, C: Conversation>(
         );
         return (ended, false, connection);
     };
-    match is_store_file(rt, log, opening.path) {
+    match is_store_file(log, store) {
         Ok(false) => {}
         Ok(true) => return (ServiceEnd::LogIsStore, false, connection),
         Err(_) => return (ServiceEnd::Ended(Status::Memory), false, connection),
@@ -247,7 +248,8 @@ fn serve_open<S: Beginning, C: Conversation>(
 
 // Removes the store that this start made, where nothing was served for want of a log that can be used. No process can have used
 // it: it is still locked, as the open connection shows. Another file at its path stays, unless it comes there between the look
-// and the removal. Where a link leads to the store, the link stays.
+// and the removal. Where a link leads to the store, the link stays. SQLite's log goes first: without it the database is empty, so
+// that the store is not there again where only one of the two was removed.
 fn remove_made<S: Beginning>(
     store: &StoreFile<'_>,
     _locked: &Connection<FileStore<FileFrom<S>>>,
@@ -262,7 +264,17 @@ fn remove_made<S: Beginning>(
         return;
     };
     if is_at(store.rt, real.as_str(), store.place) {
+        remove_log(store);
         let _ = fs::remove_file(store.rt, real.as_str());
+    }
+}
+
+// Removes SQLite's log of a store.
+fn remove_log(store: &StoreFile<'_>) {
+    if let Some(log) = &store.log {
+        if is_at(store.rt, log.path.as_str(), log.place) {
+            let _ = fs::remove_file(store.rt, log.path.as_str());
+        }
     }
 }
 

@@ -99,36 +99,78 @@ pub(crate) fn is_at(rt: &HostRuntime, path: &str, place: Place) -> bool {
     }
 }
 
-/// The file of a store that is served, at the path where it was opened.
-#[derive(Clone, Copy)]
+/// The log that SQLite keeps beside a database, and the name of the journal that it would look for there.
+#[derive(Drop)]
+pub(crate) struct StoreLog {
+    pub path: String,
+    pub place: Place,
+    journal_path: String,
+}
+
+/// SQLite's log of the database at a path, which is open; none where no memory is found for it.
+pub(crate) fn find_log(rt: &HostRuntime, path: &str) -> Option<StoreLog> {
+    let real = fs::canonicalize(rt, path).ok()?;
+    let log_path = format!(in rt.alloc(); "{}-wal", real.as_str()).ok()?;
+    let journal_path = format!(in rt.alloc(); "{}-journal", real.as_str()).ok()?;
+    let found = fs::metadata(rt, log_path.as_str()).ok()?;
+    Some(StoreLog {
+        path: log_path,
+        place: place_of(&found),
+        journal_path,
+    })
+}
+
+/// The file of a store that is served, at the path where it was opened, and SQLite's log beside it.
+#[derive(Drop)]
 pub(crate) struct StoreFile<'a> {
     pub rt: &'a HostRuntime,
     pub path: &'a str,
     pub place: Place,
+    pub log: Option<StoreLog>,
 }
 
-// Where no memory is found for a look, the file counts as there.
+// Without SQLite's log the file alone is an older store, so that has to be there too.
 impl StorePlace for StoreFile<'_> {
     fn is_there(&self) -> bool {
-        match fs::metadata(self.rt, self.path) {
-            Ok(found) => place_of(&found) == self.place,
-            Err(error) => error.kind() == ErrorKind::OutOfMemory,
+        if !may_be_at(self.rt, self.path, self.place) {
+            return false;
+        }
+        match &self.log {
+            Some(log) => may_be_at(self.rt, log.path.as_str(), log.place),
+            None => true,
         }
     }
 }
 
-/// Whether the file for a log, if it is there, is the store at a path or the log that SQLite keeps beside that.
-pub(crate) fn is_store_file(rt: &HostRuntime, log: &str, path: &str) -> Result<bool, AllocError> {
-    let Ok(found) = fs::metadata(rt, log) else {
-        return Ok(false);
-    };
-    let place = place_of(&found);
-    if is_at(rt, path, place) {
-        return Ok(true);
+// Whether this file stands at a path, or no memory is found for a look.
+fn may_be_at(rt: &HostRuntime, path: &str, place: Place) -> bool {
+    match fs::metadata(rt, path) {
+        Ok(found) => place_of(&found) == place,
+        Err(error) => error.kind() == ErrorKind::OutOfMemory,
     }
-    let Ok(real) = fs::canonicalize(rt, path) else {
-        return Ok(false);
+}
+
+/// Whether the file for a log is one of a store's: its database, SQLite's log, or what the next opening would take for SQLite's
+/// journal, by its name.
+pub(crate) fn is_store_file(log: &str, store: &StoreFile<'_>) -> Result<bool, AllocError> {
+    let Some(beside) = &store.log else {
+        return Err(AllocError);
     };
-    let beside = format!(in rt.alloc(); "{}-wal", real.as_str())?;
-    Ok(is_at(rt, beside.as_str(), place))
+    Ok(
+        is_at(store.rt, log, store.place)
+            || is_at(store.rt, log, beside.place)
+            || is_named(store.rt, log, beside.journal_path.as_str()),
+    )
+}
+
+// Whether a path names this file, where no link leads to and which need not be there: the same name in the same folder.
+fn is_named(rt: &HostRuntime, path: &str, real: &str) -> bool {
+    let (folder, name) = path.rsplit_once('/').unwrap_or((".", path));
+    let Some((real_folder, real_name)) = real.rsplit_once('/') else {
+        return false;
+    };
+    match fs::canonicalize(rt, folder) {
+        Ok(found) => name == real_name && found.as_str() == real_folder,
+        Err(_) => false,
+    }
 }

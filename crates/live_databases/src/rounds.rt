@@ -5,7 +5,7 @@ ghost use Rattle.live_databases.specs.LiveRounds.{EndsFoundRounds, EndsLiveRound
 ghost use Rattle.live_databases.specs.Services.{served_by};
 
 use crate::databases::{Beginning, Opening, open_in_time};
-use crate::places::StoreFile;
+use crate::places::{StoreFile, find_log};
 use crate::service_end::ServiceEnd;
 use crate::serving::{Service, open_keeper, refused_store};
 use line_conversation::RoundConversation;
@@ -70,6 +70,7 @@ pub fn serve_rounds_found<S: Beginning, C: RoundConversation>(
         rt,
         path: opening.path,
         place,
+        log: find_log(rt, opening.path),
     };
     let (ended, connection) = serve_rounds_over(
         rt.alloc(),

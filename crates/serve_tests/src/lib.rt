@@ -28,6 +28,8 @@ mod log_mending;
 #[cfg(test)]
 mod long_lines;
 #[cfg(test)]
+mod long_rounds;
+#[cfg(test)]
 mod many_sessions;
 #[cfg(test)]
 mod order;

@@ -360,63 +360,6 @@ fn the_changes_of_a_round_are_committed_together(rt: HostRuntime) {
     }
 }
 
-// So many lines, each of which needs the one before it.
-const MANY: usize = 256;
-
-// How the service ends over so many lines in rounds of at most `most`, and how many rounds are kept.
-fn many_lines(alloc: Global, most: usize) -> Option<u64> {
-    let layout = built_in(alloc).ok()?;
-    let keeper = Failing::new(alloc, &layout, 0, u64::MAX, Refusal::Fault).ok()?;
-    let mut lines = Vec::new(alloc);
-    let mut answers = Vec::new(alloc);
-    for _ in 0..MANY / 2 {
-        lines.extend_from_slice(b"read a 7\nleave a 7\n").ok()?;
-        answers.extend_from_slice(b"admitted\nleft reader\n").ok()?;
-    }
-    let parts = [lines.as_slice()];
-    let mut reader = Parts {
-        parts: &parts,
-        at: 0,
-    };
-    let mut writer = Keeping::new(alloc, NEVER);
-    let mut talk = StreamConversation::new(
-        alloc,
-        Source::new(&mut reader),
-        Sink::new(&mut writer),
-        110,
-    ).ok()?;
-    let place = Vanishing {
-        looks: Cell::new(0),
-        stays: u64::MAX,
-    };
-    let (ended, keeper) = serve_together(
-        alloc,
-        keeper,
-        layout,
-        0,
-        None,
-        Marking::Plain,
-        most,
-        &mut talk,
-        &place,
-    );
-    drop(talk);
-    if ended != Status::Done || writer.bytes() != answers.as_slice() {
-        return None;
-    }
-    Some(keeper.told.get())
-}
-
-#[test]
-fn so_many_lines_take_so_many_commits(rt: HostRuntime) {
-    for (most, commits) in [(1, 256), (2, 128), (7, 37), (256, 1)] {
-        assert!(rt;
-            many_lines(rt.alloc(), most) == Some(commits),
-            "most {most}"
-        );
-    }
-}
-
 // How often the keeper gives back a part, which is empty, and finds memory for that; how the service ends, and what it is told.
 type Beginning = (u64, Status, &'static str);
 
