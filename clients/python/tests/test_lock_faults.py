@@ -27,6 +27,11 @@ from . import test_node
 from .common import PACKAGE, Case
 from .test_page import StubLink, stub_view
 
+STATE = b'{"site": 0, "time": 0, "callers": [], "records": {"a": {"rights": 1, "inside": 0, "unfinished": 0, "sessions": [], "queue": []}}}'
+# A node that tells a token and its state, and the commands that print these.
+SHOWN = {b"token": b"token 00", b"status": STATE}
+OUTPUTS = (("ask", "token"), ("status",), ("status", "--json"), ("watch", "--once"), ("watch",))
+
 REPLIES = {b"token": b"token 00", b"wait": b"admitted", b"fence": b"fence 7", b"leave": b"left writer"}
 
 
@@ -40,7 +45,8 @@ class StandIn(Case):
         super().setUp()
         self.socket = self.folder / "0.sock"
 
-    def serve(self, replies, backlog=9):
+    def serve(self, replies, backlog=9, last=None):
+        """`last` is a line behind whose reply a connection ends."""
         listening = socket.socket(socket.AF_UNIX)
         self.addCleanup(listening.close)
         listening.bind(str(self.socket))
@@ -50,7 +56,7 @@ class StandIn(Case):
             with contextlib.suppress(OSError):
                 while True:
                     connection, _ = listening.accept()
-                    threading.Thread(target=self.converse, args=(connection, replies), daemon=True).start()
+                    threading.Thread(target=self.converse, args=(connection, replies, last), daemon=True).start()
         if replies is not None:
             threading.Thread(target=run, daemon=True).start()
         # Ends the thread that accepts.
@@ -58,12 +64,14 @@ class StandIn(Case):
         return listening
 
     @staticmethod
-    def converse(connection, replies):
+    def converse(connection, replies, last):
         with connection, connection.makefile("rb") as lines:
             for line in lines:
-                reply = replies.get(line.split()[0])
-                if reply is not None:
-                    connection.sendall(reply + b"\n")
+                verb = line.split()[0]
+                if verb in replies:
+                    connection.sendall(replies[verb] + b"\n")
+                if verb == last:
+                    break
 
     def ran(self, *words, **options):
         """The status and the output of `lock`."""
@@ -104,6 +112,20 @@ class Silence(StandIn):
             timer.start()
             NodeClient(self.socket, 20).close()
             timer.join()
+
+    def test_behind_the_command(self):
+        """A node that doesn't answer `leave` is waited for, but not for ever; nor is the next one, which doesn't know `resume`."""
+        asked = {verb: reply for verb, reply in REPLIES.items() if verb != b"leave"}
+        resumed = {b"resume": b"resumed 1 a 5 writer"}
+        for number, (known, last, is_left) in enumerate(((asked, None, False), ({**asked, **resumed}, None, False), (asked, b"fence", False),
+                                                         ({**asked, **resumed}, b"fence", False), ({**REPLIES, **resumed}, b"fence", True))):
+            self.socket = self.folder / f"{number}.sock"
+            self.serve(known, last=last)
+            with self.subTest(number=number), unittest.mock.patch.multiple("zinduroi.node.lock", AFTERWARDS=0.3, PATIENCE=0.3), \
+                    unittest.mock.patch("zinduroi.node.lock.report") as told:
+                self.assertEqual(main(["lock", "--socket", str(self.socket), "a", "--", "sh", "-c", "sleep 0.5; exit 3"]), 3)
+                still = "no node answers, and the session of a is still in the store: see zinduroi status"
+                self.assertEqual(told.mock_calls, [] if is_left else [unittest.mock.call(still)])
 
     def test_no_timeout_inside(self):
         """The connection that the command inherits has none."""
@@ -176,11 +198,23 @@ class Commands(StandIn):
         for serves, words, closed, found in (
                 (False, ("ask", "token"), 2, (69, b"", b"")), (False, ("lock", "a", "--", "true"), 2, (69, b"", b"")),
                 (True, ("ask", "token"), 2, (0, b"token 00\n", b"")),
-                (True, ("ask", "token"), 1, (7, b"", b"zinduroi: the reply can't be printed: standard output is closed\n"))):
+                *((True, words, 1, (7, b"", b"zinduroi: standard output is closed\n")) for words in OUTPUTS)):
             with self.subTest(words=words, closed=closed, serves=serves):
                 if serves and not self.socket.exists():
-                    self.serve({b"token": b"token 00"})
+                    self.serve(SHOWN)
                 self.assertEqual(self.process(*words, preexec_fn=lambda: os.close(closed)), found)
+
+    def test_output_that_can_not_be_written(self):
+        """A full disk, and a pipe that nobody reads."""
+        self.serve(SHOWN)
+        unread, pipe = os.pipe()
+        os.close(unread)
+        with open("/dev/full", "wb") as full, open(pipe, "wb", closefd=True) as broken:
+            for words in OUTPUTS:
+                for file, fault in ((full, b"No space left on device"), (broken, b"Broken pipe")):
+                    with self.subTest(words=words, fault=fault):
+                        self.assertEqual(self.process(*words, stdout=file),
+                                         (7, None, b"zinduroi: standard output can't be written: " + fault + b"\n"))
 
     def test_words_that_the_terminal_lacks(self):
         self.serve({b"sessions": "1 ✓ reader".encode()})

@@ -13,20 +13,19 @@ from typing import Any, Callable, Dict, List, Optional, Sequence, Tuple
 from .errors import ZinduroiError
 from .node.client import DEFAULT_SOCKET, NodeClient, NodeGone
 from .node.lock import HELP, NO_NODE, run_lock
+from .output import NOT_PRINTED, NotPrinted, print_text
 from .recover import add_recover, run_recover
 from .watch import add_watch, fault_lines, rows_of, run_watch, seconds, table
 
-# Exit statuses of sysexits.h: the configuration is wrong.
+# The exit status of sysexits.h where the configuration is wrong.
 BAD_CONFIG = 78
-# That of the program where it can't write.
-NOT_PRINTED = 7
 # The seconds between two looks for a node that has not started yet.
 PAUSE = 0.1
 
 _NODE = """Serves a site to the programs of this machine, until SIGTERM or Ctrl-C. docs/OPERATING.md has the configuration file and
 what happens when a node ends: sessions stay in the store."""
 _ASK = """Sends one line to the node and prints the reply; the status is 0, 1 if it was refused or its time was over, 69 where no
-node answers, or 7 where standard output is closed. A session that the line enters ends with this command, unless a line says `keep`."""
+node answers, or 7 where the reply can't be printed. A session that the line enters ends with this command, unless a line says `keep`."""
 _STATUS = """Prints a table of the node's site, and the sessions that belong to no connection: those that were kept, those of
 connections to an earlier run of the node, and those that the node doesn't know. The node never leaves them by itself. Once the
 caller of one is dead, `zinduroi ask evict RECORD HOLDER` does."""
@@ -66,6 +65,15 @@ def _add_socket(to: argparse.ArgumentParser) -> None:
 def main(words: Optional[Sequence[str]] = None) -> int:
     """Carries out the command line, and gives the exit status."""
     _open_streams()
+    try:
+        return _run(words)
+    except NotPrinted as fault:
+        print(f"zinduroi: {fault}", file=sys.stderr)
+        return NOT_PRINTED
+
+
+def _run(words: Optional[Sequence[str]]) -> int:
+    """Carries out the command line, and gives the exit status. Raises `NotPrinted`."""
     made = parser()
     before, command = _split(list(sys.argv[1:] if words is None else words))
     if before[:1] == ["lock"] and not command and not {"-h", "--help"} & set(before):
@@ -160,17 +168,14 @@ def run_ask(client: NodeClient, words: List[str]) -> int:
         print("zinduroi: a line has no line feed in it", file=sys.stderr)
         return 2
     reply = client.ask(line)
-    if sys.stdout is None:
-        print("zinduroi: the reply can't be printed: standard output is closed", file=sys.stderr)
-        return NOT_PRINTED
-    print(reply)
+    print_text(reply)
     return 1 if reply.split(" ")[0] in ("refused", "timeout") else 0
 
 
 def run_status(client: NodeClient, as_json: bool) -> int:
     """Prints the state of the node."""
     state = client.status()
-    print(json.dumps(state) if as_json else status_text(state, time.time()))
+    print_text(json.dumps(state) if as_json else status_text(state, time.time()))
     return 0
 
 

@@ -11,6 +11,7 @@ from typing import Any, Dict, List, Optional, Sequence
 from .errors import ZinduroiError
 from .exchange import status_of
 from .node.client import NodeClient, socket_path
+from .output import print_text
 from .site import Site, read_layout
 
 NOTES = """A site's store can be used by one process at a time. So there are three ways to look:
@@ -54,9 +55,8 @@ def table(rows: Sequence[Sequence[str]]) -> str:
 
 def show(text: str, once: bool) -> None:
     """Prints a table, at a terminal in place of the one before."""
-    if not once and sys.stdout.isatty():
-        print("\033[H\033[J", end="")
-    print(text, flush=True)
+    renews = not once and sys.stdout is not None and sys.stdout.isatty()
+    print_text(("\033[H\033[J" if renews else "") + text)
 
 
 def read_states(paths: Sequence[str]) -> "tuple[list[dict[str, Any]], list[str]]":

@@ -22,7 +22,7 @@ FIRST_PAUSE, LONGEST_PAUSE = 0.05, 2.0
 # How many seconds the node is waited for once the command has ended, and a command that was asked to end.
 AFTERWARDS = 60.0
 GRACE = 10.0
-# How many seconds behind the end of the time a node that says nothing is waited for.
+# How many seconds a node that says nothing is waited for: behind the end of the time, and each time while the command runs.
 PATIENCE = 10.0
 # How often a command is looked at where the kernel can't tell its end.
 LOOK = 0.1
@@ -42,8 +42,8 @@ session is left once the last of them has ended, or closed it, even if `lock` it
 If the node ends meanwhile, the session stays in the site's store and nobody else gets in. COMMAND goes on, and `lock` takes the
 session up again by its token once the node is back. From then on `lock` leaves it, when COMMAND and its children have ended; if
 `lock` is killed then, an operator has to (`zinduroi status` lists it). With --strict COMMAND gets SIGTERM when the node ends, and
-SIGKILL 10 seconds later; the status is 69. If the node is not back within a minute after the end of COMMAND, `lock` ends, and says
-that the session is still there."""
+SIGKILL 10 seconds later; the status is 69. If the node does not answer within a minute and a half after the end of COMMAND,
+`lock` ends, and says that the session is still there."""
 
 
 class Refused(Exception):
@@ -136,6 +136,7 @@ class Lock:
         """Connects anew once, and takes up the session. A session whose command runs is kept: it doesn't hold this connection."""
         client = NodeClient(self.path, _patience(end))
         try:
+            client.socket.settimeout(_patience(end))
             reply = client.ask(f"resume {self.token}" + (" keep" if keep else ""))
             if reply != "refused NoToken" and not reply.startswith("resumed "):
                 raise NodeGone(f"the node at {self.path} answers {reply}")
@@ -213,7 +214,7 @@ class Lock:
                     due, pause = time.monotonic(), FIRST_PAUSE
                 if time.monotonic() >= due and process.poll() is None:
                     try:
-                        self._say_lost(self._take_up(keep=True, end=math.inf))
+                        self._say_lost(self._take_up(keep=True, end=time.monotonic()))
                         due = math.inf
                     except NodeGone:
                         due, pause = time.monotonic() + pause, min(pause * 2, LONGEST_PAUSE)
@@ -253,11 +254,13 @@ class Lock:
         try:
             while True:
                 try:
-                    reply = self._ask(f"leave {self.record} -") if self.token else ""
+                    reply = self._ask(f"leave {self.record} -", _patience(end)) if self.token else ""
                     if reply.startswith("refused ") and reply != "refused NotHere":
                         report(f"the session of {self.record} is not left: {reply}. See zinduroi status")
                     return
                 except NodeGone:
+                    if time.monotonic() > end:
+                        raise
                     self._return(end, keep=False)
         except NodeGone:
             report(f"no node answers, and the session of {self.record} is still in the store: see zinduroi status")
