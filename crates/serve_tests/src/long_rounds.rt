@@ -1,47 +1,28 @@
 //! How many rounds many lines take, and lines with long answers.
-use crate::fakes::{Failing, Parts, Refusal, Vanishing};
+use crate::fakes::Refusal;
+use crate::rounds::{InRounds, serve_in_rounds};
 use exit_status::Status;
-use layout_file::built_in;
-use line_conversation::StreamConversation;
-use serve_engine::{Marking, serve_together};
 use std::alloc::Global;
-use std::cell::Cell;
-use test_streams::{Keeping, NEVER};
-use text_input::{Sink, Source};
+use test_streams::Keeping;
 
 // What is answered to lines that come at once, in rounds of at most `most`, and how many rounds are kept.
 fn answered_in_rounds(alloc: Global, lines: &[u8], most: usize) -> Option<(Keeping, u64)> {
-    let layout = built_in(alloc).ok()?;
-    let keeper = Failing::new(alloc, &layout, 0, u64::MAX, Refusal::Fault).ok()?;
-    let parts = [lines];
-    let mut reader = Parts {
-        parts: &parts,
-        at: 0,
-    };
-    let mut writer = Keeping::new(alloc, NEVER);
-    let mut talk = StreamConversation::new(
-        alloc,
-        Source::new(&mut reader),
-        Sink::new(&mut writer),
-        110,
-    ).ok()?;
-    let place = Vanishing {
-        looks: Cell::new(0),
-        stays: u64::MAX,
-    };
-    let (ended, keeper) = serve_together(
-        alloc,
+    let InRounds {
+        ended,
+        told,
         keeper,
-        layout,
-        0,
-        None,
-        Marking::Plain,
+        looks: _,
+    } = serve_in_rounds(
+        alloc,
         most,
-        &mut talk,
-        &place,
-    );
-    drop(talk);
-    (ended == Status::Done).then_some((writer, keeper.told.get()))
+        &[lines],
+        u64::MAX,
+        Refusal::Fault,
+        None,
+        u64::MAX,
+        u64::MAX,
+    )?;
+    (ended == Status::Done).then_some((told, keeper.told.get()))
 }
 
 // So many lines, each of which needs the one before it.

@@ -321,20 +321,42 @@ static ROWS: [Row; 23] = [
     (256, &[], 9, Refusal::Fault, 99, Status::Done, "", 0, 0),
 ];
 
-fn serves_so(alloc: Global, row: &Row) -> Option<bool> {
-    let (most, parts, left, refusal, stays, status, told, changes, looks) = *row;
+/// What comes of lines that a service answers in rounds.
+#[derive(Drop)]
+pub struct InRounds {
+    pub ended: Status,
+    pub told: Keeping,
+    pub keeper: Failing,
+    /// How often it was looked whether the store is at its path.
+    pub looks: u64,
+}
+
+/// Site 0 answers what the reader gives, in rounds of at most `most` lines. Its keeper keeps `left` rounds or changes; `first` and `loads`
+/// say what it gives back then. Behind `stays` looks the store is gone.
+pub fn serve_in_rounds(
+    alloc: Global,
+    most: usize,
+    parts: &[&[u8]],
+    left: u64,
+    refusal: Refusal,
+    first: Option<Durable>,
+    loads: u64,
+    stays: u64,
+) -> Option<InRounds> {
     let layout = built_in(alloc).ok()?;
-    let keeper = Failing::new(alloc, &layout, 0, left, refusal).ok()?;
+    let mut keeper = Failing::new(alloc, &layout, 0, left, refusal).ok()?;
+    keeper.first = first;
+    keeper.loads = loads;
     let place = Vanishing {
         looks: Cell::new(0),
         stays,
     };
     let mut reader = Parts { parts, at: 0 };
-    let mut writer = Keeping::new(alloc, NEVER);
+    let mut told = Keeping::new(alloc, NEVER);
     let mut talk = StreamConversation::new(
         alloc,
         Source::new(&mut reader),
-        Sink::new(&mut writer),
+        Sink::new(&mut told),
         110,
     ).ok()?;
     let (ended, keeper) = serve_together(
@@ -349,8 +371,19 @@ fn serves_so(alloc: Global, row: &Row) -> Option<bool> {
         &place,
     );
     drop(talk);
-    let is_told = ended == status && writer.bytes() == told.as_bytes();
-    Some(is_told && keeper.told.get() == changes && place.looks.get() == looks)
+    Some(InRounds {
+        ended,
+        told,
+        keeper,
+        looks: place.looks.get(),
+    })
+}
+
+fn serves_so(alloc: Global, row: &Row) -> Option<bool> {
+    let (most, parts, left, refusal, stays, status, told, changes, looks) = *row;
+    let served = serve_in_rounds(alloc, most, parts, left, refusal, None, u64::MAX, stays)?;
+    let is_told = served.ended == status && served.told.bytes() == told.as_bytes();
+    Some(is_told && served.keeper.told.get() == changes && served.looks == looks)
 }
 
 #[test]
@@ -380,38 +413,18 @@ static BEGINNINGS: [Beginning; 2] = [
 // A site whose keeper finds no memory for the second round.
 fn begins_again(alloc: Global, beginning: &Beginning) -> Option<bool> {
     let (loads, status, told) = *beginning;
-    let layout = built_in(alloc).ok()?;
-    let mut keeper = Failing::new(alloc, &layout, 0, 1, Refusal::Memory).ok()?;
-    keeper.first = Some(Durable::new(Vec::new(alloc), Vec::new(alloc)));
-    keeper.loads = loads;
-    let mut reader = Parts {
-        parts: BEHIND_A_ROUND,
-        at: 0,
-    };
-    let mut writer = Keeping::new(alloc, NEVER);
-    let mut talk = StreamConversation::new(
+    let nothing = Durable::new(Vec::new(alloc), Vec::new(alloc));
+    let served = serve_in_rounds(
         alloc,
-        Source::new(&mut reader),
-        Sink::new(&mut writer),
-        110,
-    ).ok()?;
-    let place = Vanishing {
-        looks: Cell::new(0),
-        stays: u64::MAX,
-    };
-    let (ended, _keeper) = serve_together(
-        alloc,
-        keeper,
-        layout,
-        0,
-        None,
-        Marking::Plain,
         256,
-        &mut talk,
-        &place,
-    );
-    drop(talk);
-    Some(ended == status && writer.bytes() == told.as_bytes())
+        BEHIND_A_ROUND,
+        1,
+        Refusal::Memory,
+        Some(nothing),
+        loads,
+        u64::MAX,
+    )?;
+    Some(served.ended == status && served.told.bytes() == told.as_bytes())
 }
 
 #[test]
