@@ -209,7 +209,7 @@ class Commands(StandIn):
         self.serve(SHOWN)
         unread, pipe = os.pipe()
         os.close(unread)
-        with open("/dev/full", "wb") as full, open(pipe, "wb", closefd=True) as broken:
+        with open("/dev/full", "wb") as full, open(pipe, "wb") as broken:
             for words in OUTPUTS:
                 for file, fault in ((full, b"No space left on device"), (broken, b"Broken pipe")):
                     with self.subTest(words=words, fault=fault):

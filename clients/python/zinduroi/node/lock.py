@@ -42,8 +42,8 @@ session is left once the last of them has ended, or closed it, even if `lock` it
 If the node ends meanwhile, the session stays in the site's store and nobody else gets in. COMMAND goes on, and `lock` takes the
 session up again by its token once the node is back. From then on `lock` leaves it, when COMMAND and its children have ended; if
 `lock` is killed then, an operator has to (`zinduroi status` lists it). With --strict COMMAND gets SIGTERM when the node ends, and
-SIGKILL 10 seconds later; the status is 69. If the node does not answer within a minute and a half after the end of COMMAND,
-`lock` ends, and says that the session is still there."""
+SIGKILL 10 seconds later; the status is 69. If the node does not answer within a minute after the end of COMMAND, `lock` ends, some
+30 seconds later at most, and says that the session is still there."""
 
 
 class Refused(Exception):
